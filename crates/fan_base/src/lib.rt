@@ -1,0 +1,16 @@
+//! The types that every crate of the runtime shares, and the traits of the outside world: sources, sinks and gates.
+#![tactic(auto)]
+
+pub use doc::Doc;
+pub use list::{Docs, Ids, List, Numbers, Scores, Words};
+pub use number::{ExecId, JobId, Mark};
+pub use outcome::{Fault, Try};
+pub use refusal::{Failed, Memory, Refused};
+pub use word::{Word, WordFault};
+
+mod doc;
+mod list;
+mod number;
+mod outcome;
+mod refusal;
+mod word;

@@ -1,0 +1,135 @@
+ghost use Rattle.std.specs.Prelude.{◌≡◌, ◌≢◌, ◌==◌, ◌↔◌, ◌≤◌, ◌-◌, ◌++◌, ℕ, List, length, replicate, IsTrue, Err, IfOk};
+ghost use Rattle.std.proofs.Common.{rules};
+ghost use Rattle.std.specs.Cmp.{partial_order_from_own_ties};
+ghost use Rattle.std.specs.Cmp.Lexicographic.{pointwise, slice_cmp};
+ghost use Rattle.std.specs.Cmp.Rules.{comparing};
+ghost use Rattle.std.specs.List.{list_all};
+ghost use Rattle.std.specs.Ordering.{as_partial_cmp, nat_cmp};
+ghost use Rattle.fan_base.specs.Word.{IsWord, is_word, is_word_byte};
+
+use std::cmp::Ordering;
+use std::marker::Model;
+
+/// How many bytes a word has at most.
+const LONGEST: usize = 32;
+
+/// A word of a text: 1 to 32 bytes out of `a` to `z` and `0` to `9`. It is kept in place and takes no memory of its own.
+#[derive(Clone, Copy, Debug)]
+pub struct Word {
+    bytes: [u8; 32],
+    len: usize,
+}
+
+impl Model for Word {
+    ghost use Rattle.std.specs.Prelude.{ℕ, List};
+
+    ghost Value = { List ℕ };
+
+    ghost use Rattle.fan_base.specs.Word.{bytes_of, IsKept, kept, kept-bytes_of};
+
+    ghost view = { bytes_of };
+
+    ghost invariant = { IsKept };
+
+    ghost inverse = { kept };
+
+    ghost inverse_ok = { kept-bytes_of };
+}
+
+/// Why bytes are no word.
+#[derive(Clone, Copy, Debug, PartialEq, Eq)]
+pub enum WordFault {
+    /// They are none, too many, or one of them is no letter from `a` to `z` and no digit.
+    BadWord,
+    /// Want of memory. It doesn't come as long as a word is kept in place.
+    Memory,
+}
+
+impl Word {
+    pub fn new(bytes: &[u8]) -> Result<Word, WordFault>
+        ensures word { IfOk result (λ w. (w ≡ bytes.now) × IsWord bytes.now) }
+        ensures bad { (result ≡ Err WordFault.BadWord) ↔ (¬ IsWord bytes.now) }
+        ensures in_place { result ≢ Err WordFault.Memory }
+    {
+        if !is_word(bytes) {
+            return Err(WordFault::BadWord);
+        }
+        Ok(Word {
+            bytes: padded(bytes),
+            len: bytes.len(),
+        })
+    }
+
+    pub fn as_bytes(&self) -> &[u8]
+        ensures bytes { result.now ≡ self.now }
+        ensures word { IsWord self.now }
+    {
+        &self.bytes[..self.len]
+    }
+}
+
+fn is_word(bytes: &[u8]) -> bool
+    ensures { result ≡ is_word bytes.now }
+{
+    !bytes.is_empty() && (bytes.len() <= LONGEST && are_word_bytes(bytes))
+}
+
+fn are_word_bytes(bytes: &[u8]) -> bool
+    ensures { result ≡ list_all is_word_byte bytes.now }
+{
+    bytes.iter().all(|&byte| is_word_byte(byte))
+}
+
+fn is_word_byte(byte: u8) -> bool
+    ensures { result ≡ is_word_byte byte }
+{
+    byte.is_ascii_lowercase() || byte.is_ascii_digit()
+}
+
+/// The bytes in the front of an array, and zeros behind them.
+fn padded(bytes: &[u8]) -> [u8; 32]
+    requires { length bytes.now ≤ LONGEST }
+    ensures { result ≡ bytes.now ++ replicate (32 - length bytes.now) 0 }
+{
+    let mut array = [0; LONGEST];
+    array[..bytes.len()].copy_from_slice(bytes);
+    array
+}
+
+impl PartialEq for Word {
+    ghost eq = { pointwise ◌==◌ };
+
+    ghost laws = { Prim.search (comparing, rules) };
+
+    fn eq(&self, other: &Word) -> bool {
+        self.as_bytes() == other.as_bytes()
+    }
+}
+
+impl Eq for Word {
+    ghost laws = { Prim.search (comparing, rules) };
+}
+
+impl PartialOrd for Word {
+    ghost partial_cmp = { as_partial_cmp (slice_cmp nat_cmp) };
+
+    ghost laws = { partial_order_from_own_ties (Prim.search (comparing, rules)) (Prim.search (comparing, rules)) };
+
+    fn partial_cmp(&self, other: &Word) -> Option<Ordering> {
+        Some(self.cmp(other))
+    }
+}
+
+impl Ord for Word {
+    ghost cmp = { slice_cmp nat_cmp };
+
+    ghost total = { Prim.search (comparing, rules) };
+
+    ghost matches_partial_cmp = { Prim.search (comparing, rules) };
+
+    ghost matches_eq = { Prim.search (comparing, rules) };
+
+    fn cmp(&self, other: &Word) -> Ordering {
+        self.as_bytes().cmp(other.as_bytes())
+    }
+}
