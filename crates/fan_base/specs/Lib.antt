@@ -1,2 +1,5 @@
 pub mod Outcome
+pub mod Outside
+pub mod Store
+pub mod Supply
 pub mod Word

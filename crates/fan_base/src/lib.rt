@@ -2,15 +2,21 @@
 #![tactic(auto)]
 
 pub use doc::Doc;
+pub use gate::{Gate, OpenGate};
 pub use list::{Docs, Ids, List, Numbers, Scores, Words};
 pub use number::{ExecId, JobId, Mark};
 pub use outcome::{Fault, Try};
 pub use refusal::{Failed, Memory, Refused};
+pub use sink::{MemSink, Sink, StdSink};
+pub use source::{CleanSource, MemSource, Source, StdSource};
 pub use word::{Word, WordFault};
 
 mod doc;
+mod gate;
 mod list;
 mod number;
 mod outcome;
 mod refusal;
+mod sink;
+mod source;
 mod word;
