@@ -1,4 +1,4 @@
-use Rattle.std.specs.Prelude.{ℕ, Option, Some, None}
+use Rattle.std.specs.Prelude.{Option, Some, None}
 use Rattle.fan_base.specs.declared.outcome.Try.{Try}
 use Rattle.fan_base.specs.declared.outcome.Try.TheVariants as try
 use Rattle.fan_base.specs.declared.outcome.Fault.{Fault}

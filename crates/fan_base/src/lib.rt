@@ -19,4 +19,6 @@ mod outcome;
 mod refusal;
 mod sink;
 mod source;
+#[cfg(test)]
+mod tests;
 mod word;

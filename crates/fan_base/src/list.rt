@@ -1,4 +1,4 @@
-ghost use Rattle.std.specs.Prelude.{◌≡◌, ◌<◌, ◌++◌, ◌∷◌, [], List, IsTrue, ◌↔◌, IfErr, OnOk, length, slice_get, option_copied, option_to_list};
+ghost use Rattle.std.specs.Prelude.{◌≡◌, ◌<◌, ◌++◌, ◌∷◌, [], List, IsNone, IsTrue, ◌↔◌, IfErr, OnOk, length, slice_get, option_copied, option_to_list};
 ghost use Rattle.std.specs.Slice.Iter.{iter_rest};
 
 use crate::doc::Doc;
@@ -85,7 +85,8 @@ impl<X> List<X> {
 
     /// Takes the last item off.
     pub fn pop(&mut self) -> Option<X>
-        ensures { self.old ≡ self.new ++ option_to_list result }
+        ensures last { self.old ≡ self.new ++ option_to_list result }
+        ensures empty { IsNone result ↔ (self.old ≡ []) }
     {
         self.items.pop()
     }

@@ -1,0 +1,98 @@
+use super::*;
+use std::alloc::{AllocError, Global};
+use std::io::Cursor;
+use std::test::Fail;
+
+fn bytes_of(alloc: Global, text: &str) -> Result<Vec<u8>, AllocError> {
+    text.as_bytes().to_vec(alloc)
+}
+
+#[test]
+fn faults_of_outcomes(rt: HostRuntime) {
+    assert_eq!(rt; Try::Value(7).fault(), None);
+    assert_eq!(rt; Try::<u8>::Broken.fault(), Some(Fault::Broken));
+    assert_eq!(rt; Try::<u8>::Memory.fault(), Some(Fault::Memory));
+    assert_eq!(rt; Try::<u8>::Cancelled(4).fault(), Some(Fault::Cancelled(4)));
+}
+
+#[test]
+fn words_of_letters_and_digits(rt: HostRuntime) {
+    let longest = [b'z'; 32];
+    let too_long = [b'z'; 33];
+    for (bytes, is_word) in [
+        (b"a1".as_slice(), true),
+        (b"A", false),
+        (b"", false),
+        (b"a b", false),
+        (longest.as_slice(), true),
+        (too_long.as_slice(), false),
+    ] {
+        match Word::new(bytes) {
+            Ok(word) => {
+                assert!(rt; is_word);
+                assert_eq!(rt; word.as_bytes(), bytes);
+            }
+            Err(fault) => {
+                assert!(rt; !is_word);
+                assert_eq!(rt; fault, WordFault::BadWord);
+            }
+        }
+    }
+}
+
+#[test]
+fn list_keeps_its_items(rt: HostRuntime) -> Result<(), Fail> {
+    let mut ids = Ids::new(rt.alloc());
+    assert!(rt; ids.is_empty());
+    ids.push(7)?;
+    ids.push(4)?;
+    assert_eq!(rt; ids.len(), 2);
+    assert_eq!(rt; ids.get(1).copied(), Some(4));
+    assert_eq!(rt; ids.get(2).copied(), None);
+    assert_eq!(rt; ids.pop(), Some(4));
+    Ok(())
+}
+
+#[test]
+fn source_in_memory_gives_pieces(rt: HostRuntime) -> Result<(), Fail> {
+    let fails = vec![in rt.alloc(); 1]?;
+    let mut source = MemSource::new(bytes_of(rt.alloc(), "abcdefg")?, 5, fails);
+    let mut buf = [0; 8];
+    assert_eq!(rt; source.read(&mut buf), Ok(5));
+    assert_eq!(rt; &buf[..5], b"abcde".as_slice());
+    assert_eq!(rt; source.read(&mut buf), Err(Failed));
+    assert_eq!(rt; source.read(&mut buf), Ok(2));
+    assert_eq!(rt; &buf[..2], b"fg".as_slice());
+    assert_eq!(rt; source.read(&mut buf), Ok(0));
+    Ok(())
+}
+
+#[test]
+fn sink_in_memory_takes_pieces(rt: HostRuntime) -> Result<(), Fail> {
+    let fails = vec![in rt.alloc(); 1]?;
+    let mut sink = MemSink::new(rt.alloc(), 7, 5, fails)?;
+    assert_eq!(rt; sink.write(b"abcdefg"), Ok(5));
+    assert_eq!(rt; sink.write(b"fg"), Err(Failed));
+    assert_eq!(rt; sink.write(b"fgh"), Ok(2));
+    assert_eq!(rt; sink.write(b"h"), Err(Failed));
+    assert_eq!(rt; sink.bytes(), b"abcdefg".as_slice());
+    Ok(())
+}
+
+#[test]
+fn std_reader_is_a_source(rt: HostRuntime) {
+    let mut source = StdSource::new(Cursor::new(b"abc".as_slice()));
+    let mut buf = [0; 2];
+    assert_eq!(rt; source.read(&mut buf), Ok(2));
+    assert_eq!(rt; &buf, b"ab");
+    assert_eq!(rt; source.read(&mut buf), Ok(1));
+    assert_eq!(rt; source.read(&mut buf), Ok(0));
+}
+
+#[test]
+fn std_writer_is_a_sink(rt: HostRuntime) {
+    let mut room = [0; 2];
+    let mut sink = StdSink::new(room.as_mut_slice());
+    assert_eq!(rt; sink.write(b"abc"), Ok(2));
+    assert_eq!(rt; sink.write(b"c"), Err(Failed));
+}
