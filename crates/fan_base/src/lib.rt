@@ -5,6 +5,7 @@ pub use doc::Doc;
 pub use list::{Docs, Ids, List, Numbers, Scores, Words};
 pub use number::{ExecId, JobId, Mark};
 pub use outcome::{Fault, Try};
+pub use parcel::{Parcel, Parcels};
 pub use refusal::{Failed, Memory, Refused};
 pub use word::{Word, WordFault};
 
@@ -12,5 +13,6 @@ mod doc;
 mod list;
 mod number;
 mod outcome;
+mod parcel;
 mod refusal;
 mod word;
