@@ -1,5 +1,5 @@
-ghost use Rattle.std.specs.Prelude.{◌≡◌, ◌<◌, ◌≤◌, ◌↔◌, ℕ, List, Option, Some, IsErr, IfOk, ◌+◌, ◌++◌, length, vec_capacity, vec_len};
-ghost use Rattle.fan_base.specs.Outside.{last_count, shown, Writes};
+ghost use Rattle.std.specs.Prelude.{◌≡◌, ◌<◌, ◌≤◌, ◌↔◌, ℕ, List, Option, Some, IsErr, IfOk, OnErr, ◌+◌, ◌++◌, length, vec_capacity, vec_len};
+ghost use Rattle.fan_base.specs.Outside.{last_count, raised, shown, Writes};
 ghost use Rattle.fan_base.specs.Store.{after_write, empty_store, FailsNext, write_size};
 
 use crate::refusal::{Failed, Memory};
@@ -101,6 +101,7 @@ impl Sink for MemSink {
         requires { 0 < length bytes.now }
         ensures writes { Writes (shown (Some self.old.holds) self.old.faults) (shown (Some self.new.holds) self.new.faults) result bytes.now }
         ensures fails { IsErr result ↔ FailsNext self.old }
+        ensures some { IfOk result (λ n. 0 < n) }
         ensures size { IfOk result (λ n. n ≡ write_size self.old (length bytes.now)) }
         ensures after { self.new ≡ after_write self.old bytes.now result }
     {
@@ -150,12 +151,18 @@ impl<W: Write> Sink for StdSink<W> {
 
     ghost faults = { λ s. s.1 };
 
-    fn write(&mut self, bytes: &[u8]) -> Result<usize, Failed> {
-        let written = self.writer.write(bytes).unwrap_or(0);
-        if written == 0 {
-            self.faults = self.faults.saturating_add(1);
-            return Err(Failed);
+    fn write(&mut self, bytes: &[u8]) -> Result<usize, Failed>
+        requires { 0 < length bytes.now }
+        ensures writes { Writes (shown (W.contents self.old.0) self.old.1) (shown (W.contents self.new.0) self.new.1) result bytes.now }
+        ensures some { IfOk result (λ n. 0 < n) }
+        ensures counted { OnErr result (self.new.1 ≡ raised self.old.1) }
+    {
+        match self.writer.write(bytes) {
+            Ok(size) if size > 0 => Ok(size),
+            _ => {
+                self.faults = self.faults.saturating_add(1);
+                Err(Failed)
+            }
         }
-        Ok(written)
     }
 }

@@ -1,5 +1,5 @@
-ghost use Rattle.std.specs.Prelude.{◌≡◌, ◌<◌, ◌≤◌, ◌↔◌, ℕ, List, Option, Some, IsErr, IfOk, Contains, length, take, drop, min};
-ghost use Rattle.fan_base.specs.Outside.{last_count, Reads, shown};
+ghost use Rattle.std.specs.Prelude.{◌≡◌, ◌<◌, ◌≤◌, ◌↔◌, ℕ, List, Option, Some, IsErr, IfOk, OnErr, Contains, length, take, drop, min};
+ghost use Rattle.fan_base.specs.Outside.{last_count, raised, Reads, shown};
 ghost use Rattle.fan_base.specs.Supply.{after_read, fresh_supply, read_size};
 
 use crate::refusal::Failed;
@@ -175,7 +175,11 @@ impl<R: Read> Source for StdSource<R> {
 
     ghost faults = { λ s. s.1 };
 
-    fn read(&mut self, buf: &mut [u8]) -> Result<usize, Failed> {
+    fn read(&mut self, buf: &mut [u8]) -> Result<usize, Failed>
+        requires { 0 < length buf.old }
+        ensures reads { Reads (shown (R.remaining self.old.0) self.old.1) (shown (R.remaining self.new.0) self.new.1) result buf.new }
+        ensures counted { OnErr result (self.new.1 ≡ raised self.old.1) }
+    {
         match self.reader.read(buf) {
             Ok(size) => Ok(size),
             Err(_) => {
