@@ -1,0 +1,5 @@
+pub mod Marks
+pub mod Runs
+pub mod Laws
+pub mod Inline
+pub mod Manual

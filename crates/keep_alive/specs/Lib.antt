@@ -1,0 +1,4 @@
+pub mod Acts
+pub mod Count
+pub mod Seen
+pub mod Answers

@@ -1,0 +1,199 @@
+// The owner of a count, its tokens, and what their ends answer.
+ghost use Rattle.std.specs.Prelude.{◌≡◌, ◌+◌, ◌-◌, ◌<◌, IfOk, OnErr};
+ghost use Rattle.keep_alive.specs.Answers.{receipt_of, SaysWhatWasFound};
+
+use crate::count::{
+    Copies, Counting, Holding, Leaves, Meets, Never, Offers, Parts, Releases, Watches,
+};
+use atomic_table::{Seat, Table};
+use fan_base::Memory;
+use std::alloc::{AllocError, Global};
+use std::marker::Model;
+use std::sync::{Arc, Wait};
+
+type Counter = Arc<Table<u32, Holding, u32, Counting, Global>>;
+
+type Place = Seat<u32, Holding>;
+
+/// The owner's 1 of a count. It is spent by [`KeepOwner::join`]. Contracts see which count it is of.
+pub struct KeepOwner {
+    counter: Counter,
+    seat: Place,
+}
+
+impl Model for KeepOwner {
+    ghost use Rattle.std.specs.Prelude.{◌≡◌, []};
+    ghost use Rattle.std.specs.Arc.{arc_value};
+    ghost use Rattle.keep_alive.specs.declared.count.Holding.TheVariants.{Owner};
+    ghost use Rattle.keep_alive.specs.Seen.{OwnerSeen};
+
+    ghost Value = { OwnerSeen };
+
+    ghost view = { λ k. record { count = k.seat.table_id } };
+
+    ghost invariant = { λ k. (k.seat.table_id ≡ (arc_value k.counter).shared.table_id) × ((arc_value k.counter).shared.table_id.words ≡ 1) × (k.seat.me ≡ (Owner, [])) };
+}
+
+/// A counted token: while it is held, the count is above 0. It is spent by [`KeepAlive::release`]. Contracts see
+/// which count it is of, and its room: how many tokens can still be made from it, and from those that it makes.
+pub struct KeepAlive {
+    counter: Counter,
+    seat: Place,
+    room: u32,
+}
+
+impl Model for KeepAlive {
+    ghost use Rattle.std.specs.Prelude.{◌≡◌, []};
+    ghost use Rattle.std.specs.Arc.{arc_value};
+    ghost use Rattle.keep_alive.specs.declared.count.Holding.TheVariants.{Token};
+    ghost use Rattle.keep_alive.specs.Seen.{TokenSeen};
+
+    ghost Value = { TokenSeen };
+
+    ghost view = { λ k. record { count = k.seat.table_id; room = k.room } };
+
+    ghost invariant = { λ k. (k.seat.table_id ≡ (arc_value k.counter).shared.table_id) × ((arc_value k.counter).shared.table_id.words ≡ 1) × (k.seat.me ≡ (Token k.room, [])) };
+}
+
+/// What a release found. Contracts see which count it was, and the number found.
+#[derive(Drop)]
+pub struct Receipt {
+    seat: Place,
+    found: u64,
+}
+
+impl Model for Receipt {
+    ghost use Rattle.std.specs.Prelude.{◌≡◌, []};
+    ghost use Rattle.keep_alive.specs.declared.count.Holding.TheVariants.{Released};
+    ghost use Rattle.keep_alive.specs.Seen.{ReceiptSeen};
+
+    ghost Value = { ReceiptSeen };
+
+    ghost view = { λ r. record { count = r.seat.table_id; found = r.found } };
+
+    ghost invariant = { λ r. r.seat.me ≡ (Released r.found, []) };
+}
+
+/// The answer of a release: whether the token was the last that counted.
+#[derive(Drop)]
+pub enum Released {
+    Last(Receipt),
+    More(Receipt),
+}
+
+/// The owner has left and has then found the count 0. Contracts see which count it was. No token of that count is
+/// held, as [`nothing_is_held`] shows.
+#[derive(Drop)]
+pub struct Joined {
+    counter: Counter,
+    seat: Place,
+}
+
+impl Model for Joined {
+    ghost use Rattle.std.specs.Prelude.{◌≡◌, []};
+    ghost use Rattle.std.specs.Arc.{arc_value};
+    ghost use Rattle.keep_alive.specs.declared.count.Holding.TheVariants.{Closed};
+    ghost use Rattle.keep_alive.specs.Seen.{OwnerSeen};
+
+    ghost Value = { OwnerSeen };
+
+    ghost view = { λ k. record { count = k.seat.table_id } };
+
+    ghost invariant = { λ k. (k.seat.table_id ≡ (arc_value k.counter).shared.table_id) × ((arc_value k.counter).shared.table_id.words ≡ 1) × (k.seat.me ≡ (Closed, [])) };
+}
+
+impl KeepOwner {
+    /// A new count, which is 2: the owner's 1, and a token from which `room` more can be made.
+    pub fn new(alloc: Global, room: u32) -> Result<(KeepOwner, KeepAlive), Memory>
+        ensures { IfOk result (λ pair. (pair.0.count ≡ pair.1.count) × (pair.1.room ≡ room)) }
+    {
+        let (table, mut seat) = Table::of_words(alloc, &[2], &room)?;
+        let token = table.shared.split_seat::<Parts>(&mut seat);
+        let counter = Arc::new(alloc, table).map_err(AllocError::from)?;
+        let keep = KeepAlive {
+            counter: Arc::try_clone(&counter)?,
+            seat: token,
+            room,
+        };
+        Ok((KeepOwner { counter, seat }, keep))
+    }
+
+    /// Takes the owner's 1 off, and waits until each token is released.
+    pub fn join<R: Wait>(self, rt: &R) -> Joined
+        ensures { result.count ≡ self.count }
+    {
+        let KeepOwner { counter, mut seat } = self;
+        counter.shared.fetch_sub::<Leaves>(&mut seat, 0, 1);
+        for _ in rt.forever() {
+            let found = counter.shared.load::<Watches>(&mut seat, 0);
+            if found == 0 {
+                return Joined { counter, seat };
+            }
+            counter.shared.park(rt, 0, (found & 0xffff_ffff) as u32);
+        }
+        unreachable!()
+    }
+}
+
+impl KeepAlive {
+    /// How many tokens can still be made from this one, and from those that it makes.
+    pub fn room(&self) -> u32
+        ensures { result ≡ self.now.room }
+    {
+        self.room
+    }
+
+    /// A further token of the count, with so much of this one's room. One of its room goes for the token itself.
+    pub fn copy(&mut self, room: u32) -> Result<KeepAlive, Memory>
+        requires { room < self.old.room }
+        ensures copy { IfOk result (λ copy. copy ≡ record { count = self.old.count; room = room }) }
+        ensures kept { IfOk result (λ _. self.new ≡ record { count = self.old.count; room = self.old.room - (room + 1) }) }
+        ensures refused { OnErr result (self.new ≡ self.old) }
+    {
+        let counter = Arc::try_clone(&self.counter)?;
+        let shared = &counter.shared;
+        shared.compare_exchange_with::<Offers>(&mut self.seat, 0, 0, 0, &room);
+        shared.fetch_add::<Copies>(&mut self.seat, 0, 1);
+        let seat = shared.split_seat::<Parts>(&mut self.seat);
+        self.room -= room + 1;
+        Ok(KeepAlive {
+            counter,
+            seat,
+            room,
+        })
+    }
+
+    /// Takes the token's 1 off the count.
+    pub fn release(self) -> Released
+        ensures count { (receipt_of result).count ≡ self.count }
+        ensures found { SaysWhatWasFound result }
+    {
+        let KeepAlive {
+            counter,
+            mut seat,
+            room: _,
+        } = self;
+        let found = counter.shared.fetch_sub::<Releases>(&mut seat, 0, 1);
+        let receipt = Receipt { seat, found };
+        if found > 1 {
+            return Released::More(receipt);
+        }
+        counter.shared.wake_all(0);
+        Released::Last(receipt)
+    }
+}
+
+/// The law of the count: once an owner has joined it, no token of it is held. So no call of this can be made.
+pub fn nothing_is_held(joined: Joined, keep: KeepAlive)
+    requires { keep.count ≡ joined.count }
+    ensures { ⊥ }
+{
+    let Joined { counter, mut seat } = joined;
+    let KeepAlive {
+        counter: _,
+        seat: held,
+        room: _,
+    } = keep;
+    counter.shared.join_seat::<Meets>(&mut seat, held);
+    counter.shared.load::<Never>(&mut seat, 0);
+}
