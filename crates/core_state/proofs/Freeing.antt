@@ -1,6 +1,8 @@
 -- What stands in a lawful schedule, by what its halves have set, and what both leaves come to.
-use Rattle.std.proofs.Common.{◌≡◌, ℕ, zero, suc, ◌+◌, ◌<◌, ◌≤◌, ◌⊎◌, inl, inr, ⊎_elim, true, false, List, [], ◌∷◌, ◌++◌, take, refl, sym, ap, ◌∙◌, Some, arith}
-use Rattle.std.specs.Prelude.{slice_get, ◌↔◌}
+use Rattle.std.proofs.Common.{◌≡◌, ℕ, zero, suc, ◌+◌, ◌<◌, ◌≤◌, ◌⊎◌, inl, inr, true, false, List, [], ◌∷◌, ◌++◌, take, refl, sym, ap, ◌∙◌, Some, arith}
+use Rattle.std.specs.Prelude.{slice_get}
+use mathlib.Core.Logic.{dite}
+use native.Mathlib.Decide.{ℕ_discrete}
 use Rattle.core_state.specs.declared.table.State.TheVariants.{Done, Empty}
 use Rattle.core_state.specs.declared.schedule.ProducerAct.{ProducerAct}
 use Rattle.core_state.specs.declared.schedule.ProducerAct.TheVariants as by_producer
@@ -14,10 +16,10 @@ use Rattle.core_state.specs.declared.schedule.Offer.{Offer}
 use Rattle.core_state.specs.declared.schedule.Offer.TheVariants as offered
 use Rattle.core_state.specs.declared.schedule.Claim.{Claim}
 use Rattle.core_state.specs.declared.schedule.Claim.TheVariants as claimed
-use Rattle.core_state.specs.Schedule.{IsMerge, merged, producer_first, consumer_first, IsLawful, state_from, offer_in, claim_in, state_of, IsLater, Frees, leave_of, leaves_in, gives_up}
-use Rattle.core_state.specs.Laws.{IsHandedOver, IsForwarded, LastFindsOne, LeavesOffer, IsAccounted, result_of, proxy_of, callback_of}
+use Rattle.core_state.specs.Schedule.{IsMerge, merged, producer_first, consumer_first, IsLawful, state_from, offer_in, claim_in, IsLater, Frees, leave_of, leaves_in, gives_up}
+use Rattle.core_state.specs.Laws.{LastFindsOne, result_of, proxy_of, callback_of}
 use Rattle.core_state.proofs.Schedules.{over, leaves, Goes, may_result, may_proxy, may_end, goes_from, ConsumerEnds, all_over, still_leaves, Begins, nothing_comes, callback_comes, give_up_comes, begins_from, take_with, lawful_before}
-use Rattle.core_state.proofs.Orders.{p_kind, get_take, get_take_within, no_producer, only_leave, no_consumer, only_leaves, at_one_place, at_one_turn, same_later, one_later}
+use Rattle.core_state.proofs.Orders.{p_kind, get_take, get_take_within, no_producer, only_leave, no_consumer, only_leaves, at_one_place, at_one_turn}
 
 abbrev p_leaves : {R K : Type 0} → List (ProducerAct R K) → ℕ
 p_leaves [] = 0
@@ -46,7 +48,7 @@ c_leaves_few (callback_comes still_leaves) = omega arith
 c_leaves_few (give_up_comes all_over) = omega arith
 c_leaves_few (give_up_comes still_leaves) = omega arith
 
-abbrev offer_by : {R K : Type 0} → ProducerAct R K → Offer R K
+abbrev pub offer_by : {R K : Type 0} → ProducerAct R K → Offer R K
 offer_by (by_producer.Result r) = offered.Result r
 offer_by (by_producer.Proxy k) = offered.Proxy k
 offer_by by_producer.Leave = offered.Nothing
@@ -74,28 +76,28 @@ module _ {R K C : Type 0} where
   claim_at begin (producer_first m) zero c e = cc
   claim_at begin (producer_first m) (suc n) c e = claim_at begin m n c e
 
-  result_place : (acts : List (CoreAct R K C)) (r : R) → offer_in acts ≡ offered.Result r → (n : ℕ) × (slice_get acts n ≡ Some (result_of r))
+  pub result_place : (acts : List (CoreAct R K C)) (r : R) → offer_in acts ≡ offered.Result r → (n : ℕ) × (slice_get acts n ≡ Some (result_of r))
   result_place [] r e = cc
   result_place (by.Producer (by_producer.Result q) ∷ acts) r e = let same : q ≡ r = cc in (0, ap (λ x. Some (result_of x)) same)
   result_place (by.Producer (by_producer.Proxy k) ∷ acts) r e = cc
   result_place (by.Producer by_producer.Leave ∷ acts) r e = let p = result_place acts r e in (suc p.0, p.1)
   result_place (by.Consumer c ∷ acts) r e = let p = result_place acts r e in (suc p.0, p.1)
 
-  proxy_place : (acts : List (CoreAct R K C)) (k : K) → offer_in acts ≡ offered.Proxy k → (n : ℕ) × (slice_get acts n ≡ Some (proxy_of k))
+  pub proxy_place : (acts : List (CoreAct R K C)) (k : K) → offer_in acts ≡ offered.Proxy k → (n : ℕ) × (slice_get acts n ≡ Some (proxy_of k))
   proxy_place [] k e = cc
   proxy_place (by.Producer (by_producer.Result r) ∷ acts) k e = cc
   proxy_place (by.Producer (by_producer.Proxy q) ∷ acts) k e = let same : q ≡ k = cc in (0, ap (λ x. Some (proxy_of x)) same)
   proxy_place (by.Producer by_producer.Leave ∷ acts) k e = let p = proxy_place acts k e in (suc p.0, p.1)
   proxy_place (by.Consumer c ∷ acts) k e = let p = proxy_place acts k e in (suc p.0, p.1)
 
-  callback_place : (acts : List (CoreAct R K C)) (c : C) → claim_in acts ≡ claimed.Callback c → (n : ℕ) × (slice_get acts n ≡ Some (callback_of c))
+  pub callback_place : (acts : List (CoreAct R K C)) (c : C) → claim_in acts ≡ claimed.Callback c → (n : ℕ) × (slice_get acts n ≡ Some (callback_of c))
   callback_place [] c e = cc
   callback_place (by.Consumer (by_consumer.Callback d) ∷ acts) c e = let same : d ≡ c = cc in (0, ap (λ x. Some (callback_of x)) same)
   callback_place (by.Consumer by_consumer.GiveUp ∷ acts) c e = let p = callback_place acts c e in (suc p.0, p.1)
   callback_place (by.Consumer by_consumer.Leave ∷ acts) c e = let p = callback_place acts c e in (suc p.0, p.1)
   callback_place (by.Producer x ∷ acts) c e = let p = callback_place acts c e in (suc p.0, p.1)
 
-  done_parts : (offer : Offer R K) (claim : Claim C) → state_from offer claim ≡ Done → (r : R) × (c : C) × (offer ≡ offered.Result r) × (claim ≡ claimed.Callback c)
+  pub done_parts : (offer : Offer R K) (claim : Claim C) → state_from offer claim ≡ Done → (r : R) × (c : C) × (offer ≡ offered.Result r) × (claim ≡ claimed.Callback c)
   done_parts offered.Nothing claimed.Nothing e = cc
   done_parts offered.Nothing (claimed.Callback c) e = cc
   done_parts (offered.Result r) claimed.Nothing e = cc
@@ -103,7 +105,7 @@ module _ {R K C : Type 0} where
   done_parts (offered.Proxy k) claimed.Nothing e = cc
   done_parts (offered.Proxy k) (claimed.Callback c) e = cc
 
-  empty_parts : (offer : Offer R K) (claim : Claim C) → state_from offer claim ≡ Empty → (k : K) × (c : C) × (offer ≡ offered.Proxy k) × (claim ≡ claimed.Callback c)
+  pub empty_parts : (offer : Offer R K) (claim : Claim C) → state_from offer claim ≡ Empty → (k : K) × (c : C) × (offer ≡ offered.Proxy k) × (claim ≡ claimed.Callback c)
   empty_parts offered.Nothing claimed.Nothing e = cc
   empty_parts offered.Nothing (claimed.Callback c) e = cc
   empty_parts (offered.Result r) claimed.Nothing e = cc
@@ -112,7 +114,7 @@ module _ {R K C : Type 0} where
   empty_parts (offered.Proxy k) (claimed.Callback c) e = (k, c, refl, refl)
 
   -- the places of the two acts
-  places : (acts : List (CoreAct R K C)) (half : Half) (p : ProducerAct R K) (c : ConsumerAct C) → IsLater acts half p c
+  pub places : (acts : List (CoreAct R K C)) (half : Half) (p : ProducerAct R K) (c : ConsumerAct C) → IsLater acts half p c
       → (i : ℕ) × (j : ℕ) × (slice_get acts i ≡ Some (by.Producer p)) × (slice_get acts j ≡ Some (by.Consumer c))
   places acts the.Producer p c (i, j, lt, at_c, at_p) = (j, i, at_p, at_c)
   places acts the.Consumer p c (i, j, lt, at_p, at_c) = (i, j, at_p, at_c)
@@ -197,17 +199,20 @@ module _ {R K C : Type 0} where
       let few = leaves_few (take (suc n) acts) (lawful_before acts (suc n) lawful) in
       let more : leaves_in (take (suc n) acts) ≡ leaves_in (take n acts) + 1 =
       ap leaves_in (take_with acts n _ at) ∙ leaves_in_more (take n acts) half in (
-        (λ one. let p = leave_place (take n acts) (omega (arith, one)) in let q = get_take_within acts n p.0 _ p.2 in frees_at acts lawful n half p.1 p.0 at q.0 q.1),
-        (λ frees. let first = earlier acts lawful n half at frees in omega (arith, few, more, first)),
+        (
+          (λ one. let p = leave_place (take n acts) (omega (arith, one)) in let q = get_take_within acts n p.0 _ p.2 in frees_at acts lawful n half p.1 p.0 at q.0 q.1),
+          (λ frees. let first = earlier acts lawful n half at frees in omega (arith, few, more, first)),
+        ),
+        dite (ℕ_discrete (leaves_in (take n acts)) 0) (λ none_left. inr (omega (arith, none_left))) (λ some_left. inl (omega (arith, few, more, some_left))),
       )
 
-  nothing_after : {ps : List (ProducerAct R K)} {cs : List (ConsumerAct C)} {acts : List (CoreAct R K C)} → ConsumerEnds cs → IsMerge ps cs acts → (claim_in acts ≡ claimed.Nothing) × (gives_up acts ≡ false)
+  pub nothing_after : {ps : List (ProducerAct R K)} {cs : List (ConsumerAct C)} {acts : List (CoreAct R K C)} → ConsumerEnds cs → IsMerge ps cs acts → (claim_in acts ≡ claimed.Nothing) × (gives_up acts ≡ false)
   nothing_after end merged = (refl, refl)
   nothing_after end (producer_first m) = nothing_after end m
   nothing_after still_leaves (consumer_first m) = nothing_after all_over m
 
   -- a consumer that has left had set a callback or given up
-  chosen : {ps : List (ProducerAct R K)} {cs : List (ConsumerAct C)} {acts : List (CoreAct R K C)} → Begins cs → IsMerge ps cs acts → (n : ℕ) → slice_get acts n ≡ Some (leave_of the.Consumer)
+  pub chosen : {ps : List (ProducerAct R K)} {cs : List (ConsumerAct C)} {acts : List (CoreAct R K C)} → Begins cs → IsMerge ps cs acts → (n : ℕ) → slice_get acts n ≡ Some (leave_of the.Consumer)
       → ((c : C) × (claim_in acts ≡ claimed.Callback c) × (gives_up acts ≡ false)) ⊎ ((claim_in acts ≡ claimed.Nothing) × (gives_up acts ≡ true))
   chosen nothing_comes m n e = absurd (no_consumer m n _ e)
   chosen (callback_comes {c = d} end) (consumer_first m) n e = inl (d, refl, (nothing_after end m).1)
@@ -216,66 +221,8 @@ module _ {R K C : Type 0} where
   chosen begin (producer_first m) (suc n) e = chosen begin m n e
 
   module _ (acts : List (CoreAct R K C)) (lawful : IsLawful acts) where
-    offer_here : (n : ℕ) (p : ProducerAct R K) → slice_get acts n ≡ Some (by.Producer p) → p_kind p ≡ 1 → offer_in acts ≡ offer_by p
+    pub offer_here : (n : ℕ) (p : ProducerAct R K) → slice_get acts n ≡ Some (by.Producer p) → p_kind p ≡ 1 → offer_in acts ≡ offer_by p
     offer_here = offer_at (goes_from lawful.of_producer lawful.produced) lawful.merge
 
-    claim_here : (n : ℕ) (c : C) → slice_get acts n ≡ Some (callback_of c) → claim_in acts ≡ claimed.Callback c
+    pub claim_here : (n : ℕ) (c : C) → slice_get acts n ≡ Some (callback_of c) → claim_in acts ≡ claimed.Callback c
     claim_here = claim_at (begins_from lawful.of_consumer lawful.consumed) lawful.merge
-
-    pub done_hands_over : (state_of acts ≡ Done) ↔ IsHandedOver acts
-    done_hands_over = (
-      (λ e.
-          let t = done_parts (offer_in acts) (claim_in acts) e in
-          let i = result_place acts t.0 t.2 in
-          let j = callback_place acts t.1 t.3 in
-          let one = one_later acts lawful i.0 j.0 _ _ i.1 j.1 in (
-            one.0,
-            t.0,
-            t.1,
-            one.1,
-            λ other q d later.
-                let same = same_later acts lawful one.0 other (by_producer.Result t.0) (by_producer.Result q) (by_consumer.Callback t.1) (by_consumer.Callback d) refl refl one.1 later in
-                let x : ◌≡◌ {A = ProducerAct R K} (by_producer.Result q) (by_producer.Result t.0) = same.1 in let y : ◌≡◌ {A = ConsumerAct C} (by_consumer.Callback d) (by_consumer.Callback t.1) = same.2 in
-                (same.0, cc, cc),
-          )),
-      (λ handed.
-          let at = places acts handed.0 _ _ handed.3 in
-          let o = offer_here at.0 _ at.2 refl in
-          let k = claim_here at.1 _ at.3 in
-          λ i. state_from (o i) (k i)),
-    )
-
-    pub empty_forwards : (state_of acts ≡ Empty) ↔ IsForwarded acts
-    empty_forwards = (
-      (λ e.
-          let t = empty_parts (offer_in acts) (claim_in acts) e in
-          let i = proxy_place acts t.0 t.2 in
-          let j = callback_place acts t.1 t.3 in
-          let one = one_later acts lawful i.0 j.0 _ _ i.1 j.1 in (
-            one.0,
-            t.1,
-            t.0,
-            one.1,
-            λ other d q later.
-                let same = same_later acts lawful one.0 other (by_producer.Proxy t.0) (by_producer.Proxy q) (by_consumer.Callback t.1) (by_consumer.Callback d) refl refl one.1 later in
-                let x : ◌≡◌ {A = ProducerAct R K} (by_producer.Proxy q) (by_producer.Proxy t.0) = same.1 in let y : ◌≡◌ {A = ConsumerAct C} (by_consumer.Callback d) (by_consumer.Callback t.1) = same.2 in
-                (same.0, cc, cc),
-          )),
-      (λ passed.
-          let at = places acts passed.0 _ _ passed.3 in
-          let o = offer_here at.0 _ at.2 refl in
-          let k = claim_here at.1 _ at.3 in
-          λ i. state_from (o i) (k i)),
-    )
-
-    choice : (half : Half) → Frees acts half → ((c : C) × (claim_in acts ≡ claimed.Callback c) × (gives_up acts ≡ false)) ⊎ ((claim_in acts ≡ claimed.Nothing) × (gives_up acts ≡ true))
-    choice half frees = let at = places acts half _ _ frees in chosen (begins_from lawful.of_consumer lawful.consumed) lawful.merge at.1 at.3
-
-    pub leaves_offer : LeavesOffer acts
-    leaves_offer half frees = ⊎_elim (λ t. rw (t.1, t.2) refl) (λ t. rw (t.0, t.1) refl) (choice half frees)
-
-    pub accounted : IsAccounted acts
-    accounted half n r frees at = ⊎_elim
-        (λ t. let j = callback_place acts t.0 t.1 in let one = one_later acts lawful n j.0 _ _ at j.1 in inl (one.0, t.0, one.1))
-        (λ t. let o = offer_here n _ at refl in inr (rw t.1 o))
-        (choice half frees)

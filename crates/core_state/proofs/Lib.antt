@@ -1,3 +1,4 @@
 pub mod Schedules
 pub mod Orders
 pub mod Freeing
+pub mod Handing

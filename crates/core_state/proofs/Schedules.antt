@@ -1,9 +1,10 @@
 -- The fold of the table over every lawful schedule.
-use Rattle.std.proofs.Common.{◌≡◌, ℕ, zero, suc, List, [], ◌∷◌, ◌++◌, take, drop, refl, sym, ap, ◌∙◌, subst, Option, Some, None}
-use Rattle.std.specs.Prelude.{slice_get}
+use Rattle.std.proofs.Common.{◌≡◌, ℕ, zero, suc, ◌≤◌, ◌⊎◌, inl, inr, ⊎_elim, List, [], ◌∷◌, ◌++◌, take, drop, refl, sym, ap, ◌∙◌, subst, Option, Some, None, arith}
+use Rattle.std.specs.Prelude.{slice_get, ◌↔◌}
 use Rattle.core_state.specs.declared.table.State.{State}
-use Rattle.core_state.specs.declared.table.State.TheVariants.{Start}
-use Rattle.core_state.specs.declared.table.Act.TheVariants.{SetResult, SetCallback}
+use Rattle.core_state.specs.declared.table.State.TheVariants.{Start, OnlyResult, OnlyCallback, Proxy, Done, Empty}
+use Rattle.core_state.specs.declared.table.Act.{Act}
+use Rattle.core_state.specs.declared.table.Act.TheVariants.{SetResult, SetProxy, SetCallback}
 use Rattle.core_state.specs.declared.schedule.ProducerAct.{ProducerAct}
 use Rattle.core_state.specs.declared.schedule.ProducerAct.TheVariants as by_producer
 use Rattle.core_state.specs.declared.schedule.ConsumerAct.{ConsumerAct}
@@ -14,6 +15,7 @@ use Rattle.core_state.specs.declared.schedule.Offer.{Offer}
 use Rattle.core_state.specs.declared.schedule.Offer.TheVariants as offered
 use Rattle.core_state.specs.declared.schedule.Claim.{Claim}
 use Rattle.core_state.specs.declared.schedule.Claim.TheVariants as claimed
+use Rattle.core_state.specs.Table.{state_after}
 use Rattle.core_state.specs.Schedule.{IsProducerList, result_list, proxy_list, IsConsumerList, callback_list, give_up_list, IsMerge, merged, producer_first, consumer_first, IsLawful, state_from, state_after_exchange, offer_in, claim_in, state_of, exchange_of, run, fold_of}
 use Rattle.core_state.specs.Laws.{IsFinal, FindsEachState, StaysFinal}
 
@@ -27,6 +29,40 @@ pub take_with : {A : Type 0} (xs : List A) (n : ℕ) (x : A) → slice_get xs n 
 take_with [] n x e = cc
 take_with (y ∷ ys) zero x e = let same : y ≡ x = cc in ap (λ z. z ∷ []) same
 take_with (y ∷ ys) (suc n) x e = ap (λ zs. y ∷ zs) (take_with ys n x e)
+
+take_shorter : {A : Type 0} (n m : ℕ) (xs : List A) → n ≤ m → take n (take m xs) ≡ take n xs
+take_shorter zero m xs le = refl
+take_shorter (suc n) zero xs le = absurd (omega arith)
+take_shorter (suc n) (suc m) [] le = refl
+take_shorter (suc n) (suc m) (x ∷ xs) le = ap (λ ys. x ∷ ys) (take_shorter n m xs (omega arith))
+
+some_injective : {x y : State} → Some x ≡ Some y → x ≡ y
+some_injective e = cc
+
+ends_final : (state : State) → (state ≡ Done) ⊎ (state ≡ Empty) → IsFinal state
+ends_final state is_end act = ⊎_elim (λ e. ap (λ s. state_after s act) e ∙ from_done act) (λ e. ap (λ s. state_after s act) e ∙ from_empty act) is_end
+  where
+    from_done : (act : Act) → state_after Done act ≡ None
+    from_done SetResult = refl
+    from_done SetProxy = refl
+    from_done SetCallback = refl
+
+    from_empty : (act : Act) → state_after Empty act ≡ None
+    from_empty SetResult = refl
+    from_empty SetProxy = refl
+    from_empty SetCallback = refl
+
+final_ends : (state : State) → IsFinal state → (state ≡ Done) ⊎ (state ≡ Empty)
+final_ends Start final = let e = final SetCallback in cc
+final_ends OnlyResult final = let e = final SetCallback in cc
+final_ends OnlyCallback final = let e = final SetResult in cc
+final_ends Proxy final = let e = final SetCallback in cc
+final_ends Done final = inl refl
+final_ends Empty final = inr refl
+
+-- the states without a row are Done and Empty
+pub final_states : (state : State) → IsFinal state ↔ ((state ≡ Done) ⊎ (state ≡ Empty))
+final_states state = (final_ends state, ends_final state)
 
 module _ {R K : Type 0} where
   -- what is left of a producer's acts once it has set something: its leave at most
@@ -175,7 +211,14 @@ module _ {R K C : Type 0} where
   final_stays (offered.Result r) later (claimed.Callback c) more final = refl
   final_stays (offered.Proxy k) later (claimed.Callback c) more final = refl
 
-  pub stays : (acts : List (CoreAct R K C)) → StaysFinal acts
-  stays acts n final =
+  final_state : (acts : List (CoreAct R K C)) (n : ℕ) → IsFinal (state_of (take n acts)) → state_of acts ≡ state_of (take n acts)
+  final_state acts n final =
       (λ i. state_from (offer_split acts n i) (claim_split acts n i))
       ∙ final_stays (offer_in (take n acts)) (offer_in (drop n acts)) (claim_in (take n acts)) (claim_in (drop n acts)) final
+
+  pub stays : (acts : List (CoreAct R K C)) → IsLawful acts → StaysFinal acts
+  stays acts lawful n m state is_end le found =
+      let before : state_of (take n acts) ≡ state = some_injective (sym (folds (take n acts) (lawful_before acts n lawful)) ∙ found) in
+      let part : state_of (take n (take m acts)) ≡ state = ap state_of (take_shorter n m acts le) ∙ before in
+      let same : state_of (take m acts) ≡ state_of (take n (take m acts)) = final_state (take m acts) n (subst IsFinal (sym part) (ends_final state is_end)) in
+      folds (take m acts) (lawful_before acts m lawful) ∙ ap Some (same ∙ part)

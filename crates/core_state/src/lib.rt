@@ -3,7 +3,7 @@
 //!
 //! A core hands one result to one callback. Its producer sets a result or a proxy and leaves; its
 //! consumer sets a callback or gives up and leaves. The states are those of Folly's
-//! `futures/detail/Core.h`:
+//! `futures/detail/Core.h`, all but `OnlyCallbackAllowInline`:
 //!
 //! ```text
 //!             SetResult                    SetCallback

@@ -45,7 +45,8 @@ pub fn next(state: State, act: Act) -> Option<State>
     }
 }
 
-/// The number that stands for a state in an atomic word.
+/// The number that stands for a state in an atomic word. The numbers are this library's own, and
+/// not those of `Core.h`.
 pub fn code(state: State) -> u64
     ensures { result ≡ code_of state }
 {

@@ -1,6 +1,7 @@
-use Rattle.core_state.proofs.Schedules.{folds, lawful_before, finds, stays}
+use Rattle.core_state.proofs.Schedules.{folds, lawful_before, finds, stays, final_states}
 use Rattle.core_state.proofs.Orders.{one_later}
-use Rattle.core_state.proofs.Freeing.{done_hands_over, empty_forwards, last_finds_one, leaves_offer, accounted}
+use Rattle.core_state.proofs.Freeing.{last_finds_one}
+use Rattle.core_state.proofs.Handing.{results, proxies, callbacks, once, done_hands_over, empty_forwards, leaves_offer, accounted, finds_other}
 use Rattle.core_state.proofs.law.schedule_law.Goals as goal
 
 pub returns-clause-folds : goal.returns-clause-folds
@@ -9,11 +10,23 @@ returns-clause-folds g c = folds
 pub returns-clause-prefixes : goal.returns-clause-prefixes
 returns-clause-prefixes g c = lawful_before
 
+pub returns-clause-results : goal.returns-clause-results
+returns-clause-results g c acts r lawful = results acts lawful r
+
+pub returns-clause-proxies : goal.returns-clause-proxies
+returns-clause-proxies g c acts k lawful = proxies acts lawful k
+
+pub returns-clause-callbacks : goal.returns-clause-callbacks
+returns-clause-callbacks g c acts k lawful = callbacks acts lawful k
+
 pub returns-clause-finds : goal.returns-clause-finds
 returns-clause-finds g c = finds
 
+pub returns-clause-ends : goal.returns-clause-ends
+returns-clause-ends g c = final_states
+
 pub returns-clause-stays : goal.returns-clause-stays
-returns-clause-stays g c acts lawful = stays acts
+returns-clause-stays g c = stays
 
 pub returns-clause-handed : goal.returns-clause-handed
 returns-clause-handed g c acts lawful i j r d e f = one_later acts lawful i j _ _ e f
@@ -21,14 +34,20 @@ returns-clause-handed g c acts lawful i j r d e f = one_later acts lawful i j _ 
 pub returns-clause-forwarded : goal.returns-clause-forwarded
 returns-clause-forwarded g c acts lawful i j k d e f = one_later acts lawful i j _ _ e f
 
-pub returns-clause-freed : goal.returns-clause-freed
-returns-clause-freed g c acts lawful i j e f = one_later acts lawful i j _ _ e f
-
 pub returns-clause-done : goal.returns-clause-done
 returns-clause-done g c = done_hands_over
 
 pub returns-clause-emptied : goal.returns-clause-emptied
 returns-clause-emptied g c = empty_forwards
+
+pub returns-clause-once : goal.returns-clause-once
+returns-clause-once g c = once
+
+pub returns-clause-makers : goal.returns-clause-makers
+returns-clause-makers g c = finds_other
+
+pub returns-clause-freed : goal.returns-clause-freed
+returns-clause-freed g c acts lawful i j e f = one_later acts lawful i j _ _ e f
 
 pub returns-clause-last : goal.returns-clause-last
 returns-clause-last g c = last_finds_one
