@@ -104,7 +104,7 @@ releasing slots id room s r long at small =
     let own = r.owner in
     let a = r.released in
     let b = r.copied in
-    (w, keeps, tt, placed s r ((x + (2 ^ 64 - 1)) % 2 ^ 64) id [] (Token room) w (release ∷ r.history) at (omega arith, r.lawful) (omega arith) (omega arith) (omega arith) refl (omega arith) (λ e. omega arith) (λ found. absurd found), (omega arith, refl))
+    (w, keeps, tt, placed s r ((x + (2 ^ 64 - 1)) % 2 ^ 64) id [] (Token room) w (release ∷ r.history) at (omega arith, r.lawful) (omega arith) (omega arith) (omega arith) refl (omega arith) (λ e. omega arith) (λ one. omega (arith, one)), (omega arith, refl))
 
 pub leaving : (slots id : ℕ) → Allows Counted slots id (Owner, []) 0 (λ x. (x + (2 ^ 64 - 1)) % 2 ^ 64) (leaves (step slots 0 1 0 none) (Owner, []))
 leaving slots id s r long at small =
@@ -126,17 +126,31 @@ watching slots id s r long at small =
     (λ zero_found. (Closed, keeps, tt, placed s r x id [] Left Closed r.history at r.lawful word refl refl refl (omega arith) (λ e. e) (λ _. sym word ∙ zero_found), ((λ _. refl), (λ other. absurd (other zero_found)))))
     (λ more. (Left, keeps, tt, placed s r x id [] Left Left r.history at r.lawful word refl refl refl (omega arith) (λ e. e) (λ found. absurd found), ((λ none_left. absurd (more none_left)), (λ _. refl))))
 
--- a seat at which the owner's 0 and a token meet can't be
-pub clash : (s : St) (r : Counted s) (id other room : ℕ) → get_elem? s.views id ≡ some Closed → get_elem? s.views other ≡ some (Token room) → ⊥
-clash s r id other room closed held =
-    let none_left = r.closed id Closed closed tt in
+-- beside a seat that knows the count to be 0 there is none that counts
+pub clash : (s : St) (r : Counted s) (i j : ℕ) (v w : Holding) → get_elem? s.views i ≡ some v → get_elem? s.views j ≡ some w → HasFoundNone v → 1 ≤ tokens_of w + owner_of w → ⊥
+clash s r i j v w at there found counts =
+    let none_left = r.closed i v at found in
     let is = count_is s r in
-    let mine : 1 ≤ total tokens_of s.views = total_at tokens_of s.views other (Token room) held in
+    let tokens = total_at tokens_of s.views j w there in
+    let owners = total_at owner_of s.views j w there in
     omega arith
 
+-- two seats that exclude each other are put together
+excluded : (id other : ℕ) (v w : Holding) → ((s : St) → Counted s → get_elem? s.views id ≡ some v → get_elem? s.views other ≡ some w → ⊥) → Joins Counted id v other w Clash Spent
+excluded id other v w never_both s r at apart there =
+    absurd (⊎_elim (λ (e : (other ≡ id) × (Clash ≡ w)). apart e.0) (λ (e : (other ≢ id) × (get_elem? s.views other ≡ some w)). never_both s r at e.1) (at_set s.views id other Clash w there))
+
+-- an owner that has found 0, and a token
 pub meeting : (id other room : ℕ) → Joins Counted id Closed other (Token room) Clash Spent
-meeting id other room s r at apart there =
-    absurd (⊎_elim (λ (e : (other ≡ id) × (Clash ≡ Token room)). apart e.0) (λ (e : (other ≢ id) × (get_elem? s.views other ≡ some (Token room))). clash s r id other room at e.1) (at_set s.views id other Clash (Token room) there))
+meeting id other room = excluded id other Closed (Token room) (λ s r at there. clash s r id other Closed (Token room) at there tt (omega arith))
+
+-- an owner that hasn't left, and a release that found 1
+pub owner_after_last : (id other : ℕ) → Joins Counted id Owner other (Released 1) Clash Spent
+owner_after_last id other = excluded id other Owner (Released 1) (λ s r at there. clash s r other id (Released 1) Owner there at refl (omega arith))
+
+-- a token, and a release that found 1
+pub token_after_last : (id other room : ℕ) → Joins Counted id (Token room) other (Released 1) Clash Spent
+token_after_last id other room = excluded id other (Token room) (Released 1) (λ s r at there. clash s r other id (Released 1) (Token room) there at refl (omega arith))
 
 pub never : (slots id : ℕ) → Allows Counted slots id (Clash, []) 0 (λ x. x) (λ _ _. ⊥)
 never slots id s r long at small =

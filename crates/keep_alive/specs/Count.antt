@@ -55,14 +55,14 @@ released_of Closed = 0
 released_of Clash = 0
 released_of Spent = 0
 
--- its owner has found the count 0 after it left
+-- the count is 0 for good: its owner has found 0 after it left, or a release found 1
 abbrev pub HasFoundNone : Holding → Type 0
 HasFoundNone (Making _) = ⊥
 HasFoundNone Owner = ⊥
 HasFoundNone (Token _) = ⊥
 HasFoundNone (Offering _ _) = ⊥
 HasFoundNone (Copying _ _) = ⊥
-HasFoundNone (Released _) = ⊥
+HasFoundNone (Released found) = found ≡ 1
 HasFoundNone Left = ⊥
 HasFoundNone Closed = Unit {0}
 HasFoundNone Clash = Unit {0}
@@ -74,7 +74,7 @@ total f [] = 0
 total f (v ∷ vs) = f v + total f vs
 
 -- The word is what a lawful history leaves. What the seats hold is what the history made, and what they released stands in it.
--- Once an owner has found 0, the count stays 0.
+-- Once an owner has found 0, or a release 1, the count stays 0.
 pub record Counted (s : State ℕ Holding) : Type 0 where
   pub history : List Act
   pub lawful : IsLawful history

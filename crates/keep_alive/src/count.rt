@@ -19,7 +19,7 @@ pub enum Holding {
     Left,
     /// The owner has found the count 0 after that.
     Closed,
-    /// A token beside an owner that has found 0. There is none.
+    /// What two seats that exclude each other would be together. There is none.
     Clash,
     /// Nothing.
     Spent,
@@ -92,7 +92,7 @@ impl Play<u32, Holding> for Watches {
     ghost then = { watches };
 }
 
-/// An owner that has found 0 and a token are put together. It never comes to that.
+/// Two seats that exclude each other are put together. It never comes to that.
 pub struct Meets;
 
 impl Join<Holding> for Meets {

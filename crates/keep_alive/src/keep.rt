@@ -77,7 +77,10 @@ impl Model for Receipt {
 /// The answer of a release: whether the token was the last that counted.
 #[derive(Drop)]
 pub enum Released {
+    /// The count found was 1, so it is 0 from then on. The owner had left, as [`last_is_after_the_owner`] shows, and no
+    /// token is held any more, as [`nothing_is_held_after_the_last`] shows.
     Last(Receipt),
+    /// The count found was above 1.
     More(Receipt),
 }
 
@@ -103,7 +106,8 @@ impl Model for Joined {
 }
 
 impl KeepOwner {
-    /// A new count, which is 2: the owner's 1, and a token from which `room` more can be made.
+    /// A new count, which is 2: the owner's 1, and a token from which `room` more can be made. `Memory` where
+    /// there is none for the count.
     pub fn new(alloc: Global, room: u32) -> Result<(KeepOwner, KeepAlive), Memory>
         ensures { IfOk result (λ pair. (pair.0.count ≡ pair.1.count) × (pair.1.room ≡ room)) }
     {
@@ -118,7 +122,8 @@ impl KeepOwner {
         Ok((KeepOwner { counter, seat }, keep))
     }
 
-    /// Takes the owner's 1 off, and waits until each token is released.
+    /// Takes the owner's 1 off, and waits until each token is released. It returns only after it has found the
+    /// count 0. That it returns is not claimed: a token that is never released keeps it waiting.
     pub fn join<R: Wait>(self, rt: &R) -> Joined
         ensures { result.count ≡ self.count }
     {
@@ -144,6 +149,8 @@ impl KeepAlive {
     }
 
     /// A further token of the count, with so much of this one's room. One of its room goes for the token itself.
+    /// `Memory` where no further owner of the count's memory can be counted, at 2^63 - 1 of them; the room of a
+    /// count keeps its tokens far below that.
     pub fn copy(&mut self, room: u32) -> Result<KeepAlive, Memory>
         requires { room < self.old.room }
         ensures copy { IfOk result (λ copy. copy ≡ record { count = self.old.count; room = room }) }
@@ -195,5 +202,38 @@ pub fn nothing_is_held(joined: Joined, keep: KeepAlive)
         room: _,
     } = keep;
     counter.shared.join_seat::<Meets>(&mut seat, held);
+    counter.shared.load::<Never>(&mut seat, 0);
+}
+
+/// The last release comes after the owner began to join: beside a receipt of it there is no owner that hasn't. So no
+/// call of this can be made.
+pub fn last_is_after_the_owner(receipt: Receipt, owner: KeepOwner)
+    requires { (receipt.count ≡ owner.count) × (receipt.found ≡ 1) }
+    ensures { ⊥ }
+{
+    let Receipt {
+        seat: last,
+        found: _,
+    } = receipt;
+    let KeepOwner { counter, mut seat } = owner;
+    counter.shared.join_seat::<Meets>(&mut seat, last);
+    counter.shared.load::<Never>(&mut seat, 0);
+}
+
+/// After the last release no token of the count is held. So no call of this can be made.
+pub fn nothing_is_held_after_the_last(receipt: Receipt, keep: KeepAlive)
+    requires { (receipt.count ≡ keep.count) × (receipt.found ≡ 1) }
+    ensures { ⊥ }
+{
+    let Receipt {
+        seat: last,
+        found: _,
+    } = receipt;
+    let KeepAlive {
+        counter,
+        mut seat,
+        room: _,
+    } = keep;
+    counter.shared.join_seat::<Meets>(&mut seat, last);
     counter.shared.load::<Never>(&mut seat, 0);
 }

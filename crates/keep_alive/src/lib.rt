@@ -6,4 +6,7 @@ mod keep;
 #[cfg(test)]
 mod tests;
 
-pub use keep::{Joined, KeepAlive, KeepOwner, Receipt, Released, nothing_is_held};
+pub use keep::{
+    Joined, KeepAlive, KeepOwner, Receipt, Released, last_is_after_the_owner, nothing_is_held,
+    nothing_is_held_after_the_last,
+};

@@ -29,6 +29,28 @@ fn a_token_and_its_copy_are_released(rt: HostRuntime) -> Result<(), Fail> {
     Ok(())
 }
 
+// While the owner is there, no release is the last.
+fn release_before_the_owner(owner: KeepOwner, keep: KeepAlive) -> KeepOwner
+    requires { keep.count ≡ owner.count }
+    ensures { result.count ≡ owner.count }
+{
+    match keep.release() {
+        Released::More(_) => owner,
+        Released::Last(receipt) => {
+            last_is_after_the_owner(receipt, owner);
+            unreachable!()
+        }
+    }
+}
+
+#[test]
+fn no_release_is_the_last_before_the_owner_leaves(rt: HostRuntime) -> Result<(), Fail> {
+    let (owner, keep) = KeepOwner::new(rt.alloc(), 0)?;
+    let owner = release_before_the_owner(owner, keep);
+    owner.join(&rt);
+    Ok(())
+}
+
 // A token that is released where it is dropped.
 struct Guard(KeepAlive);
 
