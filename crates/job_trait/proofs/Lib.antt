@@ -1,1 +1,2 @@
-pub mod Oldest
+mod Histories
+mod Oldest

@@ -1,5 +1,6 @@
 // The executor that runs each job as it comes.
-ghost use Rattle.std.specs.Prelude.{◌≡◌, None};
+ghost use Rattle.std.specs.Prelude.{◌≡◌, None, OnOk, IfErr, IsOk};
+ghost use Rattle.fan_base.specs.declared.refusal.Refused.TheVariants.{Memory};
 ghost use Rattle.job_trait.specs.Inline.{exec_of, world_of, loan_of, last_of, RunsOnce};
 
 use crate::executor::Executor;
@@ -47,7 +48,14 @@ impl<'w, W, J: Job<W>> Executor<J> for InlineExecutor<'w, W> {
         self.exec
     }
 
-    fn add<R: Wait>(&mut self, rt: &R, job: J) -> Result<(), Refused<J>> {
+    /// Runs the job at once. It takes no memory of its own, so it never refuses one.
+    fn add<R: Wait>(&mut self, rt: &R, job: J) -> Result<(), Refused<J>>
+        requires { (J.head job).exec ≡ exec_of self.old }
+        ensures ok { OnOk result (RunsOnce J.runs self.old (J.head job) self.new) }
+        ensures refused { IfErr result (λ r. (r ≡ Memory job) × (self.new ≡ self.old)) }
+        ensures exec { exec_of self.new ≡ exec_of self.old }
+        ensures always { IsOk result }
+    {
         let id = job.id();
         let mark = job.run(rt, &mut *self.world);
         self.last = Some((id, mark));

@@ -13,6 +13,7 @@ pub use executor::Executor;
 pub use inline::InlineExecutor;
 pub use job::{Head, Headed, Job};
 pub use laws::{
-    WorldFact, kept_by_each_run, no_job_changes_nothing, one_job_more, one_list_after_another,
+    Meaning, OfJob, WorldFact, WorldRelation, all_jobs_of_two_lists, kept_by_each_run,
+    one_job_more, one_list_after_another, related_by_each_run, without_jobs_nothing_changes,
 };
 pub use manual::ManualExecutor;

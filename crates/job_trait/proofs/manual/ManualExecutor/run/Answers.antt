@@ -1,7 +1,7 @@
 use Rattle.std.proofs.Common.{◌≡◌, [], ◌∷◌, map, take, drop, length, suc, ◌+◌, ◌≤◌, arith, sym, ap, ◌∙◌, subst}
 use mathlib.Core.List.{map-append}
 use Rattle.job_trait.specs.Runs.{RunsAll}
-use Rattle.job_trait.specs.Laws.{runs_more}
+use Rattle.job_trait.proofs.Histories.{runs_more}
 use Rattle.job_trait.proofs.Oldest.{oldest}
 use Rattle.job_trait.proofs.manual.ManualExecutor.run.Goals as goal
 

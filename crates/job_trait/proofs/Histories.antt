@@ -1,6 +1,5 @@
--- What follows of jobs that ran one after another. The functions of `laws` have these laws as their contracts.
-use Rattle.std.specs.Prelude.{◌≡◌, List, [], ◌∷◌, ◌++◌, refl}
-use Rattle.std.proofs.Common.{subst, sym}
+-- What follows of jobs that ran one after another.
+use Rattle.std.proofs.Common.{◌≡◌, List, [], ◌∷◌, ◌++◌, refl, subst, sym}
 use Rattle.fan_base.specs.declared.number.JobId.{JobId}
 use Rattle.fan_base.specs.declared.number.Mark.{Mark}
 use Rattle.job_trait.specs.declared.job.Head.{Head}
@@ -40,6 +39,13 @@ module _ {W : Type 0} (runs : JobId → W → Mark → W → Type 0) where
   pub leads_more : (w m v : W) (xs : List Ran) (id : JobId) (mark : Mark) → Leads runs w xs m → runs id m mark v → Leads runs w (xs ++ (id, mark) ∷ []) v
   leads_more w m v xs id mark leads ran = leads-append w m v xs ((id, mark) ∷ []) leads (leads_one m v id mark ran)
 
+  -- the last one comes apart
+  pub leads_last : (w v : W) (xs : List Ran) (id : JobId) (mark : Mark) → Leads runs w (xs ++ (id, mark) ∷ []) v → (m : W) × Leads runs w xs m × runs id m mark v
+  leads_last w v xs id mark all =
+      let parts = leads-part w v xs ((id, mark) ∷ []) all in
+      let one = parts.2.through in
+      (parts.0, parts.1, subst (λ (u : W). runs id parts.0 mark u) one.2 one.1)
+
   through_keeps : (P : W → Type 0) → ((id : JobId) (w : W) (mark : Mark) (v : W) → runs id w mark v → P w → P v) → (w v : W) (xs : List Ran) → Through runs w xs v → P w → P v
   through_keeps P each w v [] all here = subst P all here
   through_keeps P each w v (x ∷ xs) all here = through_keeps P each all.0 v xs all.2 (each x.0 w x.1 all.0 all.1 here)
@@ -47,6 +53,17 @@ module _ {W : Type 0} (runs : JobId → W → Mark → W → Type 0) where
   -- a fact that each run keeps, the list keeps
   pub leads_keeps : (P : W → Type 0) → ((id : JobId) (w : W) (mark : Mark) (v : W) → runs id w mark v → P w → P v) → (w v : W) (xs : List Ran) → Leads runs w xs v → P w → P v
   leads_keeps P each w v xs leads here = through_keeps P each w v xs leads.through here
+
+module _ {W : Type 0} (runs : JobId → W → Mark → W → Type 0) where
+  through_relates : (P : W → W → Type 0) → ((w : W) → P w w) → ((w m v : W) → P w m → P m v → P w v) → ((id : JobId) (w : W) (mark : Mark) (v : W) → runs id w mark v → P w v)
+      → (w v : W) (xs : List Ran) → Through runs w xs v → P w v
+  through_relates P at_rest joined each w v [] all = subst (P w) all (at_rest w)
+  through_relates P at_rest joined each w v (x ∷ xs) all = joined w all.0 v (each x.0 w x.1 all.0 all.1) (through_relates P at_rest joined each all.0 v xs all.2)
+
+  -- a relation of worlds that each run keeps, the list keeps
+  pub leads_relates : (P : W → W → Type 0) → ((w : W) → P w w) → ((w m v : W) → P w m → P m v → P w v) → ((id : JobId) (w : W) (mark : Mark) (v : W) → runs id w mark v → P w v)
+      → (w v : W) (xs : List Ran) → Leads runs w xs v → P w v
+  leads_relates P at_rest joined each w v xs leads = through_relates P at_rest joined each w v xs leads.through
 
 are_marks-append : (hs gs : List Head) (xs ys : List Ran) → AreMarksOf hs xs → AreMarksOf gs ys → AreMarksOf (hs ++ gs) (xs ++ ys)
 are_marks-append [] gs [] ys first second = second
@@ -65,6 +82,9 @@ module _ {W : Type 0} (runs : JobId → W → Mark → W → Type 0) where
     leads = leads-append runs w m v first.list second.list first.leads second.leads;
   }
 
+  pub runs_one : (w v : W) (h : Head) (mark : Mark) → IsMarkOf h.number mark → runs h.id w mark v → RunsAll runs (h ∷ []) w v
+  runs_one w v h mark may ran = record { list = (h.id, mark) ∷ []; marks = (refl, may, tt); leads = leads_one runs w v h.id mark ran }
+
   pub runs_more : (w m v : W) (hs : List Head) (h : Head) (mark : Mark) → RunsAll runs hs w m → IsMarkOf h.number mark → runs h.id m mark v → RunsAll runs (hs ++ h ∷ []) w v
   runs_more w m v hs h mark first may ran =
-      runs-append w m v hs (h ∷ []) first record { list = (h.id, mark) ∷ []; marks = (refl, may, tt); leads = leads_one runs m v h.id mark ran }
+      runs-append w m v hs (h ∷ []) first (runs_one m v h mark may ran)
