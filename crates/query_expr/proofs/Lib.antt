@@ -1,0 +1,10 @@
+pub mod Machine
+pub mod Texts
+pub mod Answering
+pub mod Depths
+pub mod Trees
+pub mod Fronts
+pub mod Firsts
+pub mod Answered
+pub mod Splits
+pub mod Slowly

@@ -1,0 +1,10 @@
+use Rattle.std.proofs.Common.{◌≡◌, ℕ, ◌<◌, None}
+use Rattle.query_grammar.specs.Grammar.{Kind}
+use Rattle.query_expr.specs.Slow.{Finds, closed}
+use Rattle.query_expr.proofs.slow.goes_on.Given as goal
+
+abbrev pub invariant-loop : goal.invariant-loop
+invariant-loop l = record {
+  closed_so : l.whole.items ≡ closed l.tokens l.fn.word l.counter;
+  none_before : (k : ℕ) → k < l.counter → Finds Kind.either (closed l.tokens l.fn.word k) None;
+}

@@ -1,0 +1,18 @@
+//! Expressions over the words of a document: `parse` reads one from its tokens, and `holds` says whether it holds for a
+//! document.
+#![tactic(auto)]
+
+pub use law::grammar_law;
+pub use parsing::parse;
+pub use query_grammar::{Expr, ExprFault, Node, Token};
+pub use truth::holds;
+
+mod law;
+mod open;
+mod parsing;
+mod reader;
+#[cfg(test)]
+mod slow;
+#[cfg(test)]
+mod tests;
+mod truth;

@@ -1,0 +1,201 @@
+ghost use Rattle.std.specs.Prelude.{◌≤◌, length};
+
+use crate::slow::parse_slowly;
+use crate::{Expr, ExprFault, Node, Token, holds, parse};
+use fan_base::{Doc, Word, WordFault, Words};
+use query_grammar::limits::{MOST_DEPTH, MOST_TOKENS};
+use std::alloc::{AllocError, Global};
+use std::process::Abort;
+use std::test::Fail;
+
+// A token for each byte: a word of one byte, or a mark.
+fn token_of(byte: u8) -> Result<Token, WordFault> {
+    match byte {
+        b'|' => Ok(Token::Bar),
+        b'!' => Ok(Token::Bang),
+        b'(' => Ok(Token::Left),
+        b')' => Ok(Token::Right),
+        _ => Ok(Token::Word(Word::new(&[byte])?)),
+    }
+}
+
+fn tokens_of(alloc: Global, text: &[u8]) -> Result<Vec<Token>, Fail> {
+    let mut tokens = Vec::new(alloc);
+    for byte in text {
+        tokens.push(token_of(*byte)?)?;
+    }
+    Ok(tokens)
+}
+
+// The tree with each sign before what it joins: `!` for Not, `&` for Both, `|` for Either.
+fn show(e: &Expr, out: &mut Vec<u8>) -> Result<(), AllocError> {
+    match e.node() {
+        Node::Word(word) => out.extend_from_slice(word.as_bytes()),
+        Node::Not(e) => {
+            out.push(b'!')?;
+            show(e, out)
+        }
+        Node::Both(a, b) => {
+            out.push(b'&')?;
+            show(a, out)?;
+            show(b, out)
+        }
+        Node::Either(a, b) => {
+            out.push(b'|')?;
+            show(a, out)?;
+            show(b, out)
+        }
+    }
+}
+
+fn shown(alloc: Global, e: &Expr) -> Result<Vec<u8>, AllocError> {
+    let mut out = Vec::new(alloc);
+    show(e, &mut out)?;
+    Ok(out)
+}
+
+// One word, behind so many of a mark.
+fn marks_before_a_word(alloc: Global, mark: Token, count: usize) -> Result<Vec<Token>, Fail> {
+    let mut tokens = Vec::new(alloc);
+    for _ in 0..count {
+        tokens.push(mark)?;
+    }
+    tokens.push(token_of(b'a')?)?;
+    Ok(tokens)
+}
+
+#[test]
+fn trees_by_precedence(rt: HostRuntime) -> Result<(), Fail> {
+    for (text, tree) in [
+        (b"a".as_slice(), b"a".as_slice()),
+        (b"ab", b"&ab"),
+        (b"abc", b"&&abc"),
+        (b"a|b|c", b"||abc"),
+        (b"ab|c", b"|&abc"),
+        (b"a|bc", b"|a&bc"),
+        (b"!ab", b"&!ab"),
+        (b"!!a", b"!!a"),
+        (b"!(ab)", b"!&ab"),
+        (b"a(b|c)", b"&a|bc"),
+        (b"((a))", b"a"),
+        (b"a|(b|c)", b"|a|bc"),
+        (b"a(bc)", b"&a&bc"),
+        (b"!(a|!b)c|d", b"|&!|a!bcd"),
+    ] {
+        let tokens = tokens_of(rt.alloc(), text)?;
+        let e = parse(rt.alloc(), &tokens)?;
+        assert_eq!(rt; shown(rt.alloc(), &e)?.as_slice(), tree);
+    }
+    Ok(())
+}
+
+#[test]
+fn faults_at_their_places(rt: HostRuntime) -> Result<(), Fail> {
+    for (text, fault) in [
+        (b"".as_slice(), ExprFault::Empty),
+        (b"a|", ExprFault::Unclosed),
+        (b")", ExprFault::Unexpected(0)),
+        (b"|a", ExprFault::Unexpected(0)),
+        (b"a)", ExprFault::Unexpected(1)),
+        (b"()", ExprFault::Unexpected(1)),
+        (b"!|a", ExprFault::Unexpected(1)),
+        (b"a||b", ExprFault::Unexpected(2)),
+        (b"(a|)", ExprFault::Unexpected(3)),
+        (b"(a))(", ExprFault::Unexpected(3)),
+        (b"(a", ExprFault::Unclosed),
+        (b"a!", ExprFault::Unclosed),
+        (b"a(", ExprFault::Unclosed),
+    ] {
+        let tokens = tokens_of(rt.alloc(), text)?;
+        match parse(rt.alloc(), &tokens) {
+            Ok(_) => assert!(rt; false, "{fault:?}"),
+            Err(found) => assert_eq!(rt; found, fault),
+        }
+    }
+    Ok(())
+}
+
+#[test]
+fn limits_of_depth_and_length(rt: HostRuntime) -> Result<(), Fail> {
+    let deep = marks_before_a_word(rt.alloc(), Token::Bang, MOST_DEPTH)?;
+    assert!(rt; parse(rt.alloc(), &deep).is_ok());
+    let too_deep = marks_before_a_word(rt.alloc(), Token::Bang, MOST_DEPTH + 1)?;
+    match parse(rt.alloc(), &too_deep) {
+        Ok(_) => assert!(rt; false),
+        Err(fault) => assert_eq!(rt; fault, ExprFault::TooDeep(MOST_DEPTH)),
+    }
+    let brackets = marks_before_a_word(rt.alloc(), Token::Left, MOST_DEPTH + 1)?;
+    match parse(rt.alloc(), &brackets) {
+        Ok(_) => assert!(rt; false),
+        Err(fault) => assert_eq!(rt; fault, ExprFault::TooDeep(MOST_DEPTH)),
+    }
+    let mut words = vec![in rt.alloc(); token_of(b'a')?; MOST_TOKENS]?;
+    assert!(rt; parse(rt.alloc(), &words).is_ok());
+    words.push(Token::Right)?;
+    match parse(rt.alloc(), &words) {
+        Ok(_) => assert!(rt; false),
+        Err(fault) => assert_eq!(rt; fault, ExprFault::TooLong),
+    }
+    Ok(())
+}
+
+#[test]
+fn truth_over_the_words_of_a_document(rt: HostRuntime) -> Result<(), Fail> {
+    let mut words = Words::new(rt.alloc());
+    words.push(Word::new(b"a")?)?;
+    words.push(Word::new(b"c")?)?;
+    let doc = Doc { id: 1, words };
+    for (text, truth) in [
+        (b"ab".as_slice(), false),
+        (b"ac", true),
+        (b"b|c", true),
+        (b"!b", true),
+        (b"!(ac)", false),
+        (b"a!b", true),
+    ] {
+        let tokens = tokens_of(rt.alloc(), text)?;
+        let e = parse(rt.alloc(), &tokens)?;
+        assert_eq!(rt; holds(&e, &doc), truth);
+    }
+    Ok(())
+}
+
+// The list of tokens with this number among those of a length: its digits to the base 5.
+fn numbered_list(alloc: Global, length: usize, number: usize) -> Result<Vec<Token>, Fail> {
+    let mut rest = number;
+    let mut tokens = Vec::new(alloc);
+    for _ in 0..length {
+        tokens.push(token_of(b"a|!()"[rest % 5])?)?;
+        rest /= 5;
+    }
+    Ok(tokens)
+}
+
+fn compare(rt: &impl Abort, alloc: Global, tokens: &[Token], word: Word) -> Result<(), Fail>
+    requires { length tokens.now ≤ 64 }
+{
+    match (parse(alloc, tokens), parse_slowly(alloc, tokens, word)) {
+        (Ok(quick), Ok(slow)) => {
+            assert_eq!(rt;
+                shown(alloc, &quick)?.as_slice(),
+                shown(alloc, &slow)?.as_slice()
+            );
+        }
+        (Err(quick), Err(slow)) => assert_eq!(rt; quick, slow),
+        _ => assert!(rt; false, "at {tokens:?}"),
+    }
+    Ok(())
+}
+
+#[test]
+fn short_lists_by_the_plain_program(rt: HostRuntime) -> Result<(), Fail> {
+    let word = Word::new(b"z")?;
+    for (length, lists) in [(0, 1), (1, 5), (2, 25), (3, 125), (4, 625), (5, 3_125)] {
+        for number in 0..lists {
+            let tokens = numbered_list(rt.alloc(), length, number)?;
+            assert!(rt; tokens.len() <= 64);
+            compare(&rt, rt.alloc(), &tokens, word)?;
+        }
+    }
+    Ok(())
+}
