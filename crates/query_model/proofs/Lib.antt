@@ -1,0 +1,4 @@
+pub mod ListFacts
+pub mod LineLaws
+pub mod ReadingLaws
+pub mod LimitLaws

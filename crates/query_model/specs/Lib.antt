@@ -1,0 +1,12 @@
+pub mod Results
+pub mod Limits
+pub mod Pieces
+pub mod Numbers
+pub mod Expressions
+pub mod Lines
+pub mod Reading
+pub mod Documents
+pub mod Answers
+pub mod Merging
+pub mod Output
+pub mod Laws

@@ -1,0 +1,18 @@
+use fan_base::Ids;
+
+/// Which documents hold.
+#[derive(Debug, Drop)]
+pub struct Hits {
+    /// The first ids of those documents, ascending, and at most 100.
+    pub ids: Ids,
+    /// How many documents hold, listed or not.
+    pub total: u64,
+}
+
+/// The answer of a query.
+#[derive(Debug, Drop)]
+pub enum Reply {
+    Find(Hits),
+    Count(u64),
+    Present(bool),
+}

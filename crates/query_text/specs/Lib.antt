@@ -1,0 +1,5 @@
+pub mod Cuts
+pub mod Outcomes
+pub mod Sayings
+pub mod Progress
+pub mod Tracks

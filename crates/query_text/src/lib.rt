@@ -1,0 +1,27 @@
+//! The text of inputs, replies and error lines.
+#![tactic(auto)]
+
+pub use law::input_law;
+pub use query_model::{
+    Ask, BadInput, BadKind, Expr, ExprFault, Hits, Input, InputFault, Limit, Line, Lines, Prio,
+    Query, Reply,
+};
+pub use read::read_input;
+pub use reply::{error_line, reply_line};
+
+mod cut;
+mod fault;
+mod fields;
+mod law;
+mod line;
+mod number;
+mod parts;
+mod pieces;
+mod read;
+mod reply;
+mod said;
+mod so_far;
+#[cfg(test)]
+mod tests;
+mod tokens;
+mod words;

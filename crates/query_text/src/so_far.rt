@@ -1,0 +1,141 @@
+ghost use Rattle.std.specs.Prelude.{◌≡◌, ◌+◌, ◌*◌, ◌++◌, ◌∷◌, [], Ok, Err, OnOk, IfErr, IfOk, nat_lt, nat_le};
+ghost use Rattle.std.specs.List.{list_any, count_by};
+ghost use Rattle.query_model.specs.Lines.{doc_room, query_room, is_query, has_id, is_doc};
+
+use fan_base::Doc;
+use query_model::limits::{MOST_DOCUMENTS, MOST_QUERIES, MOST_TASKS};
+use query_model::{BadKind, InputFault, Limit, Line, Lines, Query};
+use std::alloc::Global;
+use std::collections::BTreeSet;
+use std::marker::Model;
+
+/// The lines read so far, and what is to be known of them where the next line is checked.
+#[derive(Drop)]
+pub struct SoFar {
+    lines: Lines,
+    ids: BTreeSet<u32>,
+    documents: usize,
+}
+
+impl Model for SoFar {
+    ghost use Rattle.std.specs.Prelude.{List};
+    ghost use Rattle.query_model.specs.declared.line.Line.{Line};
+    ghost use Rattle.query_text.specs.Tracks.{Tracks};
+
+    ghost Value = { List Line };
+
+    ghost view = { λ s. s.lines };
+
+    ghost invariant = { Tracks };
+
+    ghost use Rattle.query_grammar.specs.contracts.expr.Expr as expr;
+    ghost use Rattle.std.specs.Coded.{codes};
+
+    ghost coded = { Prim.hlevel (codes, expr.the_row.coded) };
+}
+
+impl SoFar {
+    pub fn new(alloc: Global) -> Self
+        ensures { result ≡ [] }
+    {
+        SoFar {
+            lines: Lines::new(alloc),
+            ids: BTreeSet::new(alloc),
+            documents: 0,
+        }
+    }
+
+    pub fn into_lines(self) -> Lines
+        ensures { result ≡ self }
+    {
+        let SoFar { lines, .. } = self;
+        lines
+    }
+
+    fn queries(&self) -> usize
+        ensures { result ≡ count_by is_query self.now }
+    {
+        self.lines.len() - self.documents
+    }
+
+    pub fn has_query(&self) -> bool
+        ensures { result ≡ list_any is_query self.now }
+    {
+        self.queries() > 0
+    }
+
+    /// Whether there is room for a document with this id.
+    pub fn doc_room(&self, id: u32) -> Result<(), BadKind>
+        ensures { result ≡ doc_room self.now id }
+    {
+        if self.ids.contains(&id) {
+            return Err(BadKind::DuplicateDoc);
+        }
+        if self.documents >= MOST_DOCUMENTS {
+            return Err(BadKind::Limit(Limit::Documents));
+        }
+        Ok(())
+    }
+
+    /// Whether there is room for a query, over so many shards.
+    pub fn query_room(&self, shards: u32) -> Result<(), BadKind>
+        ensures { result ≡ query_room shards self.now }
+    {
+        let queries = self.queries();
+        if queries >= MOST_QUERIES {
+            return Err(BadKind::Limit(Limit::Queries));
+        }
+        if (queries as u64 + 1) * u64::from(shards) > MOST_TASKS {
+            return Err(BadKind::Limit(Limit::Tasks));
+        }
+        Ok(())
+    }
+
+    /// The lines with one more.
+    pub fn with(self, line: Line) -> Result<SoFar, InputFault>
+        ensures ok { IfOk result (λ more. more ≡ self ++ line ∷ []) }
+        ensures err { IfErr result (λ fault. fault ≡ InputFault.Memory) }
+    {
+        match line {
+            Line::Doc(doc) => self.with_doc(doc),
+            Line::Query(query) => self.with_query(query),
+        }
+    }
+
+    fn with_doc(self, doc: Doc) -> Result<SoFar, InputFault>
+        ensures ok { IfOk result (λ more. more ≡ self ++ Line.Doc doc ∷ []) }
+        ensures err { IfErr result (λ fault. fault ≡ InputFault.Memory) }
+    {
+        let SoFar {
+            mut lines,
+            mut ids,
+            documents,
+        } = self;
+        ids.insert(doc.id)?;
+        lines.push(Line::Doc(doc))?;
+        let many = lines.len();
+        prove!(documents < many);
+        Ok(SoFar {
+            lines,
+            ids,
+            documents: documents + 1,
+        })
+    }
+
+    fn with_query(self, query: Query) -> Result<SoFar, InputFault>
+        ensures ok { IfOk result (λ more. more ≡ self ++ Line.Query query ∷ []) }
+        ensures err { IfErr result (λ fault. fault ≡ InputFault.Memory) }
+    {
+        let SoFar {
+            mut lines,
+            ids,
+            documents,
+        } = self;
+        lines.push(Line::Query(query))?;
+        Ok(SoFar {
+            lines,
+            ids,
+            documents,
+        })
+    }
+}

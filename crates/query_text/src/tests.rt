@@ -1,0 +1,191 @@
+use super::*;
+use fan_base::Memory;
+use std::alloc::{AllocError, Global};
+use std::test::Fail;
+
+/// The error line of a text, or nothing where it is accepted.
+fn error_of(alloc: Global, text: &[u8]) -> Result<Vec<u8>, Memory> {
+    match read_input(alloc, text, 4) {
+        Ok(_) => Ok(Vec::new(alloc)),
+        Err(InputFault::Bad(bad)) => error_line(alloc, &bad),
+        Err(InputFault::Memory) => Err(Memory),
+    }
+}
+
+/// The text `head` and then so many times `piece`.
+fn repeated(alloc: Global, head: &[u8], piece: &[u8], times: usize) -> Result<Vec<u8>, AllocError> {
+    let mut text = head.to_vec(alloc)?;
+    for _ in 0..times {
+        text.extend_from_slice(piece)?;
+    }
+    Ok(text)
+}
+
+#[test]
+fn each_line_has_its_fault(rt: HostRuntime) -> Result<(), Fail> {
+    for (line, text) in [
+        (b"find a\x80".as_slice(), "bad byte"),
+        (b"find a\x00", "bad byte"),
+        (b"find a\t", "bad byte"),
+        (b"top\x7f 1 a", "bad byte"),
+        (b"find a\r\r", "bad byte"),
+        (b"findx a", "unknown command"),
+        (b"find(a)", "unknown command"),
+        (b"hi lo find a", "unknown command"),
+        (b"lo after 1 find a", "unknown command"),
+        (b"lo tick", "unknown command"),
+        (b"tick 1", "not built yet"),
+        (b"after 0 find a", "not built yet"),
+        (b"TOP", "not built yet"),
+        (b"lo top", "not built yet"),
+        (b"doc x", "bad number"),
+        (b"doc 4294967296", "bad number"),
+        (b"doc +1 $", "bad number"),
+        (b"doc 1 a-b", "bad word"),
+        (b"find a-b", "bad word"),
+        (b"find ) a $", "bad word"),
+        (b"find aaaaaaaaaaaaaaaaaaaaaaaaaaaaaaaaa", "bad word"),
+        (b"doc", "missing field"),
+        (b"hi", "missing field"),
+        (b"find", "bad expression"),
+        (b"find )", "bad expression"),
+        (b"find a |", "bad expression"),
+        (b"find (a", "bad expression"),
+        (b"find (a | b", "bad expression"),
+        (b"find ()", "bad expression"),
+    ] {
+        let wanted = format!(in rt.alloc(); "error line 1: {text}\n")?;
+        let found = error_of(rt.alloc(), line)?;
+        assert_eq!(rt; found.as_slice(), wanted.as_bytes(), "{text}");
+    }
+    Ok(())
+}
+
+#[test]
+fn limits_of_a_line(rt: HostRuntime) -> Result<(), Fail> {
+    for (head, piece, times, text) in [
+        (
+            b"doc 1".as_slice(),
+            b" a".as_slice(),
+            1_001,
+            "error line 1: too many words\n",
+        ),
+        (b"doc 1", b" a", 1_000, ""),
+        (b"doc 1 $", b" a", 1_000, "error line 1: bad word\n"),
+        (b"find", b" a", 1_025, "error line 1: expression too long\n"),
+        (b"find", b" )", 1_025, "error line 1: expression too long\n"),
+        (b"find", b" a", 1_024, ""),
+        (
+            b"find a\nfind a",
+            b"!",
+            64,
+            "error line 2: bad expression\n",
+        ),
+        (b"find ", b"!", 65, "error line 1: expression too deep\n"),
+        (b"find ", b"(", 64, "error line 1: bad expression\n"),
+    ] {
+        let line = repeated(rt.alloc(), head, piece, times)?;
+        let found = error_of(rt.alloc(), line.as_slice())?;
+        assert_eq!(rt; found.as_slice(), text.as_bytes(), "{text}");
+    }
+    let mut deep = repeated(rt.alloc(), b"find ", b"!", 64)?;
+    deep.push(b'a')?;
+    assert_eq!(rt;
+        error_of(rt.alloc(), deep.as_slice())?.as_slice(),
+        b"".as_slice()
+    );
+    Ok(())
+}
+
+#[test]
+fn first_fault_of_a_file(rt: HostRuntime) -> Result<(), Fail> {
+    for (text, wanted) in [
+        (b"".as_slice(), ""),
+        (b"\n\r\n   \n# \xff\n  #\nfind a\n\r", ""),
+        (b"doc 4 x\ndoc 04 y\n", "error line 2: duplicate document\n"),
+        (
+            b"count a\ndoc 1 a\n",
+            "error line 2: document after query\n",
+        ),
+        (b"find a\n\ndoc\n", "error line 3: document after query\n"),
+        (
+            b"find A\ndoc x\nfind )\n",
+            "error line 2: document after query\n",
+        ),
+        (b"find red\nfind (re", "error line 2: bad expression\n"),
+        (b"doc 5 a\nhi exists a\nlo exists b\n", ""),
+    ] {
+        let found = error_of(rt.alloc(), text)?;
+        assert_eq!(rt; found.as_slice(), wanted.as_bytes(), "{wanted}");
+    }
+    Ok(())
+}
+
+#[test]
+fn capitals_carriage_returns_and_comments(rt: HostRuntime) -> Result<(), Fail> {
+    let text = b"DOC  1 Red\r\n\r\n# note\r\nHI find RED";
+    match read_input(rt.alloc(), text, 64) {
+        Ok(input) => {
+            assert_eq!(rt; input.lines.len(), 2);
+            match input.lines.get(0) {
+                Some(Line::Doc(doc)) => {
+                    assert_eq!(rt; doc.id, 1);
+                    assert_eq!(rt; doc.words.len(), 1);
+                    assert_eq!(rt; doc.words.as_slice()[0].as_bytes(), b"red".as_slice());
+                }
+                _ => assert!(rt; false),
+            }
+            match input.lines.get(1) {
+                Some(Line::Query(query)) => assert_eq!(rt; query.prio, Prio::Hi),
+                _ => assert!(rt; false),
+            }
+        }
+        Err(_) => assert!(rt; false),
+    }
+    Ok(())
+}
+
+#[test]
+fn queries_times_shards(rt: HostRuntime) -> Result<(), Fail> {
+    let mut text = repeated(rt.alloc(), b"", b"count a\n", 4_096)?;
+    assert!(rt; read_input(rt.alloc(), text.as_slice(), 64).is_ok());
+    text.extend_from_slice(b"count a\n")?;
+    let bad = BadInput {
+        line: 4_097,
+        kind: BadKind::Limit(Limit::Tasks),
+    };
+    let found = read_input(rt.alloc(), text.as_slice(), 64).err();
+    assert_eq!(rt; found, Some(InputFault::Bad(bad)));
+    assert!(rt; read_input(rt.alloc(), text.as_slice(), 63).is_ok());
+    Ok(())
+}
+
+#[test]
+fn lines_of_replies(rt: HostRuntime) -> Result<(), Fail> {
+    let alloc = rt.alloc();
+    let mut ids = fan_base::Ids::new(alloc);
+    ids.push(4)?;
+    ids.push(7)?;
+    for (number, reply, wanted) in [
+        (1, Reply::Find(Hits { ids, total: 2 }), "1 find 2: 4 7\n"),
+        (
+            2,
+            Reply::Find(Hits {
+                ids: fan_base::Ids::new(alloc),
+                total: 0,
+            }),
+            "2 find 0:\n",
+        ),
+        (
+            3,
+            Reply::Count(18_446_744_073_709_551_615),
+            "3 count 18446744073709551615\n",
+        ),
+        (4, Reply::Present(true), "4 exists yes\n"),
+        (5, Reply::Present(false), "5 exists no\n"),
+    ] {
+        let line = reply_line(alloc, number, &reply)?;
+        assert_eq!(rt; line.as_slice(), wanted.as_bytes());
+    }
+    Ok(())
+}

@@ -1,0 +1,37 @@
+ghost use Rattle.std.specs.Prelude.{◌≡◌};
+ghost use Rattle.query_model.specs.Lines.{words_of};
+ghost use Rattle.query_text.specs.Outcomes.{Gives};
+ghost use Rattle.query_text.specs.Sayings.{word_in};
+
+use crate::fault::{BAD_WORD, LineFault, TOO_MANY_WORDS};
+use crate::fields::Fields;
+use fan_base::{Word, WordFault, Words};
+use query_model::limits::MOST_WORDS;
+use std::alloc::Global;
+
+/// The words that the fields behind an id are.
+pub fn words_of(alloc: Global, mut fields: Fields<'_>) -> Result<Words, LineFault>
+    ensures { Gives result (words_of fields.entry) }
+{
+    let mut words = Words::new(alloc);
+    'texts: while let Some(text) = fields.next() {
+        if words.len() == MOST_WORDS {
+            return Err(TOO_MANY_WORDS);
+        }
+        match word_of(text) {
+            Ok(word) => words.push(word)?,
+            Err(fault) => return Err(fault),
+        }
+    }
+    Ok(words)
+}
+
+pub fn word_of(text: &[u8]) -> Result<Word, LineFault>
+    ensures { Gives result (word_in text.now) }
+{
+    match Word::new(text) {
+        Ok(word) => Ok(word),
+        Err(WordFault::BadWord) => Err(BAD_WORD),
+        Err(WordFault::Memory) => Err(LineFault::Memory),
+    }
+}
