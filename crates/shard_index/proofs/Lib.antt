@@ -1,0 +1,10 @@
+pub mod Counting
+pub mod OrderLemmas
+pub mod IdLemmas
+pub mod PostingLemmas
+pub mod PartLemmas
+pub mod JoinLemmas
+pub mod SelectionLemmas
+pub mod MergeLemmas
+pub mod TestLemmas
+pub mod FrontLemmas

@@ -1,0 +1,68 @@
+ghost use Rattle.std.specs.Prelude.{◌≡◌, ◌++◌, ◌∷◌, [], List, Bool, IfOk, OnOk, if◌then◌else◌};
+ghost use Rattle.fan_base.specs.declared.doc.Doc.{Doc};
+ghost use Rattle.shard_index.specs.Order.{ids_where, IsRising};
+ghost use Rattle.shard_index.specs.Joins.{keeps};
+
+use std::alloc::{AllocError, Global};
+
+/// Which ids of two lists are kept when they are joined.
+#[derive(Clone, Copy)]
+pub struct Keep {
+    /// Those that only the first list has.
+    pub first_alone: bool,
+    /// Those that both have.
+    pub both: bool,
+    /// Those that only the second has.
+    pub second_alone: bool,
+}
+
+/// Joins two ascending lists of ids.
+pub fn join(
+    alloc: Global,
+    keep: Keep,
+    first: &[u32],
+    second: &[u32],
+) -> Result<Vec<u32>, AllocError>
+    ensures { (p q : Doc → Bool) (docs : List Doc) → IsRising docs → first.now ≡ ids_where p docs → second.now ≡ ids_where q docs
+        → IfOk result (λ kept. kept.items ≡ ids_where (λ doc. keeps keep (p doc) (q doc)) docs) }
+{
+    let mut kept = Vec::new(alloc);
+    let mut i = 0;
+    let mut j = 0;
+    'ids: while i < first.len() && j < second.len() {
+        let x = first[i];
+        let y = second[j];
+        if x < y {
+            push_if(&mut kept, keep.first_alone, x)?;
+            i += 1;
+        } else if y < x {
+            push_if(&mut kept, keep.second_alone, y)?;
+            j += 1;
+        } else {
+            push_if(&mut kept, keep.both, x)?;
+            i += 1;
+            j += 1;
+        }
+    }
+    extend_if(&mut kept, keep.first_alone, &first[i..])?;
+    extend_if(&mut kept, keep.second_alone, &second[j..])?;
+    Ok(kept)
+}
+
+fn push_if(kept: &mut Vec<u32>, wanted: bool, id: u32) -> Result<(), AllocError>
+    ensures { OnOk result (kept.new.items ≡ kept.old.items ++ (if wanted then id ∷ [] else [])) }
+{
+    if wanted {
+        kept.push(id)?;
+    }
+    Ok(())
+}
+
+fn extend_if(kept: &mut Vec<u32>, wanted: bool, ids: &[u32]) -> Result<(), AllocError>
+    ensures { OnOk result (kept.new.items ≡ kept.old.items ++ (if wanted then ids.now else [])) }
+{
+    if wanted {
+        kept.extend_from_slice(ids)?;
+    }
+    Ok(())
+}

@@ -1,0 +1,103 @@
+ghost use Rattle.std.specs.Prelude.{◌≡◌, List, Bool, not, ◌&&◌, ◌||◌, IfOk};
+ghost use Rattle.fan_base.specs.declared.doc.Doc.{Doc};
+ghost use Rattle.shard_index.specs.Order.{ids_where, IsRising};
+ghost use Rattle.shard_index.specs.Selections.{ids_listed, Selects};
+
+use crate::join::{Keep, join};
+use std::alloc::{AllocError, Global};
+
+/// Ids in ascending order, lent by the index or made.
+#[derive(Drop)]
+pub enum Listed<'a> {
+    Lent(&'a [u32]),
+    Made(Vec<u32>),
+}
+
+/// Some of the documents of an index. A complement costs nothing as long as nothing asks for its ids.
+#[derive(Drop)]
+pub enum Selection<'a> {
+    /// Those with these ids.
+    Those(Listed<'a>),
+    /// All but those.
+    AllBut(Listed<'a>),
+}
+
+impl Listed<'_> {
+    /// The ids, wherever they are kept.
+    pub fn ids(&self) -> &[u32]
+        ensures { result.now ≡ ids_listed self.now }
+    {
+        match self {
+            Listed::Lent(ids) => ids,
+            Listed::Made(ids) => ids.as_slice(),
+        }
+    }
+}
+
+impl<'a> Selection<'a> {
+    /// The documents that aren't selected.
+    pub fn complement(self) -> Selection<'a>
+        ensures { (test : Doc → Bool) (docs : List Doc) → Selects self.entry test docs → Selects result (λ doc. not (test doc)) docs }
+    {
+        match self {
+            Selection::Those(ids) => Selection::AllBut(ids),
+            Selection::AllBut(ids) => Selection::Those(ids),
+        }
+    }
+}
+
+/// The documents that both select.
+pub fn both<'a>(
+    alloc: Global,
+    a: &Selection<'_>,
+    b: &Selection<'_>,
+) -> Result<Selection<'a>, AllocError>
+    ensures { (p q : Doc → Bool) (docs : List Doc) → IsRising docs → Selects a.now p docs → Selects b.now q docs
+        → IfOk result (λ selection. Selects selection (λ doc. p doc && q doc) docs) }
+{
+    match (a, b) {
+        (Selection::Those(a), Selection::Those(b)) => Ok(Selection::Those(common(alloc, a, b)?)),
+        (Selection::Those(a), Selection::AllBut(b)) => Ok(Selection::Those(without(alloc, a, b)?)),
+        (Selection::AllBut(a), Selection::Those(b)) => Ok(Selection::Those(without(alloc, b, a)?)),
+        (Selection::AllBut(a), Selection::AllBut(b)) => Ok(Selection::AllBut(all(alloc, a, b)?)),
+    }
+}
+
+/// The ids that both lists have.
+fn common<'a>(alloc: Global, a: &Listed<'_>, b: &Listed<'_>) -> Result<Listed<'a>, AllocError>
+    ensures { (p q : Doc → Bool) (docs : List Doc) → IsRising docs → ids_listed a.now ≡ ids_where p docs → ids_listed b.now ≡ ids_where q docs
+        → IfOk result (λ listed. ids_listed listed ≡ ids_where (λ doc. p doc && q doc) docs) }
+{
+    let keep = Keep {
+        first_alone: false,
+        both: true,
+        second_alone: false,
+    };
+    Ok(Listed::Made(join(alloc, keep, a.ids(), b.ids())?))
+}
+
+/// The ids of the first list that the second doesn't have.
+pub fn without<'a>(alloc: Global, a: &Listed<'_>, b: &Listed<'_>) -> Result<Listed<'a>, AllocError>
+    ensures { (p q : Doc → Bool) (docs : List Doc) → IsRising docs → ids_listed a.now ≡ ids_where p docs → ids_listed b.now ≡ ids_where q docs
+        → IfOk result (λ listed. ids_listed listed ≡ ids_where (λ doc. p doc && not (q doc)) docs) }
+{
+    let keep = Keep {
+        first_alone: true,
+        both: false,
+        second_alone: false,
+    };
+    Ok(Listed::Made(join(alloc, keep, a.ids(), b.ids())?))
+}
+
+/// The ids that one of the lists has, or both.
+fn all<'a>(alloc: Global, a: &Listed<'_>, b: &Listed<'_>) -> Result<Listed<'a>, AllocError>
+    ensures { (p q : Doc → Bool) (docs : List Doc) → IsRising docs → ids_listed a.now ≡ ids_where p docs → ids_listed b.now ≡ ids_where q docs
+        → IfOk result (λ listed. ids_listed listed ≡ ids_where (λ doc. p doc || q doc) docs) }
+{
+    let keep = Keep {
+        first_alone: true,
+        both: true,
+        second_alone: true,
+    };
+    Ok(Listed::Made(join(alloc, keep, a.ids(), b.ids())?))
+}
