@@ -1,0 +1,109 @@
+-- What each ending of a run says.
+use Rattle.std.proofs.Common.{◌≡◌, ◌≤◌, [], length, Option, Some, None, Result, Ok, Err, refl, sym, ap, ◌∙◌, subst, arith, length-append, ◌⊎◌, inl, inr}
+use Rattle.std.specs.Option.{IfSome}
+use Rattle.std.specs.Result.{OnOk, OnErr}
+use Rattle.std.specs.Io.KnownBytes.{Consumes}
+use Rattle.std.proofs.KnownBytes.{Appends-nil}
+use Rattle.fan_base.specs.Outside.{Shown, FaultsRose}
+use Rattle.query_model.specs.declared.line.Input.{Input}
+use Rattle.query_model.specs.declared.fault.BadInput.{BadInput}
+use Rattle.query_model.specs.Pieces.{Bytes}
+use Rattle.query_model.specs.Reading.{Accepts, Refuses}
+use Rattle.query_model.specs.Output.{output}
+use Rattle.folly_query.specs.declared.report.Status.{Status}
+use Rattle.folly_query.specs.declared.report.Status.TheVariants as status
+use Rattle.folly_query.specs.Passing.{ReadsAll, ReadsTooMuch, GainsFront}
+use Rattle.folly_query.specs.Endings.{EndsAs, Comes, IsTextFor}
+
+-- nothing is a front of any text
+pub gains_nothing : (sink : Shown) (text : Bytes) → GainsFront sink sink text
+gains_nothing sink text = record { front = []; rest = text; whole = refl; gained = Appends-nil sink.bytes }
+
+pub written_or_front : {E G F R : Type 0} (r : Result (Unit {0}) E) → OnOk r G → OnErr r F → OnErr r R → G ⊎ (F × R)
+written_or_front (Ok x) g f r = inl g
+written_or_front (Err e) g f r = inr (f, r)
+
+module _ (source source' sink sink' : Shown) where
+  -- want of memory before anything was written
+  pub memory_ends : sink' ≡ sink → EndsAs source source' sink sink' status.Memory
+  memory_ends same = by source.bytes
+    where
+      by : (known : Option Bytes) → IfSome known (λ bytes. (text : Bytes) → IsTextFor bytes text → GainsFront sink sink' text)
+      by None = tt
+      by (Some bytes) = λ text is. subst (λ k. GainsFront sink k text) (sym same) (gains_nothing sink text)
+
+  pub memory_comes : (bytes : Bytes) → Comes bytes source source' sink sink' status.Memory
+  memory_comes bytes = record { done = λ input few a calm quiet. inr refl; refused = λ bad few r calm. inr refl; too_large = λ many calm. inr refl }
+
+  pub fault_comes : (bytes : Bytes) → FaultsRose source.faults source'.faults → Comes bytes source source' sink sink' status.ReadFault
+  fault_comes bytes rose = record { done = λ input few a calm quiet. absurd (calm rose); refused = λ bad few r calm. absurd (calm rose); too_large = λ many calm. absurd (calm rose) }
+
+  -- the bytes are more than what was read of them
+  longer : (bytes text : Bytes) (left : Option Bytes) → Consumes (Some bytes) left text → length text ≤ length bytes
+  longer bytes text None c = absurd c
+  longer bytes text (Some rest) c = omega (arith, ap length c, length-append text rest)
+
+  pub too_large_comes : (bytes text : Bytes) → source.bytes ≡ Some bytes → ReadsTooMuch source source' text → Comes bytes source source' sink sink' status.TooLarge
+  too_large_comes bytes text known much =
+      let more = longer bytes text source'.bytes (subst (λ b. Consumes b source'.bytes text) known much.consumed) in
+      record {
+        done = λ input few a calm quiet. absurd (omega (arith, more, much.many));
+        refused = λ bad few r calm. absurd (omega (arith, more, much.many));
+        too_large = λ many calm. inl refl;
+      }
+
+  all_of : (bytes text : Bytes) → source.bytes ≡ Some bytes → ReadsAll source source' text → bytes ≡ text
+  all_of bytes text known all = (subst (λ b. IfSome b (λ bs. (bs ≡ text) × (source'.bytes ≡ Some []))) known all.whole).0
+
+  -- the input was refused
+  pub refused_comes : (bytes text : Bytes) (bad : BadInput) → source.bytes ≡ Some bytes → ReadsAll source source' text
+      → ((input : Input) → Accepts text 4 input → ⊥) → ((other : BadInput) → Refuses text 4 other → bad ≡ other)
+      → Comes bytes source source' sink sink' (status.BadInput bad)
+  refused_comes bytes text bad known all never only =
+      let is = all_of bytes text known all in
+      record {
+        done = λ input few a calm quiet. absurd (never input (subst (λ t. Accepts t 4 input) is a));
+        refused = λ other few r calm. inl (ap (λ b. status.BadInput b) (only other (subst (λ t. Refuses t 4 other) is r)));
+        too_large = λ many calm. absurd (omega (arith, ap length is, all.few, many));
+      }
+
+  -- the input was accepted, and all was written
+  pub done_comes : (bytes text : Bytes) → source.bytes ≡ Some bytes → ReadsAll source source' text → ((bad : BadInput) → Refuses text 4 bad → ⊥) → Comes bytes source source' sink sink' status.Done
+  done_comes bytes text known all never =
+      let is = all_of bytes text known all in
+      record {
+        done = λ input few a calm quiet. inl refl;
+        refused = λ bad few r calm. absurd (never bad (subst (λ t. Refuses t 4 bad) is r));
+        too_large = λ many calm. absurd (omega (arith, ap length is, all.few, many));
+      }
+
+  -- the input was accepted, and the sink failed
+  pub write_fault_comes : (bytes text : Bytes) → source.bytes ≡ Some bytes → ReadsAll source source' text → ((bad : BadInput) → Refuses text 4 bad → ⊥) → FaultsRose sink.faults sink'.faults → Comes bytes source source' sink sink' status.WriteFault
+  write_fault_comes bytes text known all never rose =
+      let is = all_of bytes text known all in
+      record {
+        done = λ input few a calm quiet. absurd (quiet rose);
+        refused = λ bad few r calm. absurd (never bad (subst (λ t. Refuses t 4 bad) is r));
+        too_large = λ many calm. absurd (omega (arith, ap length is, all.few, many));
+      }
+
+  -- want of memory while the replies were written
+  pub answer_memory_ends : (text : Bytes) (input : Input) → ReadsAll source source' text → ((other : Input) → Accepts text 4 other → input ≡ other) → ((bad : BadInput) → Refuses text 4 bad → ⊥)
+      → GainsFront sink sink' (output input) → EndsAs source source' sink sink' status.Memory
+  answer_memory_ends text input all only never front = by source.bytes all.whole
+    where
+      for : (bytes t : Bytes) → bytes ≡ text → IsTextFor bytes t → GainsFront sink sink' t
+      for bytes t is (inl (other, a, e)) = subst (λ u. GainsFront sink sink' u) (ap output (only other (subst (λ u. Accepts u 4 other) is a)) ∙ sym e) front
+      for bytes t is (inr (bad, r, e)) = absurd (never bad (subst (λ u. Refuses u 4 bad) is r))
+
+      by : (known : Option Bytes) → IfSome known (λ bytes. (bytes ≡ text) × (source'.bytes ≡ Some [])) → IfSome known (λ bytes. (t : Bytes) → IsTextFor bytes t → GainsFront sink sink' t)
+      by None whole = tt
+      by (Some bytes) whole = λ t is. for bytes t whole.0 is
+
+  -- what holds of all known bytes
+  pub known_comes : (found : Status) → ((bytes : Bytes) → source.bytes ≡ Some bytes → Comes bytes source source' sink sink' found) → IfSome source.bytes (λ bytes. Comes bytes source source' sink sink' found)
+  known_comes found each = by source.bytes each
+    where
+      by : (known : Option Bytes) → ((bytes : Bytes) → known ≡ Some bytes → Comes bytes source source' sink sink' found) → IfSome known (λ bytes. Comes bytes source source' sink sink' found)
+      by None each = tt
+      by (Some bytes) each = each bytes refl

@@ -1,0 +1,51 @@
+-- What each status of a run says of its source and its sink, before and after.
+use Rattle.std.specs.Prelude.{◌≡◌, ◌≤◌, ◌<◌, ◌⊎◌, length, IfSome}
+use Rattle.fan_base.specs.Outside.{Shown, FaultsRose}
+use Rattle.query_model.specs.declared.line.Input.{Input}
+use Rattle.query_model.specs.declared.fault.BadInput.{BadInput}
+use Rattle.query_model.specs.Pieces.{Bytes}
+use Rattle.query_model.specs.Reading.{Accepts, Refuses}
+use Rattle.query_model.specs.Output.{output, error_text}
+use Rattle.folly_query.specs.declared.report.Status.{Status}
+use Rattle.folly_query.specs.declared.report.Status.TheVariants as status
+use Rattle.folly_query.specs.Passing.{most_bytes, ReadsAll, ReadsTooMuch, Gains, GainsFront}
+
+-- what is to be written for the bytes of a source: the replies where they are accepted, and else the error line
+abbrev pub IsTextFor : Bytes → Bytes → Type 0
+IsTextFor bytes text =
+    ((input : Input) × Accepts bytes 4 input × (text ≡ output input))
+    ⊎ ((bad : BadInput) × Refuses bytes 4 bad × (text ≡ error_text bad))
+
+abbrev pub EndsAs : Shown → Shown → Shown → Shown → Status → Type 0
+-- all was read, it is accepted, and the sink gained the replies
+EndsAs source source' sink sink' status.Done =
+    (text : Bytes) × ReadsAll source source' text × (input : Input) × Accepts text 4 input × Gains sink sink' (output input)
+-- the sink gained a front of what is to be written for the bytes that the source had
+EndsAs source source' sink sink' status.Memory =
+    IfSome source.bytes (λ bytes. (text : Bytes) → IsTextFor bytes text → GainsFront sink sink' text)
+EndsAs source source' sink sink' status.Usage = ⊥
+-- all was read, it is refused, and the sink gained the error line, or a front of it where its faults rose
+EndsAs source source' sink sink' (status.BadInput bad) =
+    (text : Bytes) × ReadsAll source source' text × Refuses text 4 bad
+    × (Gains sink sink' (error_text bad) ⊎ (GainsFront sink sink' (error_text bad) × FaultsRose sink.faults sink'.faults))
+-- the source's faults rose, and nothing was written
+EndsAs source source' sink sink' status.ReadFault = FaultsRose source.faults source'.faults × (sink' ≡ sink)
+-- all was read, it is accepted, the sink's faults rose, and it gained a front of the replies
+EndsAs source source' sink sink' status.WriteFault =
+    (text : Bytes) × ReadsAll source source' text × (input : Input) × Accepts text 4 input
+    × GainsFront sink sink' (output input) × FaultsRose sink.faults sink'.faults
+-- more than 67,108,864 bytes were read, and nothing was written
+EndsAs source source' sink sink' status.TooLarge = (text : Bytes) × ReadsTooMuch source source' text × (sink' ≡ sink)
+
+-- it is this status, or want of memory
+abbrev pub IsOrMemory : Status → Status → Type 0
+IsOrMemory found expected = (found ≡ expected) ⊎ (found ≡ status.Memory)
+
+-- what a run comes to whose source had these bytes, unless memory runs out
+pub record Comes (bytes : Bytes) (source source' sink sink' : Shown) (found : Status) : Type 0 where
+  -- an accepted input of at most 67,108,864 bytes is answered, where nothing fails
+  pub done : (input : Input) → length bytes ≤ most_bytes → Accepts bytes 4 input → ¬ FaultsRose source.faults source'.faults → ¬ FaultsRose sink.faults sink'.faults → IsOrMemory found status.Done
+  -- a refused one is refused, where no read fails
+  pub refused : (bad : BadInput) → length bytes ≤ most_bytes → Refuses bytes 4 bad → ¬ FaultsRose source.faults source'.faults → IsOrMemory found (status.BadInput bad)
+  -- a larger one is too large, where no read fails
+  pub too_large : most_bytes < length bytes → ¬ FaultsRose source.faults source'.faults → IsOrMemory found status.TooLarge

@@ -1,0 +1,46 @@
+-- What is read from a source to its end, and written to a sink.
+use Rattle.std.specs.Prelude.{ℕ, ◌≡◌, ◌↔◌, ◌≤◌, ◌<◌, List, [], ◌++◌, length, Some, IfSome}
+use Rattle.std.specs.Io.KnownBytes.{Appends, Consumes, Keeps}
+use Rattle.fan_base.specs.Outside.{Shown, FaultsRose}
+
+-- the bytes that an input has at most
+abbrev pub most_bytes : ℕ
+most_bytes = 67108864
+
+-- n bytes were read and put behind a text, none of them only at the source's end, and nothing failed
+pub record ReadsPiece (old new : Shown) (before after : List ℕ) (n : ℕ) : Type 0 where
+  pub got : List ℕ
+  pub grown : after ≡ before ++ got
+  pub moved : Consumes old.bytes new.bytes got
+  pub many : length got ≡ n
+  pub end : IfSome old.bytes (λ bytes. (n ≡ 0) ↔ (bytes ≡ []))
+  pub sound : new.faults ≡ old.faults
+
+-- this text was all that the source had left, nothing failed, and it wasn't too much
+pub record ReadsAll (old new : Shown) (text : List ℕ) : Type 0 where
+  pub whole : IfSome old.bytes (λ bytes. (bytes ≡ text) × (new.bytes ≡ Some []))
+  pub sound : new.faults ≡ old.faults
+  pub few : length text ≤ most_bytes
+
+-- too many bytes were read, and nothing failed
+pub record ReadsTooMuch (old new : Shown) (text : List ℕ) : Type 0 where
+  pub consumed : Consumes old.bytes new.bytes text
+  pub sound : new.faults ≡ old.faults
+  pub many : most_bytes < length text
+
+-- the sink gained these bytes, and nothing failed
+pub record Gains (old new : Shown) (bytes : List ℕ) : Type 0 where
+  pub gained : Appends old.bytes new.bytes bytes
+  pub sound : new.faults ≡ old.faults
+
+-- the sink gained a front of these bytes
+pub record GainsFront (old new : Shown) (bytes : List ℕ) : Type 0 where
+  pub front : List ℕ
+  pub rest : List ℕ
+  pub whole : bytes ≡ front ++ rest
+  pub gained : Appends old.bytes new.bytes front
+
+-- the sink failed, and gained nothing
+pub record Fails (old new : Shown) : Type 0 where
+  pub kept : Keeps old.bytes new.bytes
+  pub rose : FaultsRose old.faults new.faults
