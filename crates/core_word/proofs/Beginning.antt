@@ -1,0 +1,79 @@
+-- Before anybody has begun, and the first step, by which a key becomes two halves.
+use Rattle.std.proofs.Common.{◌≡◌, ◌≢◌, ℕ, zero, suc, ◌<◌, inl, inr, List, [], ◌∷◌, ◌++◌, length, refl, sym, ap, ◌∙◌, subst, None, arith, length-set}
+use Rattle.std.specs.Prelude.{slice_set, replicate}
+use mathlib.Core.Option as maybe
+use mathlib.Core.Option.{some-injective, some-ne-none}
+use mathlib.Core.Logic.{dite}
+use native.Mathlib.Decide.{ℕ_discrete}
+use lib.ListN.{get_elem?}
+use Rattle.atomic_table.specs.Table.{Splits, opening}
+use Rattle.atomic_table.proofs.Lists.{set_here, set_else, at_longer, at_last}
+use Rattle.core_word.specs.declared.view.ProducerPhase.TheVariants as producer
+use Rattle.core_word.specs.declared.view.ConsumerPhase.TheVariants as consumer
+use Rattle.core_word.specs.declared.view.View.{View}
+use Rattle.core_word.specs.declared.view.View.TheVariants as view
+use Rattle.core_word.specs.Rule.{Cells, IsPast, Unbegun, StandsFor}
+use Rattle.core_word.specs.Plays.{Standing, key_at, producer_ready, consumer_ready, begin_producer, begin_consumer}
+use Rattle.core_word.proofs.Owing.{within, one_view}
+
+before_last : {A : Type 0} (l : List A) (a : A) (k : ℕ) (b : A) → k ≢ length l → get_elem? (l ++ a ∷ []) k ≡ maybe.some b → get_elem? l k ≡ maybe.some b
+before_last [] a zero b ne e = absurd (ne refl)
+before_last [] a (suc k) b ne e = absurd (some-ne-none b (sym e))
+before_last (x ∷ xs) a zero b ne e = e
+before_last (x ∷ xs) a (suc k) b ne e = before_last xs a k b (λ h. ne (ap suc h)) e
+
+module _ {T C P : Type 0} where
+  pub opens : StandsFor (opening (0 ∷ 2 ∷ []) (replicate 3 None) (key_at {T = T} {C = C} {P = P} 0).0)
+  opens = inl record {
+    seat = 0;
+    number = 0;
+    at = refl;
+    others = other;
+    words = refl;
+    homes = refl;
+  } where
+    other : (k : ℕ) (v : View T C P) → k ≢ 0 → get_elem? (view.Key 0 ∷ []) k ≡ maybe.some v → IsPast 0 v
+    other zero v ne e = absurd (ne refl)
+    other (suc k) v ne e = absurd (some-ne-none v (sym e))
+
+  key_begins : (id u : ℕ) (s : Cells T C P) → StandsFor s → get_elem? s.views id ≡ maybe.some (view.Key u) → (b : Unbegun s) × (id ≡ b.seat) × (u ≡ b.number)
+  key_begins id u s (inl b) at = dite (ℕ_discrete id b.seat)
+      (λ e. let same = one_view s.views id b.seat _ _ at b.at e in let number : u ≡ b.number = cc in (b, e, number))
+      (λ ne. absurd (b.others id _ ne at))
+  key_begins id u s (inr (inl b)) at = dite (ℕ_discrete id b.producer)
+      (λ e. let same = one_view s.views id b.producer _ _ at b.at_p e in cc)
+      (λ np. dite (ℕ_discrete id b.consumer)
+      (λ e. let same = one_view s.views id b.consumer _ _ at b.at_c e in cc)
+      (λ nc. absurd (b.others id _ np nc at)))
+  key_begins id u s (inr (inr b)) at = dite (ℕ_discrete id b.seat)
+      (λ e. let same = one_view s.views id b.seat _ _ at b.at e in cc)
+      (λ ne. absurd (b.others id _ ne at))
+
+  begins_two : (id u : ℕ) → Splits StandsFor id (key_at {T = T} {C = C} {P = P} u).0 (producer_ready {T = T} {C = C} {P = P} u).0 (consumer_ready {T = T} {C = C} {P = P} u).0
+  begins_two id u s holds at =
+      let r = key_begins id u s holds at in
+      let b = r.0 in
+      let inside : id < length s.views = within s.views id _ at in
+      let p : View T C P = view.Producer u producer.Ready in
+      let c : View T C P = view.Consumer u consumer.Ready in
+      let first = slice_set s.views id p in
+      let wide : length first ≡ length s.views = length-set s.views id p in
+      let apart : id ≢ length s.views = λ e. absurd (omega arith) in
+      inr (inl record {
+        producer = id;
+        consumer = length s.views;
+        apart = apart;
+        number = u;
+        p = producer.Ready;
+        c = consumer.Ready;
+        at_p = at_longer first (c ∷ []) id p (set_here s.views id p inside);
+        at_c = at_last first c (length s.views) wide;
+        others = λ k v np nc e. subst (λ n. IsPast n v) (sym r.2) (b.others k v (λ x. np (x ∙ sym r.1))
+            (sym (set_else s.views id k p np) ∙ before_last first c k v (λ x. nc (x ∙ wide)) e));
+        words = b.words;
+        homes = b.homes;
+        fit = (tt, tt);
+      })
+
+  pub begins : (id u : ℕ) (me : Standing T C P) → me ≡ key_at u → Splits StandsFor id me.0 (begin_producer me.0) (begin_consumer me.0)
+  begins id u me e = subst (λ (m : Standing T C P). Splits StandsFor id m.0 (begin_producer m.0) (begin_consumer m.0)) (sym e) (begins_two id u)

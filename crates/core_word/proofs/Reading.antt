@@ -1,0 +1,188 @@
+-- The last leaver reads the state and takes all slots.
+use Rattle.std.proofs.Common.{◌≡◌, ◌≢◌, ℕ, suc, inl, inr, List, [], refl, sym, ap, ◌∙◌, subst, Some, None, arith}
+use Rattle.fan_base.specs.declared.outcome.Try.{Try}
+use Rattle.core_state.specs.declared.table.State.TheVariants as state
+use Rattle.core_state.specs.declared.schedule.Offer.{Offer}
+use Rattle.core_state.specs.declared.schedule.Offer.TheVariants as offered
+use Rattle.core_state.specs.declared.schedule.Claim.{Claim}
+use Rattle.core_state.specs.declared.schedule.Claim.TheVariants as claimed
+use Rattle.atomic_table.specs.Table.{takes, chain, Allows}
+use Rattle.core_word.specs.declared.view.Item.TheVariants as item
+use Rattle.core_word.specs.declared.view.Departure.TheVariants as departed
+use Rattle.core_word.specs.declared.view.ProducerPhase.{ProducerPhase}
+use Rattle.core_word.specs.declared.view.ProducerPhase.TheVariants as producer
+use Rattle.core_word.specs.declared.view.ConsumerPhase.{ConsumerPhase}
+use Rattle.core_word.specs.declared.view.ConsumerPhase.TheVariants as consumer
+use Rattle.core_word.specs.Rule.{StandsFor}
+use Rattle.core_word.specs.Plays.{Standing}
+use Rattle.std.specs.Prelude.{slice_set}
+use mathlib.Core.Option as maybe
+use mathlib.Core.Logic.{dite}
+use native.Mathlib.Decide.{ℕ_discrete}
+use lib.ListN.{get_elem?}
+use Rattle.atomic_table.proofs.Lists.{set_here, set_else}
+use Rattle.core_word.specs.declared.view.View.{View}
+use Rattle.core_word.specs.declared.view.View.TheVariants as view
+use Rattle.core_word.specs.Views.{producer_left, consumer_left}
+use Rattle.core_word.specs.Rule.{Home, words_of, homes_of, Fit, LeavesFit, IsPast}
+use Rattle.core_word.specs.Plays.{Standing, reads_end, IsLast}
+use Rattle.core_word.specs.declared.view.Departure.{Departure}
+use Rattle.core_word.proofs.Owing.{ReadsAll, placed, within, one_view, producer_is, not_unbegun, not_over, consumer_is, consumer_not_unbegun, consumer_not_over}
+
+only_first : (d : Departure) → LeavesFit departed.Last d → d ≡ departed.First
+only_first departed.No fit = absurd fit
+only_first departed.First fit = refl
+only_first departed.Last fit = absurd fit
+
+first_only : (d : Departure) → LeavesFit d departed.Last → d ≡ departed.First
+first_only departed.No fit = absurd fit
+first_only departed.First fit = refl
+first_only departed.Last fit = absurd fit
+
+module _ {T C P : Type 0} where
+  past_later : (u : ℕ) (v : View T C P) → IsPast u v → IsPast (suc u) v
+  past_later u (view.Key n) past = absurd past
+  past_later u (view.Producer n p) past = let lt = past.0 in (omega arith, past.1)
+  past_later u (view.Consumer n c) past = let lt = past.0 in (omega arith, past.1)
+  past_later u (view.Husk n s) past = absurd past
+
+  module _ (id u : ℕ) where
+    abbrev Reads : View T C P → List ℕ → List (Home T C P) → Type 0
+    Reads v = ReadsAll id u [] 0 (λ n. n) (reads_end (v, []))
+
+    producer_reads : (offer : Offer (Try T) P) (got : Claim C) (c : ConsumerPhase T C P) → Fit (producer.Acted offer got departed.Last) c
+        → Reads (view.Producer u (producer.Acted offer got departed.Last)) (words_of (producer.Acted offer got departed.Last) c) (homes_of (producer.Acted offer got departed.Last) c)
+    producer_reads offer got consumer.Ready fit = absurd fit.1
+    producer_reads offer got consumer.Holding fit = absurd fit.1
+    producer_reads offer got (consumer.Aware s) fit = absurd fit.1
+    producer_reads offer got (consumer.Acted claim got' departed.No) fit = absurd fit.1
+    producer_reads offer got (consumer.Acted claim got' departed.Last) fit = absurd fit.1
+    producer_reads offered.Nothing claimed.Nothing (consumer.Acted claim got' departed.First) fit = absurd fit.0.0
+    producer_reads offered.Nothing (claimed.Callback x) (consumer.Acted claim got' departed.First) fit = absurd fit.0.0
+    producer_reads (offered.Result r) claimed.Nothing (consumer.Acted claimed.Nothing offered.Nothing departed.First) fit = (state.OnlyResult, chain (takes 0 (Some (item.Outcome r))) (chain (takes 1 None) (takes 2 None)), (refl, (refl, refl)), refl, refl, ((offered.Result r), claimed.Nothing, tt, (refl, tt), refl))
+    producer_reads (offered.Result r) claimed.Nothing (consumer.Acted claimed.Nothing (offered.Result q) departed.First) fit = let e = fit.0.1 in cc
+    producer_reads (offered.Result r) claimed.Nothing (consumer.Acted claimed.Nothing (offered.Proxy q) departed.First) fit = let e = fit.0.1 in cc
+    producer_reads (offered.Result r) claimed.Nothing (consumer.Acted (claimed.Callback c) (offered.Result q) departed.First) fit = (state.Done, chain (takes 0 None) (chain (takes 1 None) (takes 2 None)), (refl, (refl, refl)), refl, refl, ((offered.Result r), claimed.Callback c, tt, (refl, tt), refl))
+    producer_reads (offered.Result r) claimed.Nothing (consumer.Acted (claimed.Callback c) offered.Nothing departed.First) fit = let e = fit.0.1 in cc
+    producer_reads (offered.Result r) claimed.Nothing (consumer.Acted (claimed.Callback c) (offered.Proxy q) departed.First) fit = let e = fit.0.1 in cc
+    producer_reads (offered.Result r) (claimed.Callback x) (consumer.Acted claimed.Nothing got' departed.First) fit = absurd fit.0.1
+    producer_reads (offered.Result r) (claimed.Callback x) (consumer.Acted (claimed.Callback c) offered.Nothing departed.First) fit = (state.Done, chain (takes 0 None) (chain (takes 1 None) (takes 2 None)), (refl, (refl, refl)), refl, refl, ((offered.Result r), claimed.Callback c, tt, (refl, ap (λ y. claimed.Callback y) fit.0.1.0), refl))
+    producer_reads (offered.Result r) (claimed.Callback x) (consumer.Acted (claimed.Callback c) (offered.Result q) departed.First) fit = let e = fit.0.1.1 in cc
+    producer_reads (offered.Result r) (claimed.Callback x) (consumer.Acted (claimed.Callback c) (offered.Proxy q) departed.First) fit = let e = fit.0.1.1 in cc
+    producer_reads (offered.Proxy r) claimed.Nothing (consumer.Acted claimed.Nothing offered.Nothing departed.First) fit = (state.Proxy, chain (takes 0 None) (chain (takes 1 None) (takes 2 (Some (item.Proxy r)))), (refl, (refl, refl)), refl, refl, ((offered.Proxy r), claimed.Nothing, tt, (refl, tt), refl))
+    producer_reads (offered.Proxy r) claimed.Nothing (consumer.Acted claimed.Nothing (offered.Result q) departed.First) fit = let e = fit.0.1 in cc
+    producer_reads (offered.Proxy r) claimed.Nothing (consumer.Acted claimed.Nothing (offered.Proxy q) departed.First) fit = let e = fit.0.1 in cc
+    producer_reads (offered.Proxy r) claimed.Nothing (consumer.Acted (claimed.Callback c) (offered.Proxy q) departed.First) fit = (state.Empty, chain (takes 0 None) (chain (takes 1 None) (takes 2 None)), (refl, (refl, refl)), refl, refl, ((offered.Proxy r), claimed.Callback c, tt, (refl, tt), refl))
+    producer_reads (offered.Proxy r) claimed.Nothing (consumer.Acted (claimed.Callback c) offered.Nothing departed.First) fit = let e = fit.0.1 in cc
+    producer_reads (offered.Proxy r) claimed.Nothing (consumer.Acted (claimed.Callback c) (offered.Result q) departed.First) fit = let e = fit.0.1 in cc
+    producer_reads (offered.Proxy r) (claimed.Callback x) (consumer.Acted claimed.Nothing got' departed.First) fit = absurd fit.0.1
+    producer_reads (offered.Proxy r) (claimed.Callback x) (consumer.Acted (claimed.Callback c) offered.Nothing departed.First) fit = (state.Empty, chain (takes 0 None) (chain (takes 1 None) (takes 2 None)), (refl, (refl, refl)), refl, refl, ((offered.Proxy r), claimed.Callback c, tt, (refl, ap (λ y. claimed.Callback y) fit.0.1.0), refl))
+    producer_reads (offered.Proxy r) (claimed.Callback x) (consumer.Acted (claimed.Callback c) (offered.Result q) departed.First) fit = let e = fit.0.1.1 in cc
+    producer_reads (offered.Proxy r) (claimed.Callback x) (consumer.Acted (claimed.Callback c) (offered.Proxy q) departed.First) fit = let e = fit.0.1.1 in cc
+
+    consumer_reads : (claim : Claim C) (got : Offer (Try T) P) (p : ProducerPhase T C P) → Fit p (consumer.Acted claim got departed.Last)
+        → Reads (view.Consumer u (consumer.Acted claim got departed.Last)) (words_of p (consumer.Acted claim got departed.Last)) (homes_of p (consumer.Acted claim got departed.Last))
+    consumer_reads claim got producer.Ready fit = absurd fit.1
+    consumer_reads claim got (producer.Holding o) fit = absurd fit.1
+    consumer_reads claim got (producer.Aware o) fit = absurd fit.1
+    consumer_reads claim got (producer.Acted offer got' departed.No) fit = absurd fit.1
+    consumer_reads claim got (producer.Acted offer got' departed.Last) fit = absurd fit.1
+    consumer_reads claim got (producer.Acted offered.Nothing claimed.Nothing departed.First) fit = absurd fit.0.0
+    consumer_reads claim got (producer.Acted offered.Nothing (claimed.Callback x) departed.First) fit = absurd fit.0.0
+    consumer_reads claimed.Nothing offered.Nothing (producer.Acted (offered.Result r) claimed.Nothing departed.First) fit = (state.OnlyResult, chain (takes 0 (Some (item.Outcome r))) (chain (takes 1 None) (takes 2 None)), (refl, (refl, refl)), refl, refl, ((offered.Result r), claimed.Nothing, tt, (refl, tt), refl))
+    consumer_reads claimed.Nothing (offered.Result q) (producer.Acted (offered.Result r) claimed.Nothing departed.First) fit = let e = fit.0.1 in cc
+    consumer_reads claimed.Nothing (offered.Proxy q) (producer.Acted (offered.Result r) claimed.Nothing departed.First) fit = let e = fit.0.1 in cc
+    consumer_reads (claimed.Callback c) offered.Nothing (producer.Acted (offered.Result r) claimed.Nothing departed.First) fit = let e = fit.0.1 in cc
+    consumer_reads (claimed.Callback c) (offered.Result q) (producer.Acted (offered.Result r) claimed.Nothing departed.First) fit = (state.Done, chain (takes 0 None) (chain (takes 1 None) (takes 2 None)), (refl, (refl, refl)), refl, refl, ((offered.Result r), claimed.Callback c, tt, (refl, sym fit.0.1), refl))
+    consumer_reads (claimed.Callback c) (offered.Proxy q) (producer.Acted (offered.Result r) claimed.Nothing departed.First) fit = let e = fit.0.1 in cc
+    consumer_reads claimed.Nothing got (producer.Acted (offered.Result r) (claimed.Callback x) departed.First) fit = absurd fit.0.1
+    consumer_reads (claimed.Callback c) offered.Nothing (producer.Acted (offered.Result r) (claimed.Callback x) departed.First) fit = (state.Done, chain (takes 0 None) (chain (takes 1 None) (takes 2 None)), (refl, (refl, refl)), refl, refl, ((offered.Result r), claimed.Callback c, tt, (refl, tt), refl))
+    consumer_reads (claimed.Callback c) (offered.Result q) (producer.Acted (offered.Result r) (claimed.Callback x) departed.First) fit = let e = fit.0.1.1 in cc
+    consumer_reads (claimed.Callback c) (offered.Proxy q) (producer.Acted (offered.Result r) (claimed.Callback x) departed.First) fit = let e = fit.0.1.1 in cc
+    consumer_reads claimed.Nothing offered.Nothing (producer.Acted (offered.Proxy r) claimed.Nothing departed.First) fit = (state.Proxy, chain (takes 0 None) (chain (takes 1 None) (takes 2 (Some (item.Proxy r)))), (refl, (refl, refl)), refl, refl, ((offered.Proxy r), claimed.Nothing, tt, (refl, tt), refl))
+    consumer_reads claimed.Nothing (offered.Result q) (producer.Acted (offered.Proxy r) claimed.Nothing departed.First) fit = let e = fit.0.1 in cc
+    consumer_reads claimed.Nothing (offered.Proxy q) (producer.Acted (offered.Proxy r) claimed.Nothing departed.First) fit = let e = fit.0.1 in cc
+    consumer_reads (claimed.Callback c) offered.Nothing (producer.Acted (offered.Proxy r) claimed.Nothing departed.First) fit = let e = fit.0.1 in cc
+    consumer_reads (claimed.Callback c) (offered.Proxy q) (producer.Acted (offered.Proxy r) claimed.Nothing departed.First) fit = (state.Empty, chain (takes 0 None) (chain (takes 1 None) (takes 2 None)), (refl, (refl, refl)), refl, refl, ((offered.Proxy r), claimed.Callback c, tt, (refl, sym fit.0.1), refl))
+    consumer_reads (claimed.Callback c) (offered.Result q) (producer.Acted (offered.Proxy r) claimed.Nothing departed.First) fit = let e = fit.0.1 in cc
+    consumer_reads claimed.Nothing got (producer.Acted (offered.Proxy r) (claimed.Callback x) departed.First) fit = absurd fit.0.1
+    consumer_reads (claimed.Callback c) offered.Nothing (producer.Acted (offered.Proxy r) (claimed.Callback x) departed.First) fit = (state.Empty, chain (takes 0 None) (chain (takes 1 None) (takes 2 None)), (refl, (refl, refl)), refl, refl, ((offered.Proxy r), claimed.Callback c, tt, (refl, tt), refl))
+    consumer_reads (claimed.Callback c) (offered.Result q) (producer.Acted (offered.Proxy r) (claimed.Callback x) departed.First) fit = let e = fit.0.1.1 in cc
+    consumer_reads (claimed.Callback c) (offered.Proxy q) (producer.Acted (offered.Proxy r) (claimed.Callback x) departed.First) fit = let e = fit.0.1.1 in cc
+
+    producer_ends : (slots : ℕ) (offer : Offer (Try T) P) (got : Claim C) → Allows StandsFor slots id (view.Producer u (producer.Acted offer got departed.Last), []) 0 (λ n. n) (reads_end (view.Producer u (producer.Acted offer got departed.Last), []))
+    producer_ends slots offer got s (inl b) long at small = absurd (not_unbegun id u [] 0 (λ n. n) (reads_end (view.Producer u (producer.Acted offer got departed.Last), [])) (producer.Acted offer got departed.Last) (λ e. cc) s b at)
+    producer_ends slots offer got s (inr (inr b)) long at small = absurd (not_over id u [] 0 (λ n. n) (reads_end (view.Producer u (producer.Acted offer got departed.Last), [])) (producer.Acted offer got departed.Last) (λ e. cc) s b at)
+    producer_ends slots offer got s (inr (inl b)) long at small =
+        let p : ProducerPhase T C P = producer.Acted offer got departed.Last in
+        let here : id ≡ b.producer = producer_is id u [] 0 (λ n. n) (reads_end (view.Producer u p, [])) p (λ e. cc) s b at in
+        let same = one_view s.views id b.producer _ _ at b.at_p here in
+        let number : u ≡ b.number = cc in
+        let phase : p ≡ b.p = cc in
+        let c = b.c in
+        let fit : Fit p c = subst (λ q. Fit q c) (sym phase) b.fit in
+        let words : s.words ≡ words_of p c = b.words ∙ ap (λ q. words_of q c) (sym phase) in
+        let homes : s.homes ≡ homes_of p c = b.homes ∙ ap (λ q. homes_of q c) (sym phase) in
+        let r = producer_reads offer got c fit in
+        let w : View T C P = view.Husk u r.0 in
+        let first : consumer_left c ≡ departed.First = only_first (consumer_left c) fit.1 in
+        let other : (k : ℕ) (v : View T C P) → k ≢ id → get_elem? (slice_set s.views id w) k ≡ maybe.some v → IsPast (suc u) v =
+        λ k v ne e. let e' = sym (set_else s.views id k w ne) ∙ e in dite (ℕ_discrete k b.consumer)
+        (λ at_c. let is : view.Consumer b.number c ≡ v = one_view s.views b.consumer k _ _ b.at_c e' (sym at_c) in subst (λ x. IsPast (suc u) x) is (omega arith, first))
+        (λ nc. past_later u v (subst (λ n. IsPast n v) (sym number) (b.others k v (λ x. ne (x ∙ sym here)) nc e'))) in
+        placed id u [] 0 (λ n. n) (reads_end (view.Producer u p, [])) s.words s.homes s.views (words_of p c) (homes_of p c) words homes (
+          w,
+          r.1,
+          r.2,
+          inr (inr record {
+            seat = id;
+            number = u;
+            state = r.0;
+            at = set_here s.views id w (within s.views id _ at);
+            others = other;
+            words = r.3;
+            homes = r.4;
+          }),
+          r.5,
+        )
+
+    consumer_ends : (slots : ℕ) (claim : Claim C) (got : Offer (Try T) P) → Allows StandsFor slots id (view.Consumer u (consumer.Acted claim got departed.Last), []) 0 (λ n. n) (reads_end (view.Consumer u (consumer.Acted claim got departed.Last), []))
+    consumer_ends slots claim got s (inl b) long at small = absurd (consumer_not_unbegun id u [] 0 (λ n. n) (reads_end (view.Consumer u (consumer.Acted claim got departed.Last), [])) (consumer.Acted claim got departed.Last) (λ e. cc) s b at)
+    consumer_ends slots claim got s (inr (inr b)) long at small = absurd (consumer_not_over id u [] 0 (λ n. n) (reads_end (view.Consumer u (consumer.Acted claim got departed.Last), [])) (consumer.Acted claim got departed.Last) (λ e. cc) s b at)
+    consumer_ends slots claim got s (inr (inl b)) long at small =
+        let c : ConsumerPhase T C P = consumer.Acted claim got departed.Last in
+        let here : id ≡ b.consumer = consumer_is id u [] 0 (λ n. n) (reads_end (view.Consumer u c, [])) c (λ e. cc) s b at in
+        let same = one_view s.views id b.consumer _ _ at b.at_c here in
+        let number : u ≡ b.number = cc in
+        let phase : c ≡ b.c = cc in
+        let p = b.p in
+        let fit : Fit p c = subst (λ q. Fit p q) (sym phase) b.fit in
+        let words : s.words ≡ words_of p c = b.words ∙ ap (λ q. words_of p q) (sym phase) in
+        let homes : s.homes ≡ homes_of p c = b.homes ∙ ap (λ q. homes_of p q) (sym phase) in
+        let r = consumer_reads claim got p fit in
+        let w : View T C P = view.Husk u r.0 in
+        let first : producer_left p ≡ departed.First = first_only (producer_left p) fit.1 in
+        let other : (k : ℕ) (v : View T C P) → k ≢ id → get_elem? (slice_set s.views id w) k ≡ maybe.some v → IsPast (suc u) v =
+        λ k v ne e. let e' = sym (set_else s.views id k w ne) ∙ e in dite (ℕ_discrete k b.producer)
+        (λ at_p. let is : view.Producer b.number p ≡ v = one_view s.views b.producer k _ _ b.at_p e' (sym at_p) in subst (λ x. IsPast (suc u) x) is (omega arith, first))
+        (λ np. past_later u v (subst (λ n. IsPast n v) (sym number) (b.others k v np (λ x. ne (x ∙ sym here)) e'))) in
+        placed id u [] 0 (λ n. n) (reads_end (view.Consumer u c, [])) s.words s.homes s.views (words_of p c) (homes_of p c) words homes (
+          w,
+          r.1,
+          r.2,
+          inr (inr record {
+            seat = id;
+            number = u;
+            state = r.0;
+            at = set_here s.views id w (within s.views id _ at);
+            others = other;
+            words = r.3;
+            homes = r.4;
+          }),
+          r.5,
+        )
+
+-- the last leaver ends the use
+pub last_reads : {T C P : Type 0} (slots id : ℕ) (me : Standing T C P) → me.1 ≡ [] → IsLast me.0 → Allows StandsFor slots id me 0 (λ n. n) (reads_end me)
+last_reads slots id me none (inl t) = subst (λ m. Allows StandsFor slots id m 0 (λ n. n) (reads_end m)) (λ i. (sym t.3 i, sym none i)) (producer_ends id t.0 slots t.1 t.2)
+last_reads slots id me none (inr t) = subst (λ m. Allows StandsFor slots id m 0 (λ n. n) (reads_end m)) (λ i. (sym t.3 i, sym none i)) (consumer_ends id t.0 slots t.1 t.2)

@@ -1,0 +1,12 @@
+use Rattle.std.proofs.Common.{arith}
+use Rattle.core_word.proofs.Owing.{filled}
+use Rattle.core_word.proofs.Setting.{sets_result_first}
+use Rattle.core_word.proofs.steps.set_first_result.Goals as goal
+
+pub compare_exchange-found-requires : goal.compare_exchange-found-requires
+compare_exchange-found-requires g c =
+    let home = c.requires.home in (
+      c.put.ensures.of_home,
+      omega (arith, home.words),
+      sets_result_first _ _ _ _ _ _ _ c.code-start.ensures c.code-only_result.ensures (filled _ _ _ _ _ _ c.put.ensures.stands c.requires.holding.stands),
+    )

@@ -1,0 +1,233 @@
+-- What each step on a home's table tells its caller, and where a seat then stands: its view, and the slots that it has with what they hold.
+use Rattle.std.specs.Prelude.{◌≡◌, ◌≢◌, ◌⊎◌, ℕ, List, [], ◌∷◌, Option, Some, None}
+use Rattle.fan_base.specs.declared.outcome.Try.{Try}
+use Rattle.core_state.specs.declared.table.State.{State}
+use Rattle.core_state.specs.declared.table.State.TheVariants as state
+use Rattle.core_state.specs.declared.schedule.Offer.{Offer}
+use Rattle.core_state.specs.declared.schedule.Offer.TheVariants as offered
+use Rattle.core_state.specs.declared.schedule.Claim.{Claim}
+use Rattle.core_state.specs.declared.schedule.Claim.TheVariants as claimed
+use Rattle.core_state.specs.Table.{code_of}
+use Rattle.core_state.specs.Schedule.{state_from, leftover_from}
+use Rattle.atomic_table.specs.Table.{Me}
+use Rattle.atomic_table.specs.Seated.{TableId}
+use Rattle.atomic_table.specs.declared.shared.Seat.{Seat}
+use Rattle.core_word.specs.declared.view.Item.TheVariants as item
+use Rattle.core_word.specs.declared.view.Departure.{Departure}
+use Rattle.core_word.specs.declared.view.Departure.TheVariants as departed
+use Rattle.core_word.specs.declared.view.Own.{Own}
+use Rattle.core_word.specs.declared.view.Own.TheVariants as own
+use Rattle.core_word.specs.declared.view.ProducerPhase.TheVariants as producer
+use Rattle.core_word.specs.declared.view.ConsumerPhase.TheVariants as consumer
+use Rattle.core_word.specs.declared.view.View.{View}
+use Rattle.core_word.specs.declared.view.View.TheVariants as view
+use Rattle.core_word.specs.declared.left.Leftover.{Leftover}
+use Rattle.core_word.specs.declared.left.Leftover.TheVariants as leftover
+use Rattle.core_word.specs.Views.{use_of, offer_of, claim_got, claim_of, offer_got}
+use Rattle.core_word.specs.Rule.{Held, IsSet}
+
+-- where a seat stands
+abbrev pub Standing : Type 0 → Type 0 → Type 0 → Type 0
+Standing T C P = Me (Held T C P) (View T C P)
+
+-- the slot of what a producer sets
+abbrev pub slot_of : Own → ℕ
+slot_of own.Result = 0
+slot_of own.Proxy = 2
+
+-- the state that a half found: what it got stands for it alone
+abbrev pub found_by_producer : {C : Type 0} → Claim C → State
+found_by_producer claimed.Nothing = state.Start
+found_by_producer (claimed.Callback c) = state.OnlyCallback
+
+abbrev pub found_by_consumer : {R K : Type 0} → Offer R K → State
+found_by_consumer offered.Nothing = state.Start
+found_by_consumer (offered.Result r) = state.OnlyResult
+found_by_consumer (offered.Proxy k) = state.Proxy
+
+-- what a half got is what the other half set
+abbrev pub GotClaim : {C : Type 0} → Claim C → Claim C → Type 0
+GotClaim claimed.Nothing claim = Unit {0}
+GotClaim (claimed.Callback c) claim = claim ≡ claimed.Callback c
+
+abbrev pub GotOffer : {R K : Type 0} → Offer R K → Offer R K → Type 0
+GotOffer offered.Nothing offer = Unit {0}
+GotOffer (offered.Result r) offer = offer ≡ offered.Result r
+GotOffer (offered.Proxy k) offer = offer ≡ offered.Proxy k
+
+module _ {T C P : Type 0} where
+  abbrev pub key_at : ℕ → Standing T C P
+  key_at number = (view.Key number, [])
+
+  abbrev pub producer_ready : ℕ → Standing T C P
+  producer_ready number = (view.Producer number producer.Ready, [])
+
+  abbrev pub producer_holding : ℕ → Own → Held T C P → Standing T C P
+  producer_holding number o held = (view.Producer number (producer.Holding o), (slot_of o, held) ∷ [])
+
+  abbrev pub producer_aware : ℕ → Own → Held T C P → Standing T C P
+  producer_aware number o held = (view.Producer number (producer.Aware o), (slot_of o, held) ∷ [])
+
+  -- A producer that found nothing has no slot. One that found a callback has two, and has emptied them.
+  abbrev pub producer_slots : Offer (Try T) P → Claim C → List (ℕ × Held T C P)
+  producer_slots offer claimed.Nothing = []
+  producer_slots offered.Nothing (claimed.Callback c) = []
+  producer_slots (offered.Result r) (claimed.Callback c) = (0, None) ∷ (1, None) ∷ []
+  producer_slots (offered.Proxy k) (claimed.Callback c) = (2, None) ∷ (1, None) ∷ []
+
+  abbrev pub producer_acted : ℕ → Offer (Try T) P → Claim C → Standing T C P
+  producer_acted number offer got = (view.Producer number (producer.Acted offer got departed.No), producer_slots offer got)
+
+  abbrev pub consumer_ready : ℕ → Standing T C P
+  consumer_ready number = (view.Consumer number consumer.Ready, [])
+
+  abbrev pub consumer_holding : ℕ → Held T C P → Standing T C P
+  consumer_holding number held = (view.Consumer number consumer.Holding, (1, held) ∷ [])
+
+  abbrev pub consumer_aware : ℕ → State → Held T C P → Standing T C P
+  consumer_aware number s held = (view.Consumer number (consumer.Aware s), (1, held) ∷ [])
+
+  abbrev pub consumer_slots : Offer (Try T) P → List (ℕ × Held T C P)
+  consumer_slots offered.Nothing = []
+  consumer_slots (offered.Result r) = (1, None) ∷ (0, None) ∷ []
+  consumer_slots (offered.Proxy k) = (1, None) ∷ (2, None) ∷ []
+
+  -- A consumer that gave up has made no step.
+  abbrev pub consumer_acted : ℕ → Claim C → Offer (Try T) P → Standing T C P
+  consumer_acted number claimed.Nothing got = consumer_ready number
+  consumer_acted number (claimed.Callback c) got = (view.Consumer number (consumer.Acted (claimed.Callback c) got departed.No), consumer_slots got)
+
+  -- what a seat is about to set: what its slot holds
+  abbrev pub offer_in_hand : List (ℕ × Held T C P) → Offer (Try T) P
+  offer_in_hand [] = offered.Nothing
+  offer_in_hand ((k, None) ∷ xs) = offered.Nothing
+  offer_in_hand ((k, Some (item.Outcome r)) ∷ xs) = offered.Result r
+  offer_in_hand ((k, Some (item.Callback c)) ∷ xs) = offered.Nothing
+  offer_in_hand ((k, Some (item.Proxy p)) ∷ xs) = offered.Proxy p
+
+  abbrev pub claim_in_hand : List (ℕ × Held T C P) → Claim C
+  claim_in_hand [] = claimed.Nothing
+  claim_in_hand ((k, None) ∷ xs) = claimed.Nothing
+  claim_in_hand ((k, Some (item.Outcome r)) ∷ xs) = claimed.Nothing
+  claim_in_hand ((k, Some (item.Callback c)) ∷ xs) = claimed.Callback c
+  claim_in_hand ((k, Some (item.Proxy p)) ∷ xs) = claimed.Nothing
+
+  -- a producer takes the slot of what it is about to set, which is empty
+  abbrev pub takes_own : Own → Standing T C P → ℕ → Standing T C P → Type 0
+  takes_own o before found after = after ≡ producer_holding (use_of before.0) o None
+
+  abbrev pub takes_callback_slot : Standing T C P → ℕ → Standing T C P → Type 0
+  takes_callback_slot before found after = after ≡ consumer_holding (use_of before.0) None
+
+  -- A producer's exchange from Start. It sets what its slot holds, or sees that a callback waits.
+  abbrev pub sets_first : Own → Standing T C P → ℕ → Standing T C P → Type 0
+  sets_first o before found after =
+      (found ≡ code_of state.Start → after ≡ producer_acted (use_of before.0) (offer_in_hand before.1) claimed.Nothing)
+      × (found ≢ code_of state.Start → after ≡ (view.Producer (use_of before.0) (producer.Aware o), before.1))
+
+  -- A producer's exchange from OnlyCallback. It sets what its slot holds, and takes the callback.
+  abbrev pub sets_second : Standing T C P → ℕ → Standing T C P → Type 0
+  sets_second before found after =
+      (c : C) × (after ≡ (view.Producer (use_of before.0) (producer.Acted (offer_in_hand before.1) (claimed.Callback c) departed.No), (1, Some (item.Callback c)) ∷ before.1))
+
+  -- A consumer's exchange from Start. It sets the callback, or sees what the producer has set.
+  abbrev pub claims_first : Standing T C P → ℕ → Standing T C P → Type 0
+  claims_first before found after =
+      (found ≡ code_of state.Start → after ≡ consumer_acted (use_of before.0) (claim_in_hand before.1) offered.Nothing)
+      × (found ≡ code_of state.OnlyResult → after ≡ (view.Consumer (use_of before.0) (consumer.Aware state.OnlyResult), before.1))
+      × (found ≢ code_of state.Start → found ≢ code_of state.OnlyResult → after ≡ (view.Consumer (use_of before.0) (consumer.Aware state.Proxy), before.1))
+
+  -- A consumer's exchange from OnlyResult. It sets the callback, and takes the result.
+  abbrev pub claims_result : Standing T C P → ℕ → Standing T C P → Type 0
+  claims_result before found after =
+      (r : Try T) × (after ≡ (view.Consumer (use_of before.0) (consumer.Acted (claim_in_hand before.1) (offered.Result r) departed.No), (0, Some (item.Outcome r)) ∷ before.1))
+
+  -- A consumer's exchange from Proxy. It sets the callback, and takes the proxy.
+  abbrev pub claims_proxy : Standing T C P → ℕ → Standing T C P → Type 0
+  claims_proxy before found after =
+      (k : P) × (after ≡ (view.Consumer (use_of before.0) (consumer.Acted (claim_in_hand before.1) (offered.Proxy k) departed.No), (2, Some (item.Proxy k)) ∷ before.1))
+
+  abbrev pub leaving : Departure → View T C P → View T C P
+  leaving left (view.Key number) = view.Key number
+  leaving left (view.Producer number p) = view.Producer number (producer.Acted (offer_of p) (claim_got p) left)
+  leaving left (view.Consumer number c) = view.Consumer number (consumer.Acted (claim_of c) (offer_got c) left)
+  leaving left (view.Husk number s) = view.Husk number s
+
+  -- A half leaves, and gives its slots home. It is the last where it found one half attached.
+  abbrev pub leaves : Standing T C P → ℕ → Standing T C P → Type 0
+  leaves before found after =
+      (found ≡ 1 → after ≡ (leaving departed.Last before.0, []))
+      × (found ≢ 1 → (found ≡ 2) × (after ≡ (leaving departed.First before.0, [])))
+
+  -- what both halves have set, by what one of them knows
+  abbrev pub Knows : View T C P → Offer (Try T) P → Claim C → Type 0
+  Knows (view.Key number) offer claim = ⊥
+  Knows (view.Producer number p) offer claim = (offer ≡ offer_of p) × GotClaim (claim_got p) claim
+  Knows (view.Consumer number c) offer claim = (claim ≡ claim_of c) × GotOffer (offer_got c) offer
+  Knows (view.Husk number s) offer claim = ⊥
+
+  abbrev pub result_left : Offer (Try T) P → Held T C P
+  result_left offered.Nothing = None
+  result_left (offered.Result r) = Some (item.Outcome r)
+  result_left (offered.Proxy k) = None
+
+  abbrev pub proxy_left : Offer (Try T) P → Held T C P
+  proxy_left offered.Nothing = None
+  proxy_left (offered.Result r) = None
+  proxy_left (offered.Proxy k) = Some (item.Proxy k)
+
+  -- The last leaver reads the state that both halves' acts make, and takes all slots with what is left over.
+  abbrev pub reads_end : Standing T C P → ℕ → Standing T C P → Type 0
+  reads_end before found after =
+      (offer : Offer (Try T) P) × (claim : Claim C) × IsSet offer × Knows before.0 offer claim
+      × (after ≡ (view.Husk (use_of before.0) (state_from offer claim), (2, proxy_left (leftover_from offer claim)) ∷ (1, None) ∷ (0, result_left (leftover_from offer claim)) ∷ []))
+
+  abbrev pub begin_producer : View T C P → View T C P
+  begin_producer (view.Key number) = view.Producer number producer.Ready
+  begin_producer (view.Producer number p) = view.Producer number p
+  begin_producer (view.Consumer number c) = view.Consumer number c
+  begin_producer (view.Husk number s) = view.Husk number s
+
+  abbrev pub begin_consumer : View T C P → View T C P
+  begin_consumer (view.Key number) = view.Consumer number consumer.Ready
+  begin_consumer (view.Producer number p) = view.Producer number p
+  begin_consumer (view.Consumer number c) = view.Consumer number c
+  begin_consumer (view.Husk number s) = view.Husk number s
+
+  -- a half that may leave: a producer that has acted, or a consumer that has acted or gives up
+  abbrev pub IsLeaving : Standing T C P → Type 0
+  IsLeaving standing =
+      ((number : ℕ) × (offer : Offer (Try T) P) × (got : Claim C) × IsSet offer × (standing ≡ producer_acted number offer got))
+      ⊎ ((number : ℕ) × (claim : Claim C) × (got : Offer (Try T) P) × (standing ≡ consumer_acted number claim got))
+
+  -- a half that was the last to leave
+  abbrev pub IsLast : View T C P → Type 0
+  IsLast v =
+      ((number : ℕ) × (offer : Offer (Try T) P) × (got : Claim C) × (v ≡ view.Producer number (producer.Acted offer got departed.Last)))
+      ⊎ ((number : ℕ) × (claim : Claim C) × (got : Offer (Try T) P) × (v ≡ view.Consumer number (consumer.Acted claim got departed.Last)))
+
+  -- a last leaver that has emptied all slots
+  abbrev pub husk_at : ℕ → State → Standing T C P
+  husk_at number s = (view.Husk number s, (0, None) ∷ (2, None) ∷ (1, None) ∷ [])
+
+  -- a seat of this home stands so
+  pub record Sits (home : TableId) (seat : Seat (Held T C P) (View T C P)) (standing : Standing T C P) : Type 0 where
+    pub of_home : seat.table_id ≡ home
+    pub stands : seat.me ≡ standing
+
+-- what is left over, as the last leaver gets it
+abbrev pub leftover_as : {T P : Type 0} → Offer (Try T) P → Leftover T P
+leftover_as offered.Nothing = leftover.Nothing
+leftover_as (offered.Result r) = leftover.Outcome r
+leftover_as (offered.Proxy k) = leftover.Proxy k
+
+-- a home has two words and three slots
+pub record IsHome (home : TableId) : Type 0 where
+  pub words : home.words ≡ 2
+  pub slots : home.slots ≡ 3
+
+module _ {T C P : Type 0} where
+  -- where the key of a home wasn't taken, its seat has it
+  abbrev pub HasKey : TableId → Option (Seat (Held T C P) (View T C P)) → Type 0
+  HasKey home None = Unit {0}
+  HasKey home (Some seat) = Sits home seat (key_at 0)

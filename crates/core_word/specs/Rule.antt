@@ -1,0 +1,178 @@
+-- The core rule: what the words, the slots at home and the views of a home's table stand for between any two steps.
+use Rattle.std.specs.Prelude.{◌≡◌, ◌≢◌, ℕ, suc, ◌+◌, ◌<◌, ◌⊎◌, Bool, true, false, ◌||◌, List, [], ◌∷◌, Option, Some, None}
+use mathlib.Core.Option as maybe
+use lib.ListN.{get_elem?}
+use Rattle.fan_base.specs.declared.outcome.Try.{Try}
+use Rattle.core_state.specs.declared.table.State as core
+use Rattle.core_state.specs.declared.table.State.TheVariants as state
+use Rattle.core_state.specs.declared.schedule.Offer.{Offer}
+use Rattle.core_state.specs.declared.schedule.Offer.TheVariants as offered
+use Rattle.core_state.specs.declared.schedule.Claim.{Claim}
+use Rattle.core_state.specs.declared.schedule.Claim.TheVariants as claimed
+use Rattle.core_state.specs.Table.{code_of}
+use Rattle.core_state.specs.Schedule.{state_from}
+use Rattle.atomic_table.specs.Table.{State}
+use Rattle.core_word.specs.declared.view.Item.{Item}
+use Rattle.core_word.specs.declared.view.Item.TheVariants as item
+use Rattle.core_word.specs.declared.view.Departure.{Departure}
+use Rattle.core_word.specs.declared.view.Departure.TheVariants as departed
+use Rattle.core_word.specs.declared.view.ProducerPhase.{ProducerPhase}
+use Rattle.core_word.specs.declared.view.ProducerPhase.TheVariants as producer
+use Rattle.core_word.specs.declared.view.ConsumerPhase.{ConsumerPhase}
+use Rattle.core_word.specs.declared.view.ConsumerPhase.TheVariants as consumer
+use Rattle.core_word.specs.declared.view.View.{View}
+use Rattle.core_word.specs.declared.view.View.TheVariants as view
+use Rattle.core_word.specs.Views.{attached, offer_of, claim_of, producer_left, consumer_left, producer_has_result, producer_has_callback, producer_has_proxy, consumer_has_result, consumer_has_callback, consumer_has_proxy}
+
+-- what a slot holds, and a slot of the table: out with a seat, or at home with what it holds
+abbrev pub Held : Type 0 → Type 0 → Type 0 → Type 0
+Held T C P = Option (Item T C P)
+
+abbrev pub Home : Type 0 → Type 0 → Type 0 → Type 0
+Home T C P = maybe.Option (Held T C P)
+
+-- the state of a table whose slots hold items and whose seats have views of a core
+abbrev pub Cells : Type 0 → Type 0 → Type 0 → Type 0
+Cells T C P = State (Held T C P) (View T C P)
+
+abbrev pub IsSet : {R K : Type 0} → Offer R K → Type 0
+IsSet offered.Nothing = ⊥
+IsSet (offered.Result r) = Unit {0}
+IsSet (offered.Proxy k) = Unit {0}
+
+-- One that left while the other had not is First, and one that left after it is Last. A half that has left has acted, or is a consumer that gave up.
+abbrev pub LeavesFit : Departure → Departure → Type 0
+LeavesFit departed.No departed.No = Unit {0}
+LeavesFit departed.No departed.First = Unit {0}
+LeavesFit departed.No departed.Last = ⊥
+LeavesFit departed.First departed.No = Unit {0}
+LeavesFit departed.First departed.First = ⊥
+LeavesFit departed.First departed.Last = Unit {0}
+LeavesFit departed.Last departed.No = ⊥
+LeavesFit departed.Last departed.First = Unit {0}
+LeavesFit departed.Last departed.Last = ⊥
+
+module _ {T C P : Type 0} where
+  abbrev pub home : Bool → Held T C P → Home T C P
+  home true held = maybe.none
+  home false held = maybe.some held
+
+  -- A result is at home where the producer set it and the consumer set no callback.
+  abbrev pub result_held : Offer (Try T) P → Claim C → Held T C P
+  result_held offered.Nothing claim = None
+  result_held (offered.Result r) claimed.Nothing = Some (item.Outcome r)
+  result_held (offered.Result r) (claimed.Callback c) = None
+  result_held (offered.Proxy k) claim = None
+
+  -- A callback is at home where the consumer set it and the producer set nothing.
+  abbrev pub callback_held : Offer (Try T) P → Claim C → Held T C P
+  callback_held offered.Nothing claimed.Nothing = None
+  callback_held offered.Nothing (claimed.Callback c) = Some (item.Callback c)
+  callback_held (offered.Result r) claim = None
+  callback_held (offered.Proxy k) claim = None
+
+  -- A proxy is at home where the producer set it and the consumer set no callback.
+  abbrev pub proxy_held : Offer (Try T) P → Claim C → Held T C P
+  proxy_held offered.Nothing claim = None
+  proxy_held (offered.Result r) claim = None
+  proxy_held (offered.Proxy k) claimed.Nothing = Some (item.Proxy k)
+  proxy_held (offered.Proxy k) (claimed.Callback c) = None
+
+  -- The state word is the code of the state that the acts of both halves stand for. The count word is how many are attached.
+  abbrev pub words_of : ProducerPhase T C P → ConsumerPhase T C P → List ℕ
+  words_of p c = code_of (state_from (offer_of p) (claim_of c)) ∷ (attached (producer_left p) + attached (consumer_left c)) ∷ []
+
+  -- the slots for the result, the callback and the proxy
+  abbrev pub homes_of : ProducerPhase T C P → ConsumerPhase T C P → List (Home T C P)
+  homes_of p c =
+      home (producer_has_result p || consumer_has_result c) (result_held (offer_of p) (claim_of c))
+      ∷ home (producer_has_callback p || consumer_has_callback c) (callback_held (offer_of p) (claim_of c))
+      ∷ home (producer_has_proxy p || consumer_has_proxy c) (proxy_held (offer_of p) (claim_of c))
+      ∷ []
+
+  -- the consumer has found nothing that the producer set
+  abbrev pub FoundNothing : ConsumerPhase T C P → Type 0
+  FoundNothing consumer.Ready = Unit {0}
+  FoundNothing consumer.Holding = Unit {0}
+  FoundNothing (consumer.Aware s) = ⊥
+  FoundNothing (consumer.Acted claim got left) = got ≡ offered.Nothing
+
+  -- the consumer's callback waits, set before the producer acted
+  abbrev pub Waits : ConsumerPhase T C P → Type 0
+  Waits consumer.Ready = ⊥
+  Waits consumer.Holding = ⊥
+  Waits (consumer.Aware s) = ⊥
+  Waits (consumer.Acted claimed.Nothing got left) = ⊥
+  Waits (consumer.Acted (claimed.Callback c) got left) = got ≡ offered.Nothing
+
+  -- the consumer, where the producer set this offer and found nothing
+  abbrev pub Meets : Offer (Try T) P → ConsumerPhase T C P → Type 0
+  Meets offer consumer.Ready = Unit {0}
+  Meets offer consumer.Holding = Unit {0}
+  Meets offer (consumer.Aware s) = s ≡ state_from {C = C} offer claimed.Nothing
+  Meets offer (consumer.Acted claimed.Nothing got left) = got ≡ offered.Nothing
+  Meets offer (consumer.Acted (claimed.Callback c) got left) = got ≡ offer
+
+  -- the consumer, where the producer found this callback
+  abbrev pub Met : C → ConsumerPhase T C P → Type 0
+  Met found consumer.Ready = ⊥
+  Met found consumer.Holding = ⊥
+  Met found (consumer.Aware s) = ⊥
+  Met found (consumer.Acted claimed.Nothing got left) = ⊥
+  Met found (consumer.Acted (claimed.Callback c) got left) = (c ≡ found) × (got ≡ offered.Nothing)
+
+  -- Where one half alone has acted, it found nothing. Where both have, one found nothing, and the other found the first one's act.
+  -- A half that has seen a state and hasn't acted: it is the state.
+  abbrev pub ActsFit : ProducerPhase T C P → ConsumerPhase T C P → Type 0
+  ActsFit producer.Ready c = FoundNothing c
+  ActsFit (producer.Holding o) c = FoundNothing c
+  ActsFit (producer.Aware o) c = Waits c
+  ActsFit (producer.Acted offer claimed.Nothing left) c = IsSet offer × Meets offer c
+  ActsFit (producer.Acted offer (claimed.Callback found) left) c = IsSet offer × Met found c
+
+  abbrev pub Fit : ProducerPhase T C P → ConsumerPhase T C P → Type 0
+  Fit p c = ActsFit p c × LeavesFit (producer_left p) (consumer_left c)
+
+  -- a view of a use below this number: the half was the first to leave it
+  abbrev pub IsPast : ℕ → View T C P → Type 0
+  IsPast number (view.Key n) = ⊥
+  IsPast number (view.Producer n p) = (n < number) × (producer_left p ≡ departed.First)
+  IsPast number (view.Consumer n c) = (n < number) × (consumer_left c ≡ departed.First)
+  IsPast number (view.Husk n s) = ⊥
+
+  -- Nobody has begun the greatest use: one seat has its key. All slots are at home and empty.
+  pub record Unbegun (s : Cells T C P) : Type 0 where
+    pub seat : ℕ
+    pub number : ℕ
+    pub at : get_elem? s.views seat ≡ maybe.some (view.Key number)
+    pub others : (k : ℕ) (v : View T C P) → k ≢ seat → get_elem? s.views k ≡ maybe.some v → IsPast number v
+    pub words : s.words ≡ code_of state.Start ∷ 2 ∷ []
+    pub homes : s.homes ≡ maybe.some None ∷ maybe.some None ∷ maybe.some None ∷ []
+
+  -- One producer and one consumer have the greatest use, and decide what the words and the slots are.
+  pub record Begun (s : Cells T C P) : Type 0 where
+    pub producer : ℕ
+    pub consumer : ℕ
+    pub apart : producer ≢ consumer
+    pub number : ℕ
+    pub p : ProducerPhase T C P
+    pub c : ConsumerPhase T C P
+    pub at_p : get_elem? s.views producer ≡ maybe.some (view.Producer number p)
+    pub at_c : get_elem? s.views consumer ≡ maybe.some (view.Consumer number c)
+    pub others : (k : ℕ) (v : View T C P) → k ≢ producer → k ≢ consumer → get_elem? s.views k ≡ maybe.some v → IsPast number v
+    pub words : s.words ≡ words_of p c
+    pub homes : s.homes ≡ homes_of p c
+    pub fit : Fit p c
+
+  -- Both have left the greatest use, and the last leaver has read the state and has all slots.
+  pub record Over (s : Cells T C P) : Type 0 where
+    pub seat : ℕ
+    pub number : ℕ
+    pub state : core.State
+    pub at : get_elem? s.views seat ≡ maybe.some (view.Husk number state)
+    pub others : (k : ℕ) (v : View T C P) → k ≢ seat → get_elem? s.views k ≡ maybe.some v → IsPast (suc number) v
+    pub words : s.words ≡ code_of state ∷ 0 ∷ []
+    pub homes : s.homes ≡ maybe.none ∷ maybe.none ∷ maybe.none ∷ []
+
+  abbrev pub StandsFor : Cells T C P → Type 0
+  StandsFor s = Unbegun s ⊎ (Begun s ⊎ Over s)

@@ -1,0 +1,137 @@
+//! The consumer's half of a core.
+ghost use Rattle.std.specs.Prelude.{◌≡◌, ◌<◌};
+ghost use Rattle.core_word.specs.Answers.{MeetsAt, MatchLeft, IfLast, EndsForConsumer};
+
+use crate::fire::{Fire, Forward};
+use crate::left::{Husk, Left, Receipt};
+use crate::rule::{Cells, Place};
+use crate::steps;
+use core_state::{Claim, Half, Offer, State};
+use std::marker::Model;
+
+/// What setting a callback answers.
+pub enum Met<T, C, P> {
+    /// Neither a result nor a proxy was there.
+    Waiting,
+    Fire(Fire<T, C>),
+    Forward(Forward<C, P>),
+}
+
+/// The half that sets a callback or gives up. It must be spent.
+pub struct Consumer<'h, T, C, P> {
+    table: &'h Cells<T, C, P>,
+    seat: Place<T, C, P>,
+    no: u64,
+}
+
+impl<'h, T, C, P> Model for Consumer<'h, T, C, P> {
+    ghost use Rattle.core_word.specs.Seen.{SeenHalf};
+    ghost use Rattle.core_word.specs.Views.{use_of};
+    ghost use Rattle.core_word.specs.Plays.{IsHome, Sits, consumer_ready};
+
+    ghost Value = { SeenHalf };
+
+    ghost view = { λ c. record { home = c.table.now.table_id; use_number = use_of c.seat.me.0; no = c.no } };
+
+    ghost invariant = { λ c. IsHome c.table.now.table_id × Sits c.table.now.table_id c.seat (consumer_ready (use_of c.seat.me.0)) };
+}
+
+impl<'h, T, C, P> Consumer<'h, T, C, P> {
+    ghost use Rattle.core_word.specs.Views.{use_of};
+    ghost use Rattle.core_word.specs.Plays.{IsHome, Sits, consumer_ready};
+
+    pub(crate) fn new(
+        table: &'h Cells<T, C, P>,
+        seat: Place<T, C, P>,
+        no: u64,
+    ) -> Consumer<'h, T, C, P>
+        requires home { IsHome table.now.table_id }
+        requires sits { Sits table.now.table_id seat (consumer_ready (use_of seat.me.0)) }
+        ensures { result ≡ record { home = table.now.table_id; use_number = use_of seat.me.0; no = no } }
+    {
+        Consumer { table, seat, no }
+    }
+
+    /// Gives the callback up. It gets the result, or is passed on to a proxy, by the later of the two
+    /// halves, here where one of these was there.
+    pub fn set_callback(self, callback: C) -> (Met<T, C, P>, LeftC<'h, T, C, P>)
+        ensures home { (result.1.home ≡ self.entry.home) × (result.1.use_number ≡ self.entry.use_number) × (result.1.no ≡ self.entry.no) }
+        ensures act { result.1.claim ≡ Claim.Callback callback }
+        ensures answer { MeetsAt result.1.found result.1.got self.entry.no callback result.0 }
+    {
+        let Consumer {
+            table,
+            mut seat,
+            no,
+        } = self;
+        steps::take_callback_slot(table, &mut seat);
+        match steps::claim_first(table, &mut seat, callback) {
+            State::Start => (Met::Waiting, LeftC { table, seat, no }),
+            State::OnlyResult => {
+                let (callback, outcome) = steps::claim_result(table, &mut seat);
+                (
+                    Met::Fire(Fire::new(no, outcome, callback)),
+                    LeftC { table, seat, no },
+                )
+            }
+            State::Proxy => {
+                let (callback, proxy) = steps::claim_proxy(table, &mut seat);
+                (
+                    Met::Forward(Forward::new(no, callback, proxy)),
+                    LeftC { table, seat, no },
+                )
+            }
+            _ => unreachable!(),
+        }
+    }
+
+    /// No callback will come. This makes no step: the leave tells the other half.
+    pub fn give_up(self) -> LeftC<'h, T, C, P>
+        ensures home { (result.home ≡ self.entry.home) × (result.use_number ≡ self.entry.use_number) × (result.no ≡ self.entry.no) }
+        ensures act { result.claim ≡ Claim.Nothing }
+        ensures found { (result.found ≡ State.Start) × (result.got ≡ Offer.Nothing) }
+    {
+        let Consumer { table, seat, no } = self;
+        LeftC { table, seat, no }
+    }
+}
+
+/// A consumer that has set its callback or given up. It must be spent by `leave`.
+pub struct LeftC<'h, T, C, P> {
+    table: &'h Cells<T, C, P>,
+    seat: Place<T, C, P>,
+    no: u64,
+}
+
+impl<'h, T, C, P> Model for LeftC<'h, T, C, P> {
+    ghost use Rattle.core_word.specs.Seen.{SeenLeftC};
+    ghost use Rattle.core_word.specs.Views.{use_of, offer_in_view, claim_in_view};
+    ghost use Rattle.core_word.specs.Plays.{IsHome, Sits, consumer_acted, found_by_consumer};
+
+    ghost Value = { SeenLeftC T C P };
+
+    ghost view = { λ c. record { home = c.table.now.table_id; use_number = use_of c.seat.me.0; no = c.no; claim = claim_in_view c.seat.me.0; found = found_by_consumer (offer_in_view c.seat.me.0); got = offer_in_view c.seat.me.0 } };
+
+    ghost invariant = { λ c. IsHome c.table.now.table_id × Sits c.table.now.table_id c.seat (consumer_acted (use_of c.seat.me.0) (claim_in_view c.seat.me.0) (offer_in_view c.seat.me.0)) };
+}
+
+impl<'h, T, C, P> LeftC<'h, T, C, P> {
+    /// Leaves the core. The later of the two halves gets the husk, with what is left over.
+    pub fn leave(self) -> Left<'h, T, C, P>
+        ensures home { MatchLeft result (λ receipt. receipt.home ≡ self.entry.home) (λ leftover husk. husk.home ≡ self.entry.home) }
+        ensures use_number { MatchLeft result (λ receipt. receipt.use_number ≡ self.entry.use_number) (λ leftover husk. husk.use_number ≡ self.entry.use_number) }
+        ensures count { MatchLeft result (λ receipt. (receipt.half ≡ Half.Consumer) × (1 < receipt.attached)) (λ leftover husk. husk.attached ≡ 1) }
+        ensures leftover { IfLast result (λ leftover husk. EndsForConsumer self.entry.claim self.entry.got husk.state leftover) }
+    {
+        let LeftC {
+            table,
+            mut seat,
+            no: _,
+        } = self;
+        if !steps::leave(table, &mut seat) {
+            return Left::First(Receipt::new(Half::Consumer, seat));
+        }
+        let leftover = steps::read_end(table, &mut seat);
+        Left::Last(leftover, Husk::new(table, seat))
+    }
+}

@@ -1,0 +1,126 @@
+//! The memory of a core, and the key that begins it.
+ghost use Rattle.std.specs.Prelude.{◌≡◌, ◌≢◌, ◌↔◌, Bool, true, false, IfOk, IfSome, IsSome, IsNone};
+ghost use Rattle.core_word.specs.Count.{raised};
+ghost use Rattle.core_state.specs.declared.table.State.{State};
+
+use crate::close::Unspent;
+use crate::consumer::Consumer;
+use crate::producer::Producer;
+use crate::rule::{Begins, Cells, CoreRule, Place};
+use crate::tally::Tally;
+use crate::view::{Item, View};
+use atomic_table::Table;
+use core_state::from_code;
+use fan_base::Memory;
+use std::alloc::Global;
+use std::marker::Model;
+
+/// The memory of a core. It is made first and outlives the core's halves, so that no call on these takes memory.
+#[derive(Drop)]
+pub struct Home<T, C, P> {
+    table: Table<Option<Item<T, C, P>>, View<T, C, P>, (), CoreRule, Global>,
+    key: Option<Place<T, C, P>>,
+}
+
+impl<T, C, P> Model for Home<T, C, P> {
+    ghost use Rattle.core_word.specs.Seen.{SeenHome};
+    ghost use Rattle.std.specs.Prelude.{is_none};
+    ghost use Rattle.core_word.specs.Plays.{IsHome, HasKey};
+
+    ghost Value = { SeenHome };
+
+    ghost view = { λ h. record { home = h.table.shared.table_id; taken = is_none h.key } };
+
+    ghost invariant = { λ h. IsHome h.table.shared.table_id × HasKey h.table.shared.table_id h.key };
+}
+
+impl<T, C, P> Home<T, C, P> {
+    pub fn new(alloc: Global) -> Result<Home<T, C, P>, Memory>
+        ensures { IfOk result (λ home. home.taken ≡ false) }
+    {
+        let words = [0, 2];
+        match Table::vacant(alloc, &words, 3, &()) {
+            Ok((table, seat)) => Ok(Home {
+                table,
+                key: Some(seat),
+            }),
+            Err(_) => Err(Memory),
+        }
+    }
+
+    /// The key of the home's first use. It comes once.
+    pub fn key<'h>(&'h mut self) -> Option<Key<'h, T, C, P>>
+        ensures none { IsNone result ↔ (self.old.taken ≡ true) }
+        ensures key { IfSome result (λ key. (key.home ≡ self.old.home) × (key.use_number ≡ 0)) }
+    {
+        let seat = self.key.take()?;
+        Some(Key {
+            table: &self.table.shared,
+            seat,
+        })
+    }
+
+    /// Gives the memory back, and hands out what the slots hold. Halves can be left over only where
+    /// their owner was never run or dropped, as with a proxy that lies in a slot.
+    pub fn close(self) -> Unspent<T, C, P>
+        ensures outcome { result.attached ≢ 0 → result.state ≡ State.OnlyResult → IsSome result.outcome }
+        ensures callback { result.attached ≢ 0 → result.state ≡ State.OnlyCallback → IsSome result.callback }
+        ensures proxy { result.attached ≢ 0 → result.state ≡ State.Proxy → IsSome result.proxy }
+    {
+        let Home { table, key } = self;
+        drop(key);
+        let mut closed = table.close();
+        let word = closed.word(0);
+        let attached = closed.word(1);
+        let result_slot = closed.take(0);
+        let callback_slot = closed.take(1);
+        let proxy_slot = closed.take(2);
+        closed.free();
+        let Some(state) = from_code(word) else {
+            unreachable!()
+        };
+        Unspent::of_slots(result_slot, callback_slot, proxy_slot, state, attached)
+    }
+}
+
+/// The right to begin a use of a home. It may be dropped.
+pub struct Key<'h, T, C, P> {
+    table: &'h Cells<T, C, P>,
+    seat: Place<T, C, P>,
+}
+
+impl<'h, T, C, P> Model for Key<'h, T, C, P> {
+    ghost use Rattle.core_word.specs.Seen.{SeenKey};
+    ghost use Rattle.core_word.specs.Views.{use_of};
+    ghost use Rattle.core_word.specs.Plays.{IsHome, Sits, key_at};
+
+    ghost Value = { SeenKey };
+
+    ghost view = { λ k. record { home = k.table.now.table_id; use_number = use_of k.seat.me.0 } };
+
+    ghost invariant = { λ k. IsHome k.table.now.table_id × Sits k.table.now.table_id k.seat (key_at (use_of k.seat.me.0)) };
+}
+
+impl<'h, T, C, P> Key<'h, T, C, P> {
+    /// Begins a core with this number, in Start, with both halves attached.
+    pub fn start(self, no: u64, t: &mut Tally) -> (Producer<'h, T, C, P>, Consumer<'h, T, C, P>)
+        ensures producer { result.0 ≡ record { home = self.entry.home; use_number = self.entry.use_number; no = no } }
+        ensures consumer { result.1 ≡ record { home = self.entry.home; use_number = self.entry.use_number; no = no } }
+        ensures tally { t.new ≡ record t.old { made = raised t.old.made } }
+    {
+        let Self { table, mut seat } = self;
+        let other = table.split_seat::<Begins>(&mut seat);
+        t.count_made();
+        (
+            Producer::new(table, seat, no),
+            Consumer::new(table, other, no),
+        )
+    }
+}
+
+impl<'h, T, C, P> Drop for Key<'h, T, C, P> {
+    fn drop(self) {
+        let Self { table: _, seat } = self;
+        drop(seat);
+    }
+}

@@ -1,0 +1,101 @@
+//! What a half gets when it leaves: a receipt where it was the first, and the core's husk where it was the last.
+ghost use Rattle.core_word.specs.Count.{raised};
+ghost use Rattle.std.specs.Prelude.{◌≡◌};
+
+use crate::rule::{Cells, Place};
+use crate::tally::Tally;
+use core_state::Half;
+use fan_base::Try;
+use std::marker::Model;
+
+/// What is left of a core that both halves have left.
+#[derive(Debug, PartialEq, Eq, Drop)]
+pub enum Leftover<T, P> {
+    Nothing,
+    Outcome(Try<T>),
+    Proxy(P),
+}
+
+/// What a leave answers.
+pub enum Left<'h, T, C, P> {
+    /// The other half was still attached.
+    First(Receipt<T, C, P>),
+    /// The other half had left. The husk must be spent.
+    Last(Leftover<T, P>, Husk<'h, T, C, P>),
+}
+
+/// Shows that a half has left its core while the other half was attached. It may be dropped.
+pub struct Receipt<T, C, P> {
+    half: Half,
+    seat: Place<T, C, P>,
+}
+
+impl<T, C, P> Model for Receipt<T, C, P> {
+    ghost use Rattle.core_word.specs.Seen.{SeenReceipt};
+    ghost use Rattle.core_word.specs.Views.{use_of, attached_found, IsFirstLeave};
+
+    ghost Value = { SeenReceipt };
+
+    ghost view = { λ r. record { home = r.seat.table_id; use_number = use_of r.seat.me.0; half = r.half; attached = attached_found r.seat.me.0 } };
+
+    ghost invariant = { λ r. IsFirstLeave r.half r.seat.me.0 };
+}
+
+impl<T, C, P> Receipt<T, C, P> {
+    ghost use Rattle.core_word.specs.Views.{use_of, IsFirstLeave};
+
+    pub(crate) fn new(half: Half, seat: Place<T, C, P>) -> Receipt<T, C, P>
+        requires { IsFirstLeave half seat.me.0 }
+        ensures { result ≡ record { home = seat.table_id; use_number = use_of seat.me.0; half = half; attached = 2 } }
+    {
+        Receipt { half, seat }
+    }
+}
+
+impl<T, C, P> Drop for Receipt<T, C, P> {
+    fn drop(self) {
+        let Self { half: _, seat } = self;
+        drop(seat);
+    }
+}
+
+/// A core that both halves have left. It must be spent by `end`.
+pub struct Husk<'h, T, C, P> {
+    table: &'h Cells<T, C, P>,
+    seat: Place<T, C, P>,
+}
+
+impl<'h, T, C, P> Model for Husk<'h, T, C, P> {
+    ghost use Rattle.core_word.specs.Seen.{SeenHusk};
+    ghost use Rattle.core_word.specs.Views.{use_of, state_read, attached_found};
+    ghost use Rattle.core_word.specs.Plays.{IsHome, Sits, husk_at};
+
+    ghost Value = { SeenHusk };
+
+    ghost view = { λ h. record { home = h.table.now.table_id; use_number = use_of h.seat.me.0; attached = attached_found h.seat.me.0; state = state_read h.seat.me.0 } };
+
+    ghost invariant = { λ h. IsHome h.table.now.table_id × Sits h.table.now.table_id h.seat (husk_at (use_of h.seat.me.0) (state_read h.seat.me.0)) };
+}
+
+impl<'h, T, C, P> Husk<'h, T, C, P> {
+    ghost use Rattle.core_state.specs.declared.table.State.{State};
+    ghost use Rattle.core_word.specs.Views.{use_of, state_read};
+    ghost use Rattle.core_word.specs.Plays.{IsHome, Sits, husk_at};
+
+    pub(crate) fn new(table: &'h Cells<T, C, P>, seat: Place<T, C, P>) -> Husk<'h, T, C, P>
+        requires home { IsHome table.now.table_id }
+        requires sits { Sits table.now.table_id seat (husk_at (use_of seat.me.0) (state_read seat.me.0)) }
+        ensures { result ≡ record { home = table.now.table_id; use_number = use_of seat.me.0; attached = 1; state = state_read seat.me.0 } }
+    {
+        Husk { table, seat }
+    }
+
+    /// Frees the core.
+    pub fn end(self, t: &mut Tally)
+        ensures { t.new ≡ record t.old { freed = raised t.old.freed } }
+    {
+        let Husk { table: _, seat } = self;
+        drop(seat);
+        t.count_freed();
+    }
+}

@@ -1,0 +1,96 @@
+//! The rule of a home's table, and what each step on it tells. These types are for the proofs alone.
+ghost use Rattle.core_word.specs.declared.view.Own.TheVariants as own;
+ghost use Rattle.core_word.specs.Rule.{StandsFor};
+ghost use Rattle.core_word.specs.Plays.{takes_own, takes_callback_slot, sets_first, sets_second, claims_first, claims_result, claims_proxy, leaves, reads_end, begin_producer, begin_consumer};
+ghost use Rattle.core_word.specs.declared.view.View.TheVariants as view;
+
+use crate::view::{Item, View};
+use atomic_table::{Play, Seat, Shared, Split, TableRule};
+
+/// The words and slots of a home, as its halves share them.
+pub(crate) type Cells<T, C, P> = Shared<Option<Item<T, C, P>>, View<T, C, P>, (), CoreRule>;
+
+/// The seat of a half.
+pub(crate) type Place<T, C, P> = Seat<Option<Item<T, C, P>>, View<T, C, P>>;
+
+pub(crate) struct CoreRule;
+
+impl<T, C, P> TableRule<Option<Item<T, C, P>>, View<T, C, P>, ()> for CoreRule {
+    ghost holds = { λ _. StandsFor };
+
+    ghost first = { λ _. view.Key 0 };
+}
+
+pub(crate) struct TakesResultSlot;
+
+impl<T, C, P> Play<Option<Item<T, C, P>>, View<T, C, P>> for TakesResultSlot {
+    ghost then = { λ _. takes_own own.Result };
+}
+
+pub(crate) struct TakesProxySlot;
+
+impl<T, C, P> Play<Option<Item<T, C, P>>, View<T, C, P>> for TakesProxySlot {
+    ghost then = { λ _. takes_own own.Proxy };
+}
+
+pub(crate) struct TakesCallbackSlot;
+
+impl<T, C, P> Play<Option<Item<T, C, P>>, View<T, C, P>> for TakesCallbackSlot {
+    ghost then = { λ _. takes_callback_slot };
+}
+
+pub(crate) struct SetsResult;
+
+impl<T, C, P> Play<Option<Item<T, C, P>>, View<T, C, P>> for SetsResult {
+    ghost then = { λ _. sets_first own.Result };
+}
+
+pub(crate) struct SetsProxy;
+
+impl<T, C, P> Play<Option<Item<T, C, P>>, View<T, C, P>> for SetsProxy {
+    ghost then = { λ _. sets_first own.Proxy };
+}
+
+pub(crate) struct SetsSecond;
+
+impl<T, C, P> Play<Option<Item<T, C, P>>, View<T, C, P>> for SetsSecond {
+    ghost then = { λ _. sets_second };
+}
+
+pub(crate) struct ClaimsFirst;
+
+impl<T, C, P> Play<Option<Item<T, C, P>>, View<T, C, P>> for ClaimsFirst {
+    ghost then = { λ _. claims_first };
+}
+
+pub(crate) struct ClaimsResult;
+
+impl<T, C, P> Play<Option<Item<T, C, P>>, View<T, C, P>> for ClaimsResult {
+    ghost then = { λ _. claims_result };
+}
+
+pub(crate) struct ClaimsProxy;
+
+impl<T, C, P> Play<Option<Item<T, C, P>>, View<T, C, P>> for ClaimsProxy {
+    ghost then = { λ _. claims_proxy };
+}
+
+pub(crate) struct Leaves;
+
+impl<T, C, P> Play<Option<Item<T, C, P>>, View<T, C, P>> for Leaves {
+    ghost then = { λ _. leaves };
+}
+
+pub(crate) struct ReadsEnd;
+
+impl<T, C, P> Play<Option<Item<T, C, P>>, View<T, C, P>> for ReadsEnd {
+    ghost then = { λ _. reads_end };
+}
+
+pub(crate) struct Begins;
+
+impl<T, C, P> Split<View<T, C, P>> for Begins {
+    ghost left = { begin_producer };
+
+    ghost right = { begin_consumer };
+}

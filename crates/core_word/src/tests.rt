@@ -1,0 +1,446 @@
+ghost use Rattle.std.specs.Prelude.{◌≡◌};
+
+use crate::{Consumer, Home, Landed, Left, Leftover, Met, Passed, Producer, State, Tally, Unspent};
+use fan_base::Try;
+use std::alloc::{AllocError, Global};
+use std::test::Fail;
+use std::thread;
+use std::thread::Threads;
+
+// A core of numbers.
+type Numbers = Home<u64, u64, u64>;
+
+// What a setting call answers, as plain data.
+#[derive(Debug, PartialEq, Eq, Drop)]
+enum Answer {
+    Waiting,
+    Fire(u64, Try<u64>, u64),
+    Forward(u64, u64),
+}
+
+fn landed(landed: Landed<u64, u64>, t: &mut Tally) -> Answer {
+    match landed {
+        Landed::Waiting => Answer::Waiting,
+        Landed::Fire(fire) => {
+            let (no, outcome, callback) = fire.unpack(t);
+            Answer::Fire(no, outcome, callback)
+        }
+    }
+}
+
+fn passed(passed: Passed<u64, u64>, t: &mut Tally) -> Answer {
+    match passed {
+        Passed::Waiting => Answer::Waiting,
+        Passed::Forward(forward) => {
+            let (callback, proxy) = forward.unpack(t);
+            Answer::Forward(callback, proxy)
+        }
+    }
+}
+
+fn met(met: Met<u64, u64, u64>, t: &mut Tally) -> Answer {
+    match met {
+        Met::Waiting => Answer::Waiting,
+        Met::Fire(fire) => {
+            let (no, outcome, callback) = fire.unpack(t);
+            Answer::Fire(no, outcome, callback)
+        }
+        Met::Forward(forward) => {
+            let (callback, proxy) = forward.unpack(t);
+            Answer::Forward(callback, proxy)
+        }
+    }
+}
+
+// None for the first leave, else what is left over.
+fn left(left: Left<'_, u64, u64, u64>, t: &mut Tally) -> Option<Leftover<u64, u64>> {
+    match left {
+        Left::First(_) => None,
+        Left::Last(leftover, husk) => {
+            husk.end(t);
+            Some(leftover)
+        }
+    }
+}
+
+fn begun<'h>(
+    home: &'h mut Numbers,
+    no: u64,
+    t: &mut Tally,
+) -> Result<(Producer<'h, u64, u64, u64>, Consumer<'h, u64, u64, u64>), AllocError> {
+    match home.key() {
+        Some(key) => Ok(key.start(no, t)),
+        None => Err(AllocError),
+    }
+}
+
+fn numbers(alloc: Global) -> Result<Numbers, AllocError> {
+    Home::new(alloc).map_err(|_| AllocError)
+}
+
+fn counts(t: &Tally) -> (u64, u64, u64, u64) {
+    (t.made(), t.handed(), t.forwarded(), t.freed())
+}
+
+#[test]
+fn callback_first_then_result(rt: HostRuntime) -> Result<(), Fail> {
+    let mut home = numbers(rt.alloc())?;
+    let mut t = Tally::new();
+    let (producer, consumer) = begun(&mut home, 9, &mut t)?;
+    let (answer, consumer) = consumer.set_callback(7);
+    let first = met(answer, &mut t);
+    let (answer, producer) = producer.set_result(Try::Value(5));
+    let second = landed(answer, &mut t);
+    let third = left(producer.leave(), &mut t);
+    let fourth = left(consumer.leave(), &mut t);
+    assert_eq!(rt; first, Answer::Waiting);
+    assert_eq!(rt; second, Answer::Fire(9, Try::Value(5), 7));
+    assert_eq!(rt; third, None);
+    assert_eq!(rt; fourth, Some(Leftover::Nothing));
+    assert_eq!(rt; counts(&t), (1, 1, 0, 1));
+    assert!(rt; home.key().is_none());
+    Ok(())
+}
+
+#[test]
+fn result_first_then_callback(rt: HostRuntime) -> Result<(), Fail> {
+    let mut home = numbers(rt.alloc())?;
+    let mut t = Tally::new();
+    let (producer, consumer) = begun(&mut home, 9, &mut t)?;
+    let (answer, producer) = producer.set_result(Try::Value(5));
+    let first = landed(answer, &mut t);
+    let second = left(producer.leave(), &mut t);
+    let (answer, consumer) = consumer.set_callback(7);
+    let third = met(answer, &mut t);
+    let fourth = left(consumer.leave(), &mut t);
+    assert_eq!(rt; first, Answer::Waiting);
+    assert_eq!(rt; second, None);
+    assert_eq!(rt; third, Answer::Fire(9, Try::Value(5), 7));
+    assert_eq!(rt; fourth, Some(Leftover::Nothing));
+    assert_eq!(rt; counts(&t), (1, 1, 0, 1));
+    Ok(())
+}
+
+#[test]
+fn result_is_left_over_where_the_consumer_gives_up(rt: HostRuntime) -> Result<(), Fail> {
+    let mut home = numbers(rt.alloc())?;
+    let mut t = Tally::new();
+    let (producer, consumer) = begun(&mut home, 1, &mut t)?;
+    let first = left(consumer.give_up().leave(), &mut t);
+    let (answer, producer) = producer.set_result(Try::Value(5));
+    let second = landed(answer, &mut t);
+    let third = left(producer.leave(), &mut t);
+    assert_eq!(rt; first, None);
+    assert_eq!(rt; second, Answer::Waiting);
+    assert_eq!(rt; third, Some(Leftover::Outcome(Try::Value(5))));
+
+    let mut home = numbers(rt.alloc())?;
+    let (producer, consumer) = begun(&mut home, 2, &mut t)?;
+    let (answer, producer) = producer.set_result(Try::Value(5));
+    let first = landed(answer, &mut t);
+    let second = left(producer.leave(), &mut t);
+    let third = left(consumer.give_up().leave(), &mut t);
+    assert_eq!(rt; first, Answer::Waiting);
+    assert_eq!(rt; second, None);
+    assert_eq!(rt; third, Some(Leftover::Outcome(Try::Value(5))));
+    assert_eq!(rt; counts(&t), (2, 0, 0, 2));
+    Ok(())
+}
+
+#[test]
+fn proxy_is_left_over_or_gets_the_callback(rt: HostRuntime) -> Result<(), Fail> {
+    let mut home = numbers(rt.alloc())?;
+    let mut t = Tally::new();
+    let (producer, consumer) = begun(&mut home, 1, &mut t)?;
+    let (answer, producer) = producer.set_proxy(3);
+    let first = passed(answer, &mut t);
+    let second = left(producer.leave(), &mut t);
+    let third = left(consumer.give_up().leave(), &mut t);
+    assert_eq!(rt; first, Answer::Waiting);
+    assert_eq!(rt; second, None);
+    assert_eq!(rt; third, Some(Leftover::Proxy(3)));
+
+    let mut home = numbers(rt.alloc())?;
+    let (producer, consumer) = begun(&mut home, 2, &mut t)?;
+    let (answer, consumer) = consumer.set_callback(7);
+    let first = met(answer, &mut t);
+    let (answer, producer) = producer.set_proxy(3);
+    let second = passed(answer, &mut t);
+    let third = left(consumer.leave(), &mut t);
+    let fourth = left(producer.leave(), &mut t);
+    assert_eq!(rt; first, Answer::Waiting);
+    assert_eq!(rt; second, Answer::Forward(7, 3));
+    assert_eq!(rt; third, None);
+    assert_eq!(rt; fourth, Some(Leftover::Nothing));
+    assert_eq!(rt; counts(&t), (2, 0, 1, 2));
+    Ok(())
+}
+
+// What a thread has done with its halves: what it counted, what was left over, and how many answers had another
+// core's number or value.
+#[derive(Drop)]
+struct Driven {
+    tally: Tally,
+    outcomes: u64,
+    proxies: u64,
+    strangers: u64,
+}
+
+impl Driven {
+    fn new() -> Driven {
+        Driven {
+            tally: Tally::new(),
+            outcomes: 0,
+            proxies: 0,
+            strangers: 0,
+        }
+    }
+
+    fn with(self, other: Driven) -> Driven {
+        Driven {
+            tally: self.tally.merge(other.tally),
+            outcomes: self.outcomes.saturating_add(other.outcomes),
+            proxies: self.proxies.saturating_add(other.proxies),
+            strangers: self.strangers.saturating_add(other.strangers),
+        }
+    }
+
+    // The outcome, the callback and the proxy of the core n all are n.
+    fn answered(&mut self, n: u64, answer: Answer) {
+        let is_own = match answer {
+            Answer::Waiting => true,
+            Answer::Fire(no, Try::Value(value), callback) => no == n && value == n && callback == n,
+            Answer::Fire(..) => false,
+            Answer::Forward(callback, proxy) => callback == n && proxy == n,
+        };
+        if !is_own {
+            self.strangers = self.strangers.saturating_add(1);
+        }
+    }
+
+    fn left(&mut self, n: u64, answer: Left<'_, u64, u64, u64>) {
+        match left(answer, &mut self.tally) {
+            None | Some(Leftover::Nothing) => {}
+            Some(Leftover::Outcome(Try::Value(value))) if value == n => {
+                self.outcomes = self.outcomes.saturating_add(1);
+            }
+            Some(Leftover::Proxy(proxy)) if proxy == n => {
+                self.proxies = self.proxies.saturating_add(1);
+            }
+            Some(_) => self.strangers = self.strangers.saturating_add(1),
+        }
+    }
+
+    // With `mixed` two cores in four have a proxy.
+    fn produce(&mut self, n: u64, producer: Producer<'_, u64, u64, u64>, mixed: bool) {
+        if mixed && n % 4 >= 2 {
+            let (answer, producer) = producer.set_proxy(n);
+            let answer = passed(answer, &mut self.tally);
+            self.answered(n, answer);
+            self.left(n, producer.leave());
+        } else {
+            let (answer, producer) = producer.set_result(Try::Value(n));
+            let answer = landed(answer, &mut self.tally);
+            self.answered(n, answer);
+            self.left(n, producer.leave());
+        }
+    }
+
+    // With `mixed` every other core is given up.
+    fn consume(&mut self, n: u64, consumer: Consumer<'_, u64, u64, u64>, mixed: bool) {
+        if mixed && n % 2 == 1 {
+            self.left(n, consumer.give_up().leave());
+        } else {
+            let (answer, consumer) = consumer.set_callback(n);
+            let answer = met(answer, &mut self.tally);
+            self.answered(n, answer);
+            self.left(n, consumer.leave());
+        }
+    }
+}
+
+// Drives the producer, if it is still there.
+fn produced(n: u64, producer: &mut Option<Producer<'_, u64, u64, u64>>, mixed: bool) -> Driven
+    ensures { producer.new ≡ None }
+{
+    let mut driven = Driven::new();
+    if let Some(producer) = producer.take() {
+        driven.produce(n, producer, mixed);
+    }
+    driven
+}
+
+// Drives the consumer, if it is still there.
+fn consumed(n: u64, consumer: &mut Option<Consumer<'_, u64, u64, u64>>, mixed: bool) -> Driven
+    ensures { consumer.new ≡ None }
+{
+    let mut driven = Driven::new();
+    if let Some(consumer) = consumer.take() {
+        driven.consume(n, consumer, mixed);
+    }
+    driven
+}
+
+// Two threads have one half each.
+fn driven_core(rt: &impl Threads, n: u64, home: &mut Numbers, mixed: bool) -> Driven {
+    let mut begun = Driven::new();
+    let Some(key) = home.key() else {
+        return begun;
+    };
+    let (producer, consumer) = key.start(n, &mut begun.tally);
+    let mut producer = Some(producer);
+    let mut consumer = Some(consumer);
+    let (one, two) = thread::join(
+        rt,
+        || produced(n, &mut producer, mixed),
+        || consumed(n, &mut consumer, mixed),
+    );
+    let three = produced(n, &mut producer, mixed);
+    let four = consumed(n, &mut consumer, mixed);
+    let None = producer else { unreachable!() };
+    let None = consumer else { unreachable!() };
+    begun.with(one).with(two).with(three).with(four)
+}
+
+// What two threads have done with the halves of 1,000 cores.
+fn driven_by_two(rt: &impl Threads, alloc: Global, mixed: bool) -> Result<Driven, AllocError> {
+    let mut all = Driven::new();
+    for n in 0..1000 {
+        let mut home = numbers(alloc)?;
+        all = all.with(driven_core(rt, n, &mut home, mixed));
+    }
+    Ok(all)
+}
+
+#[test]
+fn two_threads_drive_a_thousand_cores(rt: HostRuntime) -> Result<(), Fail> {
+    let all = driven_by_two(&rt, rt.alloc(), false)?;
+    assert_eq!(rt; counts(&all.tally), (1000, 1000, 0, 1000));
+    assert_eq!(rt; (all.outcomes, all.proxies, all.strangers), (0, 0, 0));
+    Ok(())
+}
+
+#[test]
+fn two_threads_mix_proxies_and_give_ups(rt: HostRuntime) -> Result<(), Fail> {
+    let all = driven_by_two(&rt, rt.alloc(), true)?;
+    assert_eq!(rt; counts(&all.tally), (1000, 250, 250, 1000));
+    assert_eq!(rt; (all.outcomes, all.proxies, all.strangers), (250, 250, 0));
+    Ok(())
+}
+
+// A value that can't be dropped.
+struct Token(u64);
+
+fn spent(token: Token) -> u64 {
+    let Token(n) = token;
+    n
+}
+
+fn outcome_spent(outcome: Try<Token>) -> u64 {
+    match outcome {
+        Try::Value(token) => spent(token),
+        Try::Broken | Try::Memory => 0,
+        Try::Cancelled(n) => n,
+    }
+}
+
+fn slot_spent(slot: Option<Token>) -> u64 {
+    match slot {
+        Some(token) => spent(token),
+        None => 0,
+    }
+}
+
+// What was left over, and which home it was left in: the numbers of the values that come out.
+fn token_left(left: Left<'_, Token, Token, Token>, t: &mut Tally) -> u64 {
+    match left {
+        Left::First(_) => 0,
+        Left::Last(leftover, husk) => {
+            husk.end(t);
+            match leftover {
+                Leftover::Nothing => 0,
+                Leftover::Outcome(outcome) => outcome_spent(outcome),
+                Leftover::Proxy(proxy) => spent(proxy),
+            }
+        }
+    }
+}
+
+fn closed(home: Home<Token, Token, Token>) -> (u64, u64, u64, State, u64) {
+    let Unspent {
+        outcome,
+        callback,
+        proxy,
+        state,
+        attached,
+    } = home.close();
+    let outcome = match outcome {
+        Some(outcome) => outcome_spent(outcome),
+        None => 0,
+    };
+    (
+        outcome,
+        slot_spent(callback),
+        slot_spent(proxy),
+        state,
+        attached,
+    )
+}
+
+// A core of tokens, once through: what was fired, what was left over by producer and consumer, and what the home held.
+fn tokens_through(
+    home: &mut Home<Token, Token, Token>,
+    gives_up: bool,
+    t: &mut Tally,
+) -> (u64, u64, u64) {
+    let Some(key) = home.key() else {
+        return (0, 0, 0);
+    };
+    let (producer, consumer) = key.start(1, t);
+    let (answer, producer) = producer.set_result(Try::Value(Token(5)));
+    let mut fired = match answer {
+        Landed::Waiting => 0,
+        Landed::Fire(fire) => {
+            let (_, outcome, callback) = fire.unpack(t);
+            outcome_spent(outcome).saturating_add(spent(callback))
+        }
+    };
+    let first = token_left(producer.leave(), t);
+    if gives_up {
+        return (fired, first, token_left(consumer.give_up().leave(), t));
+    }
+    let (answer, consumer) = consumer.set_callback(Token(70));
+    match answer {
+        Met::Waiting => {}
+        Met::Fire(fire) => {
+            let (_, outcome, callback) = fire.unpack(t);
+            fired = outcome_spent(outcome).saturating_add(spent(callback));
+        }
+        Met::Forward(forward) => {
+            let (callback, proxy) = forward.unpack(t);
+            fired = spent(callback).saturating_add(spent(proxy));
+        }
+    }
+    (fired, first, token_left(consumer.leave(), t))
+}
+
+#[test]
+fn values_that_cannot_be_dropped_come_out(rt: HostRuntime) -> Result<(), Fail> {
+    let mut t = Tally::new();
+    let mut home = Home::new(rt.alloc()).map_err(|_| AllocError)?;
+    let through = tokens_through(&mut home, false, &mut t);
+    let rest = closed(home);
+    assert_eq!(rt; through, (75, 0, 0));
+    assert_eq!(rt; rest, (0, 0, 0, State::Done, 0));
+
+    let mut home = Home::new(rt.alloc()).map_err(|_| AllocError)?;
+    let through = tokens_through(&mut home, true, &mut t);
+    let rest = closed(home);
+    assert_eq!(rt; through, (0, 0, 5));
+    assert_eq!(rt; rest, (0, 0, 0, State::OnlyResult, 0));
+
+    let home = Home::new(rt.alloc()).map_err(|_| AllocError)?;
+    assert_eq!(rt; closed(home), (0, 0, 0, State::Start, 2));
+    assert_eq!(rt; counts(&t), (2, 1, 0, 2));
+    Ok(())
+}

@@ -1,0 +1,58 @@
+//! What a seat of a home's table knows and holds. But for `Item` no value of these types is made.
+use core_state::{Claim, Offer, State};
+use fan_base::Try;
+
+/// What lies in a slot of a home, if anything does.
+#[derive(Drop)]
+pub enum Item<T, C, P> {
+    Outcome(Try<T>),
+    Callback(C),
+    Proxy(P),
+}
+
+/// Whether a half has left its core, and whether it was the first or the last to leave.
+pub enum Departure {
+    No,
+    First,
+    Last,
+}
+
+/// The slot that a producer takes before it acts.
+pub enum Own {
+    Result,
+    Proxy,
+}
+
+/// How far a producer has come.
+pub enum ProducerPhase<T, C, P> {
+    /// It hasn't acted.
+    Ready,
+    /// It has taken its slot, and hasn't acted.
+    Holding(Own),
+    /// Besides, it has seen that a callback waits.
+    Aware(Own),
+    /// It has set the offer. It got a callback where one waited.
+    Acted(Offer<Try<T>, P>, Claim<C>, Departure),
+}
+
+/// How far a consumer has come.
+pub enum ConsumerPhase<T, C, P> {
+    /// It hasn't acted.
+    Ready,
+    /// It has taken its slot, and hasn't acted.
+    Holding,
+    /// Besides, it has seen a state that the producer made.
+    Aware(State),
+    /// It has set a callback, or has left without one. It got an offer where one was there.
+    Acted(Claim<C>, Offer<Try<T>, P>, Departure),
+}
+
+/// What a seat knows, with the number of the use of the home in which it learned it.
+pub enum View<T, C, P> {
+    /// It may begin this use.
+    Key(u64),
+    Producer(u64, ProducerPhase<T, C, P>),
+    Consumer(u64, ConsumerPhase<T, C, P>),
+    /// The last leaver, once it has read the final state. It has all slots.
+    Husk(u64, State),
+}
