@@ -1,0 +1,7 @@
+pub mod Delivery
+pub mod Ends
+pub mod History
+pub mod Marks
+pub mod Receivers
+pub mod Senders
+pub mod Stamps

@@ -1,0 +1,65 @@
+//! How a queue is made.
+ghost use Rattle.std.specs.Prelude.{◌≡◌, ℕ, ◌+◌, ◌<◌, ◌≤◌, [], length, Some, IfOk, OnOk, slice_get};
+ghost use Rattle.std.specs.Arc.{arc_value};
+ghost use Rattle.crossbeam_queue.specs.SegTies.{IsSegPassOf};
+ghost use Rattle.notify_queue.specs.Delivery.{receiving};
+ghost use Rattle.notify_queue.specs.Ends.{new_receiver, new_sender};
+ghost use Rattle.notify_queue.specs.Marks.{reading};
+
+use crate::channel::Channel;
+use crate::delivery::Pass;
+use crate::marks::MarkSeat;
+use crate::receiver::Receiver;
+use crate::sender::Sender;
+use fan_base::Memory;
+use std::alloc::Global;
+use std::sync::Arc;
+
+/// A queue of so many senders, which have the numbers from 0 on.
+pub fn queue<M>(alloc: Global, senders: u32) -> Result<(Receiver<M>, Vec<Sender<M>>), Memory>
+    requires some { 1 ≤ senders }
+    requires few { senders ≤ 64 }
+    ensures receiver { IfOk result (λ q. q.0 ≡ new_receiver q.0.queue senders) }
+    ensures senders { IfOk result (λ q. (length q.1.items ≡ senders) × ((number : ℕ) → number < senders → slice_get q.1.items number ≡ Some (new_sender q.0.queue number))) }
+{
+    let (channel, mut pass, mut seat, parker) = Channel::open(alloc, senders)?;
+    let channel = Arc::new(alloc, channel).map_err(|_| Memory)?;
+    let made = senders_of(alloc, &channel, senders, &mut pass, &mut seat)?;
+    let receiver = Receiver::new(alloc, channel, pass, seat, parker, senders);
+    Ok((receiver, made))
+}
+
+fn senders_of<M>(
+    alloc: Global,
+    channel: &Arc<Channel<M>, Global>,
+    senders: u32,
+    pass: &mut Pass<M>,
+    seat: &mut MarkSeat<M>,
+) -> Result<Vec<Sender<M>>, Memory>
+    requires few { senders ≤ 64 }
+    requires pass { IsSegPassOf (arc_value channel.now).line pass.old × (pass.old.id ≡ 0) × (pass.old.me.view.client ≡ receiving 0 [] []) }
+    requires seat { (seat.old.table_id ≡ (arc_value channel.now).marks.shared.table_id) × (seat.old.id ≡ 0) × (seat.old.me.0 ≡ reading (arc_value channel.now).line 0 0 []) × (seat.old.table_id.words ≡ senders) }
+    ensures count { IfOk result (λ made. length made.items ≡ senders) }
+    ensures made { IfOk result (λ made. (number : ℕ) → number < senders → slice_get made.items number ≡ Some (new_sender (record { line = (arc_value channel.now).line }) number)) }
+    ensures pass { OnOk result (IsSegPassOf (arc_value channel.now).line pass.new × (pass.new.id ≡ 0) × (pass.new.me.view.client ≡ receiving senders [] [])) }
+    ensures seat { OnOk result ((seat.new.table_id ≡ seat.old.table_id) × (seat.new.id ≡ 0) × (seat.new.me.0 ≡ reading (arc_value channel.now).line senders 0 [])) }
+{
+    let mut made = Vec::with_capacity(alloc, senders as usize)?;
+    for number in 0..senders {
+        match Sender::another(channel, alloc, number, pass, seat) {
+            Ok(sender) => made.push_reserved(sender),
+            Err(memory) => {
+                abandon(made);
+                return Err(memory);
+            }
+        }
+    }
+    Ok(made)
+}
+
+fn abandon<M>(mut made: Vec<Sender<M>>) {
+    while let Some(sender) = made.pop() {
+        sender.abandon();
+    }
+    made.destroy_empty();
+}

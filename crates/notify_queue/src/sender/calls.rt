@@ -1,0 +1,116 @@
+ghost use Rattle.std.specs.Prelude.{◌≡◌, ◌+◌, ◌<◌, ◌++◌, ◌∷◌, [], length, IfOk, IfErr, OnOk};
+ghost use Rattle.std.specs.Arc.{arc_value};
+ghost use Rattle.crossbeam_queue.specs.SegTies.{IsSegPassOf};
+ghost use Rattle.notify_queue.specs.Delivery.{receiving, telling};
+ghost use Rattle.notify_queue.specs.Ends.{new_sender};
+ghost use Rattle.notify_queue.specs.Marks.{reading};
+
+use super::{Sender, SenderEnd};
+use crate::channel::Channel;
+use crate::delivery::Pass;
+use crate::marks::MarkSeat;
+use crate::stamp::{Stamp, Stamped};
+use fan_base::{Memory, Parcel, Refused};
+use std::alloc::Global;
+use std::sync::{Arc, Wait};
+
+impl<M> Sender<M> {
+    /// Puts a message behind the others and wakes the receiver. It gives the message back where there is no memory.
+    pub fn put<R: Wait>(&mut self, rt: &R, message: M) -> Result<Stamp, Refused<M>>
+        requires { length self.old.sent < 4294967295 }
+        ensures ok { IfOk result (λ stamp. (stamp ≡ record { sender = self.old.number; index = length self.old.sent }) × (self.new ≡ record self.old { sent = self.old.sent ++ message ∷ [] })) }
+        ensures refused { IfErr result (λ back. (back ≡ Refused.Memory message) × (self.new ≡ self.old)) }
+    {
+        let stamp = Stamp {
+            sender: self.number,
+            index: self.puts,
+        };
+        let parcel = match Parcel::new(self.alloc, Stamped { stamp, message }) {
+            Ok(parcel) => parcel,
+            Err(Refused::Memory(Stamped { stamp: _, message })) => return Err(Refused::Memory(
+                message,
+            )),
+        };
+        match self.channel.put(rt, &mut self.pass, parcel) {
+            Ok(()) => {
+                self.puts += 1;
+                Ok(stamp)
+            }
+            Err(parcel) => {
+                let Stamped { stamp: _, message } = parcel.open();
+                Err(Refused::Memory(message))
+            }
+        }
+    }
+
+    /// How many messages it has put.
+    pub fn puts(&self) -> u64
+        ensures { result ≡ length self.now.sent }
+    {
+        self.puts
+    }
+
+    /// No message of this sender comes any more. It tells the receiver and wakes it.
+    pub fn end<R: Wait>(self, _rt: &R) -> SenderEnd<M>
+        ensures { result ≡ self }
+    {
+        let Sender {
+            channel,
+            mut pass,
+            seat,
+            number,
+            puts: _,
+            alloc: _,
+        } = self;
+        let copy = channel.end(&mut pass);
+        channel.set_mark(seat, number, copy);
+        SenderEnd { pass, number }
+    }
+
+    /// The next sender of a channel, made by the receiver's pass and seat.
+    pub(crate) fn another(
+        channel: &Arc<Channel<M>, Global>,
+        alloc: Global,
+        number: u32,
+        pass: &mut Pass<M>,
+        seat: &mut MarkSeat<M>,
+    ) -> Result<Sender<M>, Memory>
+        requires pass { IsSegPassOf (arc_value channel.now).line pass.old × (pass.old.id ≡ 0) × (pass.old.me.view.client ≡ receiving number [] []) × (number < 64) }
+        requires seat { (seat.old.table_id ≡ (arc_value channel.now).marks.shared.table_id) × (seat.old.id ≡ 0) × (seat.old.me.0 ≡ reading (arc_value channel.now).line number 0 []) × (number < seat.old.table_id.words) }
+        ensures sender { IfOk result (λ sender. sender ≡ new_sender (record { line = (arc_value channel.now).line }) number) }
+        ensures pass { OnOk result (IsSegPassOf (arc_value channel.now).line pass.new × (pass.new.id ≡ 0) × (pass.new.me.view.client ≡ receiving (number + 1) [] [])) }
+        ensures seat { OnOk result ((seat.new.table_id ≡ seat.old.table_id) × (seat.new.id ≡ 0) × (seat.new.me.0 ≡ reading (arc_value channel.now).line (number + 1) 0 [])) }
+    {
+        let theirs = Arc::try_clone(channel)?;
+        Ok(Sender {
+            channel: theirs,
+            pass: channel.another_sender(pass),
+            seat: channel.another_mark(seat),
+            number,
+            puts: 0,
+            alloc,
+        })
+    }
+
+    /// Gives up a sender of a queue that could not be made.
+    pub(crate) fn abandon(self) {
+        let Sender {
+            channel: _,
+            pass: _,
+            seat: _,
+            number: _,
+            puts: _,
+            alloc: _,
+        } = self;
+    }
+}
+
+impl<M> SenderEnd<M> {
+    /// The pass that tells what the sender put.
+    pub(crate) fn into_pass(self) -> Pass<M>
+        ensures { IsSegPassOf self.queue.line result × (result.me.view.client ≡ telling self.number self.sent) }
+    {
+        let SenderEnd { pass, number: _ } = self;
+        pass
+    }
+}
