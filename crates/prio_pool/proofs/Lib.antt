@@ -1,0 +1,15 @@
+pub mod LaneLists
+pub mod Totals
+pub mod Seats
+pub mod Deeds
+pub mod Standing
+pub mod Turning
+pub mod Parting
+pub mod Leaving
+pub mod Adding
+pub mod Records
+pub mod Gathers
+pub mod Accounts
+pub mod Endings
+pub mod Making
+pub mod Leading

@@ -1,0 +1,9 @@
+-- A task that was refused.
+use Rattle.std.specs.Prelude.{◌≡◌}
+use Rattle.fan_base.specs.declared.refusal.Refused.{Refused}
+use Rattle.fan_base.specs.declared.refusal.Refused.TheVariants.{Memory}
+use Rattle.prio_pool.specs.declared.lane.Task.{Task}
+
+-- the job of the task is refused
+abbrev pub GivesJob : {J : Type 0} → Refused (Task J) → Refused J → Type 0
+GivesJob (Memory task) r = r ≡ Memory task.job

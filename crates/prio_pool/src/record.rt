@@ -1,0 +1,127 @@
+// The record of a run.
+ghost use Rattle.std.specs.Prelude.{◌≡◌, ◌+◌, ◌^◌, ◌<◌, [], ◌∷◌, ◌++◌, length, IfOk};
+
+use crate::row::Ticket;
+use fan_base::{ExecId, JobId, Mark, Memory};
+use std::alloc::{AllocError, Global};
+use std::collections::LinkedList;
+use std::marker::Model;
+
+/// That a task of the pool was run once, and what came of it. Only a run of the job makes one that can be had.
+#[derive(Debug, Drop)]
+pub struct RunRecord {
+    ticket: Ticket,
+    queue: u32,
+    exec: ExecId,
+    job: JobId,
+    mark: Mark,
+}
+
+impl Model for RunRecord {
+    ghost use Rattle.prio_pool.specs.Record.{Record};
+
+    ghost Value = { Record };
+
+    ghost view = { λ r. record { ticket = r.ticket; queue = r.queue; exec = r.exec; job = r.job; mark = r.mark } };
+}
+
+impl RunRecord {
+    pub(crate) fn new(ticket: Ticket, queue: u32, exec: ExecId, job: JobId, mark: Mark) -> RunRecord
+        ensures { result ≡ record { ticket = ticket; queue = queue; exec = exec; job = job; mark = mark } }
+    {
+        RunRecord {
+            ticket,
+            queue,
+            exec,
+            job,
+            mark,
+        }
+    }
+
+    /// The ticket that the add of the task answered.
+    pub fn ticket(&self) -> Ticket
+        ensures { result ≡ self.now.ticket }
+    {
+        self.ticket
+    }
+
+    /// The queue that the task stood in.
+    pub fn queue(&self) -> u32
+        ensures { result ≡ self.now.queue }
+    {
+        self.queue
+    }
+
+    /// The executor that the job chose.
+    pub fn exec(&self) -> ExecId
+        ensures { result ≡ self.now.exec }
+    {
+        self.exec
+    }
+
+    /// The job's id.
+    pub fn job(&self) -> JobId
+        ensures { result ≡ self.now.job }
+    {
+        self.job
+    }
+
+    /// The mark of the run.
+    pub fn mark(&self) -> Mark
+        ensures { result ≡ self.now.mark }
+    {
+        self.mark
+    }
+}
+
+/// The place of a record that is still to be made.
+#[derive(Drop)]
+pub struct Place {
+    list: LinkedList<RunRecord>,
+}
+
+impl Model for Place {
+    ghost use Rattle.std.specs.Prelude.{◌≡◌, List, length};
+    ghost use Rattle.prio_pool.specs.Record.{Record};
+
+    ghost Value = { List Record };
+
+    ghost view = { λ p. p.list };
+
+    ghost invariant = { λ p. length p.list ≡ 1 };
+}
+
+impl Place {
+    /// Takes the memory of a record.
+    pub fn new(alloc: Global, blank: RunRecord) -> Result<Place, Memory>
+        ensures { IfOk result (λ p. p ≡ blank ∷ []) }
+    {
+        let mut list = LinkedList::new(alloc);
+        list.push_back(blank).map_err(AllocError::from)?;
+        Ok(Place { list })
+    }
+
+    /// The record in its place.
+    pub fn fill(self, made: RunRecord) -> LinkedList<RunRecord>
+        ensures { result ≡ made ∷ [] }
+    {
+        let Place { mut list } = self;
+        if let Some(first) = list.front_mut() {
+            *first = made;
+        }
+        list
+    }
+
+    /// Gives the memory back.
+    pub fn give_up(self) {
+        let Place { list: _ } = self;
+    }
+}
+
+/// Puts records behind others.
+pub fn append(records: &mut LinkedList<RunRecord>, mut more: LinkedList<RunRecord>)
+    requires { length records.old + length more < 2 ^ 63 }
+    ensures { records.new ≡ records.old ++ more }
+{
+    let _ = records.append(&mut more);
+}
