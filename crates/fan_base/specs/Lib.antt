@@ -1,3 +1,4 @@
+pub mod Block
 pub mod Outcome
 pub mod Outside
 pub mod Parcel

@@ -14,6 +14,7 @@ pub trait Gate: Sync {
 pub struct OpenGate;
 
 impl OpenGate {
+    /// The gate; it has no state.
     pub fn new() -> OpenGate {
         OpenGate
     }

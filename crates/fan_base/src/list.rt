@@ -36,6 +36,7 @@ impl<X> Model for List<X> {
 }
 
 impl<X> List<X> {
+    /// An empty list, which takes no memory yet.
     pub fn new(alloc: Global) -> Self
         ensures { result ≡ [] }
     {
@@ -44,12 +45,14 @@ impl<X> List<X> {
         }
     }
 
+    /// How many items it has.
     pub fn len(&self) -> usize
         ensures { result ≡ length self.now }
     {
         self.items.len()
     }
 
+    /// Whether it has no item.
     pub fn is_empty(&self) -> bool
         ensures { IsTrue result ↔ (self.now ≡ []) }
     {
@@ -65,18 +68,21 @@ impl<X> List<X> {
         Ok(())
     }
 
+    /// The item at a place, counted from 0, where there is one.
     pub fn get(&self, place: usize) -> Option<&X>
         ensures { option_copied result ≡ slice_get self.now place }
     {
         self.items.get(place)
     }
 
+    /// Its items as a slice.
     pub fn as_slice(&self) -> &[X]
         ensures { result.now ≡ self.now }
     {
         self.items.as_slice()
     }
 
+    /// Its items, the first one first.
     pub fn iter(&self) -> slice::Iter<'_, X>
         ensures { iter_rest result ≡ self.now }
     {

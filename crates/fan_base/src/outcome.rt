@@ -16,12 +16,16 @@ pub enum Try<T> {
 /// Why a [`Try`] has no value.
 #[derive(Clone, Copy, Debug, PartialEq, Eq)]
 pub enum Fault {
+    /// The promise was given up.
     Broken,
+    /// Want of memory where the value was to be made.
     Memory,
+    /// Cancelled by its consumer, with the consumer's number.
     Cancelled(u64),
 }
 
 impl<T> Try<T> {
+    /// Why there is no value: None exactly for a value.
     pub fn fault(&self) -> Option<Fault>
         ensures { result ≡ fault_of self.now }
     {

@@ -1,25 +1,28 @@
-//! A value in a block of its own, and a list of such blocks.
+//! A value in a block of raw memory, and a list of such blocks.
 ghost use Rattle.std.specs.Prelude.{◌≡◌, [], ◌∷◌, reverse, IfOk, IfErr, MatchOption};
 
 use crate::refusal::Refused;
-use std::alloc::{AllocFailed, Global};
+use block::{Block, Room};
+use std::alloc::Global;
 use std::marker::Model;
 use std::mem;
 use std::mem::ManuallyDrop;
 
-// A block, which holds a value and those blocks that are strung behind it.
+mod block;
+
+// What lies in a block: a value, and those blocks that are strung behind it.
 #[cycle(parcel)]
 struct Node<X> {
     value: ManuallyDrop<X>,
     rest: Parcels<X>,
 }
 
-/// One value in a block of its own, which contracts see as that value.
+/// One value in a block of raw memory, which contracts see as that value.
 ///
 /// A parcel may be dropped, also where its value may not be: the block is then freed and the value is forgotten.
 /// So what must be spent can lie in a collection that drops its items, as a queue that threads share.
 pub struct Parcel<X> {
-    block: Box<Node<X>>,
+    block: Block<Node<X>, Global>,
 }
 
 impl<X> Model for Parcel<X> {
@@ -38,16 +41,17 @@ impl<X> Parcel<X> {
         ensures ok { IfOk result (λ parcel. parcel ≡ value) }
         ensures refused { IfErr result (λ back. back ≡ Refused.Memory value) }
     {
-        let node = Node {
-            value: unsafe { ManuallyDrop::new_unchecked(value) },
-            rest: Parcels::new(),
-        };
-        match Box::new(alloc, node) {
-            Ok(block) => Ok(Parcel { block }),
-            Err(AllocFailed { value: node }) => {
-                let Node { value, rest: _ } = node;
-                Err(Refused::Memory(ManuallyDrop::into_inner(value)))
+        match Room::allocate(alloc) {
+            Ok(room) => {
+                let value = unsafe { ManuallyDrop::new_unchecked(value) };
+                Ok(Parcel {
+                    block: room.write(Node {
+                        value,
+                        rest: Parcels::new(),
+                    }),
+                })
             }
+            Err(_) => Err(Refused::Memory(value)),
         }
     }
 
@@ -55,11 +59,13 @@ impl<X> Parcel<X> {
     pub fn open(self) -> X
         ensures { result ≡ self }
     {
-        let Node { value, rest: _ } = Box::into_inner(self.into_block());
+        let (node, room) = self.into_block().read();
+        room.free();
+        let Node { value, rest: _ } = node;
         ManuallyDrop::into_inner(value)
     }
 
-    fn into_block(self) -> Box<Node<X>>
+    fn into_block(self) -> Block<Node<X>, Global>
         ensures { value_of result ≡ self }
     {
         let Parcel { block } = self;
@@ -70,7 +76,9 @@ impl<X> Parcel<X> {
 impl<X> Drop for Parcel<X> {
     fn drop(self) {
         let Parcel { block } = self;
-        let Node { value: _, rest: _ } = Box::into_inner(block);
+        let (node, room) = block.read();
+        room.free();
+        let Node { value: _, rest: _ } = node;
     }
 }
 
@@ -78,7 +86,7 @@ impl<X> Drop for Parcel<X> {
 /// Contracts see the list of their values. It may be dropped, as each parcel may.
 #[cycle(parcel)]
 pub struct Parcels<X> {
-    first: Option<Box<Node<X>>>,
+    first: Option<Block<Node<X>, Global>>,
 }
 
 impl<X> Model for Parcels<X> {
@@ -100,6 +108,7 @@ impl<X> Model for Parcels<X> {
 impl<X> Parcels<X> {
     ghost use Rattle.fan_base.specs.Parcel.{values_of};
 
+    /// No parcel.
     pub fn new() -> Parcels<X>
         ensures { result ≡ [] }
     {
@@ -110,18 +119,27 @@ impl<X> Parcels<X> {
     pub fn push_front(&mut self, parcel: Parcel<X>)
         ensures { self.new ≡ parcel ∷ self.old }
     {
-        let mut block = parcel.into_block();
-        block.rest = mem::replace(self, Parcels::new());
-        *self = Parcels { first: Some(block) };
+        let (node, room) = parcel.into_block().read();
+        let Node { value, rest: _ } = node;
+        let rest = mem::replace(self, Parcels::new());
+        *self = Parcels {
+            first: Some(room.write(Node { value, rest })),
+        };
     }
 
     /// Takes the parcel in front.
     pub fn pop_front(&mut self) -> Option<Parcel<X>>
         ensures { MatchOption result ((self.old ≡ []) × (self.new ≡ [])) (λ parcel. self.old ≡ parcel ∷ self.new) }
     {
-        let mut block = self.first.take()?;
-        *self = mem::replace(&mut block.rest, Parcels::new());
-        Some(Parcel { block })
+        let (node, room) = self.first.take()?.read();
+        let Node { value, rest } = node;
+        *self = rest;
+        Some(Parcel {
+            block: room.write(Node {
+                value,
+                rest: Parcels::new(),
+            }),
+        })
     }
 
     /// The same parcels, the last one first.
@@ -135,7 +153,7 @@ impl<X> Parcels<X> {
         turned
     }
 
-    fn into_first(self) -> Option<Box<Node<X>>>
+    fn into_first(self) -> Option<Block<Node<X>, Global>>
         ensures { values_of result ≡ self }
     {
         let Parcels { first } = self;
@@ -148,7 +166,9 @@ impl<X> Drop for Parcels<X> {
     fn drop(self) {
         let Parcels { mut first } = self;
         while let Some(block) = first {
-            let Node { value: _, rest } = Box::into_inner(block);
+            let (node, room) = block.read();
+            room.free();
+            let Node { value: _, rest } = node;
             first = rest.into_first();
         }
     }

@@ -139,6 +139,7 @@ impl<W> Model for StdSink<W> {
 }
 
 impl<W> StdSink<W> {
+    /// Takes the writer.
     pub fn new(writer: W) -> StdSink<W>
         ensures { result ≡ (writer, 0) }
     {

@@ -114,6 +114,7 @@ impl Model for CleanSource {
 }
 
 impl CleanSource {
+    /// A source of these bytes.
     pub fn new(bytes: Vec<u8>) -> CleanSource
         ensures { result ≡ bytes.items }
     {
@@ -163,6 +164,7 @@ impl<R> Model for StdSource<R> {
 }
 
 impl<R> StdSource<R> {
+    /// Takes the reader.
     pub fn new(reader: R) -> StdSource<R>
         ensures { result ≡ (reader, 0) }
     {

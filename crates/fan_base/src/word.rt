@@ -46,6 +46,7 @@ pub enum WordFault {
 }
 
 impl Word {
+    /// The word of these bytes: 1 to 32 letters from `a` to `z` and digits.
     pub fn new(bytes: &[u8]) -> Result<Word, WordFault>
         ensures word { IfOk result (λ w. (w ≡ bytes.now) × IsWord bytes.now) }
         ensures bad { (result ≡ Err WordFault.BadWord) ↔ (¬ IsWord bytes.now) }
@@ -60,6 +61,7 @@ impl Word {
         })
     }
 
+    /// Its bytes.
     pub fn as_bytes(&self) -> &[u8]
         ensures bytes { result.now ≡ self.now }
         ensures word { IsWord self.now }

@@ -3,7 +3,7 @@ use denote.RattleType.{RattleType}
 use denote.Param.Send.{IsSend, IsSync, view_send, recorded_send, struct_send, sendable}
 use denote.Struct.Declared.{shape}
 use Rattle.std.proofs.Crossing.{crosses}
-use Rattle.fan_base.proofs.parcel.Parcels.TheLaws.TheKnot as knot
+use Rattle.fan_base.proofs.Crossing as crossing_fan_base
 use Rattle.atomic_blocks.proofs.block.Link.TheSendSync as link_atomic_blocks
 use Rattle.atomic_blocks.proofs.web.Seat.TheSendSync as seat_atomic_blocks
 use Rattle.atomic_blocks.proofs.web.Web.TheSendSync as web_atomic_blocks
@@ -44,11 +44,11 @@ use Rattle.notify_queue.specs.contracts.receiver.Receiver as receiver
 use Rattle.notify_queue.specs.contracts.receiver.Receiver.TheInside as of_receiver
 use Rattle.crossbeam_utils.proofs.sync.parker.RuledParker.TheSendSync as parker
 
-ruleset all = (link_atomic_blocks.the_field_send, link_atomic_blocks.the_send, link_atomic_blocks.the_field_sync, link_atomic_blocks.the_sync, seat_atomic_blocks.the_send, web_atomic_blocks.the_send, web_atomic_blocks.the_sync, table_atomic_table.the_field_send, table_atomic_table.the_send, table_atomic_table.the_field_sync, table_atomic_table.the_sync, sendlease_atomic_table.the_send, sendlease_atomic_table.the_sync, seat_atomic_table.the_send, shared_atomic_table.the_send, shared_atomic_table.the_sync, phantomdata_std.the_field_send, phantomdata_std.the_send, phantomdata_std.the_field_sync, phantomdata_std.the_sync, manuallydrop_std.the_field_send, manuallydrop_std.the_send, manuallydrop_std.the_field_sync, manuallydrop_std.the_sync, option_std.the_field_send, option_std.the_send, option_std.the_field_sync, option_std.the_sync, memory_std.the_field_send, memory_std.the_send, memory_std.the_field_sync, memory_std.the_sync, chained_crossbeam_queue.the_send, chained_crossbeam_queue.the_sync, ends_crossbeam_queue.the_field_send, ends_crossbeam_queue.the_send, ends_crossbeam_queue.the_field_sync, ends_crossbeam_queue.the_sync, laps_crossbeam_queue.the_field_send, laps_crossbeam_queue.the_send, laps_crossbeam_queue.the_field_sync, laps_crossbeam_queue.the_sync, stage_crossbeam_queue.the_field_send, stage_crossbeam_queue.the_send, stage_crossbeam_queue.the_field_sync, stage_crossbeam_queue.the_sync, unruled_crossbeam_utils.the_field_send, unruled_crossbeam_utils.the_send, unruled_crossbeam_utils.the_field_sync, unruled_crossbeam_utils.the_sync, ruledunparker_crossbeam_utils.the_field_send, ruledunparker_crossbeam_utils.the_send, ruledunparker_crossbeam_utils.the_field_sync, ruledunparker_crossbeam_utils.the_sync, signals_crossbeam_utils.the_field_send, signals_crossbeam_utils.the_send, signals_crossbeam_utils.the_field_sync, signals_crossbeam_utils.the_sync, delivery_notify_queue.the_field_send, delivery_notify_queue.the_send, delivery_notify_queue.the_field_sync, delivery_notify_queue.the_sync, knowledge_notify_queue.the_field_send, knowledge_notify_queue.the_send, knowledge_notify_queue.the_field_sync, knowledge_notify_queue.the_sync, told_notify_queue.the_field_send, told_notify_queue.the_send, told_notify_queue.the_field_sync, told_notify_queue.the_sync, markrule_notify_queue.the_field_send, markrule_notify_queue.the_send, markrule_notify_queue.the_field_sync, markrule_notify_queue.the_sync, role_notify_queue.the_field_send, role_notify_queue.the_send, role_notify_queue.the_field_sync, role_notify_queue.the_sync, stamp_notify_queue.the_field_send, stamp_notify_queue.the_send, stamp_notify_queue.the_field_sync, stamp_notify_queue.the_sync, stamped_notify_queue.the_field_send, stamped_notify_queue.the_send, stamped_notify_queue.the_field_sync, stamped_notify_queue.the_sync, arc_std.the_send, arc_std.the_sync, box_std.the_send, box_std.the_sync, linkedlist_std.the_send, linkedlist_std.the_sync, nodes_std.the_send, nodes_std.the_sync, global_std.the_field_send, global_std.the_send, global_std.the_field_sync, global_std.the_sync, crosses, knot.crosses, sendable)
+ruleset all = (link_atomic_blocks.the_field_send, link_atomic_blocks.the_send, link_atomic_blocks.the_field_sync, link_atomic_blocks.the_sync, seat_atomic_blocks.the_send, web_atomic_blocks.the_send, web_atomic_blocks.the_sync, table_atomic_table.the_field_send, table_atomic_table.the_send, table_atomic_table.the_field_sync, table_atomic_table.the_sync, sendlease_atomic_table.the_send, sendlease_atomic_table.the_sync, seat_atomic_table.the_send, shared_atomic_table.the_send, shared_atomic_table.the_sync, phantomdata_std.the_field_send, phantomdata_std.the_send, phantomdata_std.the_field_sync, phantomdata_std.the_sync, manuallydrop_std.the_field_send, manuallydrop_std.the_send, manuallydrop_std.the_field_sync, manuallydrop_std.the_sync, option_std.the_field_send, option_std.the_send, option_std.the_field_sync, option_std.the_sync, memory_std.the_field_send, memory_std.the_send, memory_std.the_field_sync, memory_std.the_sync, chained_crossbeam_queue.the_send, chained_crossbeam_queue.the_sync, ends_crossbeam_queue.the_field_send, ends_crossbeam_queue.the_send, ends_crossbeam_queue.the_field_sync, ends_crossbeam_queue.the_sync, laps_crossbeam_queue.the_field_send, laps_crossbeam_queue.the_send, laps_crossbeam_queue.the_field_sync, laps_crossbeam_queue.the_sync, stage_crossbeam_queue.the_field_send, stage_crossbeam_queue.the_send, stage_crossbeam_queue.the_field_sync, stage_crossbeam_queue.the_sync, unruled_crossbeam_utils.the_field_send, unruled_crossbeam_utils.the_send, unruled_crossbeam_utils.the_field_sync, unruled_crossbeam_utils.the_sync, ruledunparker_crossbeam_utils.the_field_send, ruledunparker_crossbeam_utils.the_send, ruledunparker_crossbeam_utils.the_field_sync, ruledunparker_crossbeam_utils.the_sync, signals_crossbeam_utils.the_field_send, signals_crossbeam_utils.the_send, signals_crossbeam_utils.the_field_sync, signals_crossbeam_utils.the_sync, delivery_notify_queue.the_field_send, delivery_notify_queue.the_send, delivery_notify_queue.the_field_sync, delivery_notify_queue.the_sync, knowledge_notify_queue.the_field_send, knowledge_notify_queue.the_send, knowledge_notify_queue.the_field_sync, knowledge_notify_queue.the_sync, told_notify_queue.the_field_send, told_notify_queue.the_send, told_notify_queue.the_field_sync, told_notify_queue.the_sync, markrule_notify_queue.the_field_send, markrule_notify_queue.the_send, markrule_notify_queue.the_field_sync, markrule_notify_queue.the_sync, role_notify_queue.the_field_send, role_notify_queue.the_send, role_notify_queue.the_field_sync, role_notify_queue.the_sync, stamp_notify_queue.the_field_send, stamp_notify_queue.the_send, stamp_notify_queue.the_field_sync, stamp_notify_queue.the_sync, stamped_notify_queue.the_field_send, stamped_notify_queue.the_send, stamped_notify_queue.the_field_sync, stamped_notify_queue.the_sync, arc_std.the_send, arc_std.the_sync, box_std.the_send, box_std.the_sync, linkedlist_std.the_send, linkedlist_std.the_sync, nodes_std.the_send, nodes_std.the_sync, global_std.the_field_send, global_std.the_send, global_std.the_field_sync, global_std.the_sync, crossing_fan_base.Parcel-send, crossing_fan_base.Parcels-send, crosses, sendable)
 
 -- a parcel crosses where its value may
 pub Parcel-send : (X : RattleType) → IsSend X → IsSend (parcel.the_row X)
-Parcel-send X s = search all depth 60 fits 20000
+Parcel-send = crossing_fan_base.Parcel-send
 
 channel_send : (M : RattleType) → IsSend M → IsSend (channel.the_row M)
 channel_send M s = search all depth 60 fits 20000

@@ -52,6 +52,40 @@ fn parcels_keep_their_order(rt: HostRuntime) -> Result<(), Fail> {
 }
 
 #[test]
+fn a_refused_value_comes_back(rt: HostRuntime) -> Result<(), Fail> {
+    let pledge = match Parcel::new(rt.alloc(), Pledge { number: 9 }) {
+        Ok(parcel) => parcel.open(),
+        Err(Refused::Memory(pledge)) => pledge,
+    };
+    assert_eq!(rt; pledge.spend(), 9);
+    Ok(())
+}
+
+#[test]
+fn values_of_each_size_lie_in_a_block(rt: HostRuntime) -> Result<(), Fail> {
+    let empty = Parcel::new(rt.alloc(), ()).ok().ok_or("memory")?;
+    let byte = Parcel::new(rt.alloc(), 7u8).ok().ok_or("memory")?;
+    let long = Parcel::new(rt.alloc(), 8u128).ok().ok_or("memory")?;
+    let wide = Parcel::new(rt.alloc(), [9u64; 40]).ok().ok_or("memory")?;
+    empty.open();
+    assert_eq!(rt; (byte.open(), long.open()), (7, 8));
+    assert_eq!(rt; wide.open(), [9; 40]);
+    Ok(())
+}
+
+#[test]
+fn a_long_list_is_turned_and_dropped(rt: HostRuntime) -> Result<(), Fail> {
+    let mut parcels = Parcels::new();
+    for number in 0..50_000 {
+        parcels.push_front(wrapped(rt.alloc(), number).ok_or("memory")?);
+    }
+    let mut turned = parcels.reversed();
+    assert_eq!(rt; opened(&mut turned), Some(0));
+    assert_eq!(rt; opened(&mut turned), Some(1));
+    Ok(())
+}
+
+#[test]
 fn a_parcel_crosses_threads(rt: HostRuntime) -> Result<(), Fail> {
     let parcel = wrapped(rt.alloc(), 5).ok_or("memory")?;
     let mut parcels = Parcels::new();
