@@ -3,7 +3,6 @@ use Rattle.std.proofs.Common.{◌≡◌, ◌≤◌, [], length, Option, Some, No
 use Rattle.std.specs.Option.{IfSome}
 use Rattle.std.specs.Result.{OnOk, OnErr}
 use Rattle.std.specs.Io.KnownBytes.{Consumes}
-use Rattle.std.proofs.KnownBytes.{Appends-nil}
 use Rattle.fan_base.specs.Outside.{Shown, FaultsRose}
 use Rattle.query_model.specs.declared.line.Input.{Input}
 use Rattle.query_model.specs.declared.fault.BadInput.{BadInput}
@@ -13,25 +12,13 @@ use Rattle.query_model.specs.Output.{output}
 use Rattle.folly_query.specs.declared.report.Status.{Status}
 use Rattle.folly_query.specs.declared.report.Status.TheVariants as status
 use Rattle.folly_query.specs.Passing.{ReadsAll, ReadsTooMuch, GainsFront}
-use Rattle.folly_query.specs.Endings.{EndsAs, Comes, IsTextFor}
-
--- nothing is a front of any text
-pub gains_nothing : (sink : Shown) (text : Bytes) → GainsFront sink sink text
-gains_nothing sink text = record { front = []; rest = text; whole = refl; gained = Appends-nil sink.bytes }
+use Rattle.folly_query.specs.Endings.{EndsAs, Comes}
 
 pub written_or_front : {E G F R : Type 0} (r : Result (Unit {0}) E) → OnOk r G → OnErr r F → OnErr r R → G ⊎ (F × R)
 written_or_front (Ok x) g f r = inl g
 written_or_front (Err e) g f r = inr (f, r)
 
 module _ (source source' sink sink' : Shown) where
-  -- want of memory before anything was written
-  pub memory_ends : sink' ≡ sink → EndsAs source source' sink sink' status.Memory
-  memory_ends same = by source.bytes
-    where
-      by : (known : Option Bytes) → IfSome known (λ bytes. (text : Bytes) → IsTextFor bytes text → GainsFront sink sink' text)
-      by None = tt
-      by (Some bytes) = λ text is. subst (λ k. GainsFront sink k text) (sym same) (gains_nothing sink text)
-
   pub memory_comes : (bytes : Bytes) → Comes bytes source source' sink sink' status.Memory
   memory_comes bytes = record { done = λ input few a calm quiet. inr refl; refused = λ bad few r calm. inr refl; too_large = λ many calm. inr refl }
 
@@ -88,17 +75,9 @@ module _ (source source' sink sink' : Shown) where
       }
 
   -- want of memory while the replies were written
-  pub answer_memory_ends : (text : Bytes) (input : Input) → ReadsAll source source' text → ((other : Input) → Accepts text 4 other → input ≡ other) → ((bad : BadInput) → Refuses text 4 bad → ⊥)
-      → GainsFront sink sink' (output input) → EndsAs source source' sink sink' status.Memory
-  answer_memory_ends text input all only never front = by source.bytes all.whole
-    where
-      for : (bytes t : Bytes) → bytes ≡ text → IsTextFor bytes t → GainsFront sink sink' t
-      for bytes t is (inl (other, a, e)) = subst (λ u. GainsFront sink sink' u) (ap output (only other (subst (λ u. Accepts u 4 other) is a)) ∙ sym e) front
-      for bytes t is (inr (bad, r, e)) = absurd (never bad (subst (λ u. Refuses u 4 bad) is r))
-
-      by : (known : Option Bytes) → IfSome known (λ bytes. (bytes ≡ text) × (source'.bytes ≡ Some [])) → IfSome known (λ bytes. (t : Bytes) → IsTextFor bytes t → GainsFront sink sink' t)
-      by None whole = tt
-      by (Some bytes) whole = λ t is. for bytes t whole.0 is
+  pub answer_memory_ends : (text : Bytes) (input : Input) → ReadsAll source source' text → Accepts text 4 input → GainsFront sink sink' (output input)
+      → EndsAs source source' sink sink' status.Memory
+  answer_memory_ends text input all accepted front = inr (text, all, output input, inl (input, accepted, refl), front)
 
   -- what holds of all known bytes
   pub known_comes : (found : Status) → ((bytes : Bytes) → source.bytes ≡ Some bytes → Comes bytes source source' sink sink' found) → IfSome source.bytes (λ bytes. Comes bytes source source' sink sink' found)

@@ -1,40 +1,34 @@
 -- What each status of a run says of its source and its sink, before and after.
-use Rattle.std.specs.Prelude.{◌≡◌, ◌≤◌, ◌<◌, ◌⊎◌, length, IfSome}
+use Rattle.std.specs.Prelude.{◌≡◌, ◌≤◌, ◌<◌, ◌⊎◌, length}
 use Rattle.fan_base.specs.Outside.{Shown, FaultsRose}
 use Rattle.query_model.specs.declared.line.Input.{Input}
 use Rattle.query_model.specs.declared.fault.BadInput.{BadInput}
 use Rattle.query_model.specs.Pieces.{Bytes}
 use Rattle.query_model.specs.Reading.{Accepts, Refuses}
-use Rattle.query_model.specs.Output.{output, error_text}
+use Rattle.query_model.specs.Output.{output, error_text, IsTextOf}
 use Rattle.folly_query.specs.declared.report.Status.{Status}
 use Rattle.folly_query.specs.declared.report.Status.TheVariants as status
-use Rattle.folly_query.specs.Passing.{most_bytes, ReadsAll, ReadsTooMuch, Gains, GainsFront}
-
--- what is to be written for the bytes of a source: the replies where they are accepted, and else the error line
-abbrev pub IsTextFor : Bytes → Bytes → Type 0
-IsTextFor bytes text =
-    ((input : Input) × Accepts bytes 4 input × (text ≡ output input))
-    ⊎ ((bad : BadInput) × Refuses bytes 4 bad × (text ≡ error_text bad))
+use Rattle.folly_query.specs.Passing.{most_bytes, ReadsAll, ReadsTooMuch, FailsBehind, Gains, GainsFront}
 
 abbrev pub EndsAs : Shown → Shown → Shown → Shown → Status → Type 0
 -- all was read, it is accepted, and the sink gained the replies
 EndsAs source source' sink sink' status.Done =
     (text : Bytes) × ReadsAll source source' text × (input : Input) × Accepts text 4 input × Gains sink sink' (output input)
--- the sink gained a front of what is to be written for the bytes that the source had
+-- nothing was written; or all was read, and the sink gained a front of what is to be written for it
 EndsAs source source' sink sink' status.Memory =
-    IfSome source.bytes (λ bytes. (text : Bytes) → IsTextFor bytes text → GainsFront sink sink' text)
+    (sink' ≡ sink) ⊎ ((text : Bytes) × ReadsAll source source' text × (out : Bytes) × IsTextOf text 4 out × GainsFront sink sink' out)
 EndsAs source source' sink sink' status.Usage = ⊥
 -- all was read, it is refused, and the sink gained the error line, or a front of it where its faults rose
 EndsAs source source' sink sink' (status.BadInput bad) =
     (text : Bytes) × ReadsAll source source' text × Refuses text 4 bad
     × (Gains sink sink' (error_text bad) ⊎ (GainsFront sink sink' (error_text bad) × FaultsRose sink.faults sink'.faults))
--- the source's faults rose, and nothing was written
-EndsAs source source' sink sink' status.ReadFault = FaultsRose source.faults source'.faults × (sink' ≡ sink)
+-- the source's faults rose behind at most 67,108,864 bytes, and nothing was written
+EndsAs source source' sink sink' status.ReadFault = (text : Bytes) × FailsBehind source source' text × (sink' ≡ sink)
 -- all was read, it is accepted, the sink's faults rose, and it gained a front of the replies
 EndsAs source source' sink sink' status.WriteFault =
     (text : Bytes) × ReadsAll source source' text × (input : Input) × Accepts text 4 input
     × GainsFront sink sink' (output input) × FaultsRose sink.faults sink'.faults
--- more than 67,108,864 bytes were read, and nothing was written
+-- more than 67,108,864 bytes were read, but no further, and nothing was written
 EndsAs source source' sink sink' status.TooLarge = (text : Bytes) × ReadsTooMuch source source' text × (sink' ≡ sink)
 
 -- it is this status, or want of memory

@@ -1,11 +1,15 @@
 -- What is read from a source to its end, and written to a sink.
-use Rattle.std.specs.Prelude.{ℕ, ◌≡◌, ◌↔◌, ◌≤◌, ◌<◌, List, [], ◌++◌, length, Some, IfSome}
+use Rattle.std.specs.Prelude.{ℕ, ◌≡◌, ◌↔◌, ◌≤◌, ◌<◌, ◌+◌, List, [], ◌++◌, length, Some, IfSome}
 use Rattle.std.specs.Io.KnownBytes.{Appends, Consumes, Keeps}
 use Rattle.fan_base.specs.Outside.{Shown, FaultsRose}
 
 -- the bytes that an input has at most
 abbrev pub most_bytes : ℕ
 most_bytes = 67108864
+
+-- the bytes that a read asks for at most
+abbrev pub most_asked : ℕ
+most_asked = 65536
 
 -- n bytes were read and put behind a text, none of them only at the source's end, and nothing failed
 pub record ReadsPiece (old new : Shown) (before after : List ℕ) (n : ℕ) : Type 0 where
@@ -22,11 +26,18 @@ pub record ReadsAll (old new : Shown) (text : List ℕ) : Type 0 where
   pub sound : new.faults ≡ old.faults
   pub few : length text ≤ most_bytes
 
--- too many bytes were read, and nothing failed
+-- too many bytes were read, though by no more than the last read, and nothing failed
 pub record ReadsTooMuch (old new : Shown) (text : List ℕ) : Type 0 where
   pub consumed : Consumes old.bytes new.bytes text
   pub sound : new.faults ≡ old.faults
   pub many : most_bytes < length text
+  pub one_read : length text ≤ most_bytes + most_asked
+
+-- behind these bytes, which weren't too many, a read failed
+pub record FailsBehind (old new : Shown) (text : List ℕ) : Type 0 where
+  pub consumed : Consumes old.bytes new.bytes text
+  pub few : length text ≤ most_bytes
+  pub rose : FaultsRose old.faults new.faults
 
 -- the sink gained these bytes, and nothing failed
 pub record Gains (old new : Shown) (bytes : List ℕ) : Type 0 where
@@ -40,7 +51,7 @@ pub record GainsFront (old new : Shown) (bytes : List ℕ) : Type 0 where
   pub whole : bytes ≡ front ++ rest
   pub gained : Appends old.bytes new.bytes front
 
--- the sink failed, and gained nothing
+-- a source or a sink failed, and nothing was moved
 pub record Fails (old new : Shown) : Type 0 where
   pub kept : Keeps old.bytes new.bytes
   pub rose : FaultsRose old.faults new.faults

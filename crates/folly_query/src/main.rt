@@ -1,6 +1,10 @@
 //! Documents and queries in, replies out: `folly_query run` reads standard input and writes the replies to standard output.
 #![tactic(auto)]
 
+ghost use Rattle.std.specs.Prelude.{◌≡◌};
+ghost use Rattle.std.specs.Process.{exit_status};
+ghost use Rattle.folly_query.specs.Statuses.{exit_number};
+
 use args::Args;
 use fan_base::{OpenGate, StdSink, StdSource};
 use report::Status;
@@ -36,6 +40,16 @@ fn words<R: Runtime + AllocGlobal>(rt: &R) -> Result<Args, Status> {
     Ok(words)
 }
 
+/// Says on standard error how a run ended, and gives what the program ends with.
+fn end_as<R: Runtime>(rt: &R, status: Status) -> ExitCode
+    ensures { exit_status result ≡ exit_number status }
+{
+    if let Some(text) = status.text() {
+        let _ = rt.eprintln(text);
+    }
+    ExitCode::from(status.number())
+}
+
 fn main(rt: HostRuntime) -> ExitCode {
     let status = match words(&rt) {
         Ok(words) => {
@@ -46,8 +60,5 @@ fn main(rt: HostRuntime) -> ExitCode {
         }
         Err(status) => status,
     };
-    if let Some(text) = status.text() {
-        let _ = rt.eprintln(text);
-    }
-    ExitCode::from(status.number())
+    end_as(&rt, status)
 }

@@ -1,6 +1,6 @@
-ghost use Rattle.std.specs.Prelude.{◌≡◌, ◌≢◌, ◌<◌, List, ℕ, length, vec_len, IfOk};
-ghost use Rattle.fan_base.specs.Outside.{FaultsRose, shown};
-ghost use Rattle.folly_query.specs.Passing.{ReadsAll, ReadsPiece, ReadsTooMuch};
+ghost use Rattle.std.specs.Prelude.{◌≡◌, ◌≢◌, ◌<◌, ◌≤◌, List, ℕ, length, vec_len, IfOk};
+ghost use Rattle.fan_base.specs.Outside.{shown};
+ghost use Rattle.folly_query.specs.Passing.{Fails, FailsBehind, ReadsAll, ReadsPiece, ReadsTooMuch};
 
 use fan_base::Source;
 use std::alloc::{AllocError, Global};
@@ -32,7 +32,7 @@ impl From<AllocError> for ReadEnd {
 /// Reads all that the source has left.
 pub fn read_all<S: Source>(alloc: Global, source: &mut S) -> Result<Vec<u8>, ReadEnd>
     ensures all { IfOk result (λ text. ReadsAll (shown (S.left source.old) (S.faults source.old)) (shown (S.left source.new) (S.faults source.new)) text.items) }
-    ensures fault { result ≡ Err ReadEnd.Fault → FaultsRose (S.faults source.old) (S.faults source.new) }
+    ensures fault { result ≡ Err ReadEnd.Fault → ((text : List ℕ) × FailsBehind (shown (S.left source.old) (S.faults source.old)) (shown (S.left source.new) (S.faults source.new)) text) }
     ensures too_large { result ≡ Err ReadEnd.TooLarge → ((text : List ℕ) × ReadsTooMuch (shown (S.left source.old) (S.faults source.old)) (shown (S.left source.new) (S.faults source.new)) text) }
 {
     let mut piece = zeros(alloc, PIECE)?;
@@ -54,7 +54,8 @@ fn read_piece<S: Source>(
 ) -> Result<usize, ReadEnd>
     requires { 0 < length piece.old }
     ensures some { IfOk result (λ n. ReadsPiece (shown (S.left source.old) (S.faults source.old)) (shown (S.left source.new) (S.faults source.new)) text.old.items text.new.items n) }
-    ensures fault { result ≡ Err ReadEnd.Fault → FaultsRose (S.faults source.old) (S.faults source.new) }
+    ensures size { IfOk result (λ n. n ≤ length piece.old) }
+    ensures fault { result ≡ Err ReadEnd.Fault → Fails (shown (S.left source.old) (S.faults source.old)) (shown (S.left source.new) (S.faults source.new)) }
     ensures not_too_large { result ≢ Err ReadEnd.TooLarge }
 {
     let n = match source.read(piece) {

@@ -30,6 +30,9 @@ pub fn query_main<R, S: Source, K: Sink + Send, G: Gate>(
     ensures usage { (result.status ≡ Status.Usage) ↔ (words.now ≢ run_words) }
     ensures untouched { result.status ≡ Status.Usage → (source.new ≡ source.old) × (sink.new ≡ sink.old) }
 
+    // Where a read fails or the source has too much, nothing is written.
+    ensures unwritten { (result.status ≡ Status.ReadFault) ⊎ (result.status ≡ Status.TooLarge) → sink.new ≡ sink.old }
+
     // What a run's status says of the source and the sink.
     ensures ends { words.now ≡ run_words → EndsAs (shown (S.left source.old) (S.faults source.old)) (shown (S.left source.new) (S.faults source.new))
         (shown (K.holds sink.old) (K.faults sink.old)) (shown (K.holds sink.new) (K.faults sink.new)) result.status }
@@ -57,6 +60,7 @@ fn run<S: Source, K: Sink>(alloc: Global, source: &mut S, sink: &mut K) -> Statu
     ensures comes { IfSome (S.left source.old) (λ bytes. Comes bytes (shown (S.left source.old) (S.faults source.old)) (shown (S.left source.new) (S.faults source.new))
         (shown (K.holds sink.old) (K.faults sink.old)) (shown (K.holds sink.new) (K.faults sink.new)) result) }
     ensures running { result ≢ Status.Usage }
+    ensures unwritten { (result ≡ Status.ReadFault) ⊎ (result ≡ Status.TooLarge) → sink.new ≡ sink.old }
 {
     let text = match read_all(alloc, source) {
         Ok(text) => text,

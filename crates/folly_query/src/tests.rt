@@ -1,9 +1,11 @@
 use crate::args::Args;
 use crate::report::Status;
 use crate::run::query_main;
-use fan_base::{MemSink, MemSource, OpenGate};
+use fan_base::{MemSink, MemSource, OpenGate, Source};
 use std::alloc::Global;
 use std::test::Fail;
+
+mod beside_plain;
 
 /// A run: its words and input, how source and sink take it, and what must come of it.
 #[derive(Clone, Copy)]
@@ -215,6 +217,20 @@ fn runs(rt: HostRuntime) -> Result<(), Fail> {
         assert_eq!(rt; status.number(), case.status, "at {name}");
         assert_eq!(rt; sink.bytes(), case.output, "at {name}");
     }
+    Ok(())
+}
+
+#[test]
+fn nothing_is_read_behind_a_failed_read(rt: HostRuntime) -> Result<(), Fail> {
+    let alloc = rt.alloc();
+    let input = Vec::from_slice(alloc, TWO_DOCUMENTS_ONE_QUERY)?;
+    let mut source = MemSource::new(input, 5, Vec::from_slice(alloc, &[1])?);
+    let mut sink = MemSink::new(alloc, 1000, 1000, Vec::new(alloc))?;
+    let status = status_of(alloc, RUN, &mut source, &mut sink)?;
+    assert_eq!(rt; status, Status::ReadFault);
+    let mut left = [0; 5];
+    assert_eq!(rt; source.read(&mut left), Ok(5));
+    assert_eq!(rt; left.as_slice(), &TWO_DOCUMENTS_ONE_QUERY[5..10]);
     Ok(())
 }
 

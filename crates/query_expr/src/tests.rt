@@ -3,7 +3,6 @@ ghost use Rattle.std.specs.Prelude.{◌≤◌, length};
 use crate::slow::parse_slowly;
 use crate::{Expr, ExprFault, Node, Token, holds, parse};
 use fan_base::{Doc, Word, WordFault, Words};
-use query_grammar::limits::{MOST_DEPTH, MOST_TOKENS};
 use std::alloc::{AllocError, Global};
 use std::process::Abort;
 use std::test::Fail;
@@ -117,19 +116,19 @@ fn faults_at_their_places(rt: HostRuntime) -> Result<(), Fail> {
 
 #[test]
 fn limits_of_depth_and_length(rt: HostRuntime) -> Result<(), Fail> {
-    let deep = marks_before_a_word(rt.alloc(), Token::Bang, MOST_DEPTH)?;
+    let deep = marks_before_a_word(rt.alloc(), Token::Bang, 64)?;
     assert!(rt; parse(rt.alloc(), &deep).is_ok());
-    let too_deep = marks_before_a_word(rt.alloc(), Token::Bang, MOST_DEPTH + 1)?;
+    let too_deep = marks_before_a_word(rt.alloc(), Token::Bang, 65)?;
     match parse(rt.alloc(), &too_deep) {
         Ok(_) => assert!(rt; false),
-        Err(fault) => assert_eq!(rt; fault, ExprFault::TooDeep(MOST_DEPTH)),
+        Err(fault) => assert_eq!(rt; fault, ExprFault::TooDeep(64)),
     }
-    let brackets = marks_before_a_word(rt.alloc(), Token::Left, MOST_DEPTH + 1)?;
+    let brackets = marks_before_a_word(rt.alloc(), Token::Left, 65)?;
     match parse(rt.alloc(), &brackets) {
         Ok(_) => assert!(rt; false),
-        Err(fault) => assert_eq!(rt; fault, ExprFault::TooDeep(MOST_DEPTH)),
+        Err(fault) => assert_eq!(rt; fault, ExprFault::TooDeep(64)),
     }
-    let mut words = vec![in rt.alloc(); token_of(b'a')?; MOST_TOKENS]?;
+    let mut words = vec![in rt.alloc(); token_of(b'a')?; 1_024]?;
     assert!(rt; parse(rt.alloc(), &words).is_ok());
     words.push(Token::Right)?;
     match parse(rt.alloc(), &words) {

@@ -3,34 +3,34 @@ use Rattle.std.specs.Prelude.{◌≡◌, ℕ, ◌+◌, ◌<◌, ◌≤◌, List,
 use Rattle.query_grammar.specs.declared.token.Token.{Token}
 use Rattle.query_grammar.specs.declared.fault.ExprFault.{ExprFault}
 use Rattle.query_grammar.specs.declared.fault.ExprFault.TheVariants as fault
-use Rattle.query_grammar.specs.declared.limits.TheConstants.{MOST_TOKENS, MOST_DEPTH}
+use Rattle.query_grammar.specs.Limits.{most_tokens, most_depth}
 use Rattle.query_grammar.specs.Tree.{Tree}
 use Rattle.query_grammar.specs.Grammar.{Reads, CanGoOn}
 use Rattle.query_grammar.specs.Depth.{HasDepth, IsWithinDepth}
 
 -- there are some tokens and not too many
 abbrev pub AreSome : List Token → Type 0
-AreSome tokens = (0 < length tokens) × (length tokens ≤ MOST_TOKENS)
+AreSome tokens = (0 < length tokens) × (length tokens ≤ most_tokens)
 
 -- The tokens are an expression with this tree, and within the limits.
 pub record Accepts (tokens : List Token) (tree : Tree) : Type 0 where
   pub some : AreSome tokens
-  pub shallow : IsWithinDepth MOST_DEPTH tokens
+  pub shallow : IsWithinDepth most_depth tokens
   pub reads : Reads tokens tree
 
 -- No fault stands at a place before this one: an expression could continue with the tokens before it, and they are nowhere too deep.
 pub record IsFaultlessTo (tokens : List Token) (place : ℕ) : Type 0 where
   pub some : AreSome tokens
   pub goes_on : CanGoOn (take place tokens)
-  pub shallow : IsWithinDepth MOST_DEPTH (take place tokens)
+  pub shallow : IsWithinDepth most_depth (take place tokens)
 
 -- the first fault of the tokens
 abbrev pub Refuses : List Token → ExprFault → Type 0
 Refuses tokens fault.Empty = length tokens ≡ 0
-Refuses tokens fault.TooLong = MOST_TOKENS < length tokens
+Refuses tokens fault.TooLong = most_tokens < length tokens
 -- with the token at this place they would be too deep
 Refuses tokens (fault.TooDeep place) =
-    IsFaultlessTo tokens place × (place < length tokens) × HasDepth (take (place + 1) tokens) (MOST_DEPTH + 1)
+    IsFaultlessTo tokens place × (place < length tokens) × HasDepth (take (place + 1) tokens) (most_depth + 1)
 -- no expression could continue with the token at this place
 Refuses tokens (fault.Unexpected place) =
     IsFaultlessTo tokens place × (place < length tokens) × ¬ CanGoOn (take (place + 1) tokens)

@@ -3,7 +3,7 @@ use Rattle.std.specs.Prelude.{◌≡◌, ◌⊎◌, ℕ, ◌+◌, ◌<◌, ◌�
 use Rattle.query_grammar.specs.declared.token.Token.{Token}
 use Rattle.query_grammar.specs.declared.fault.ExprFault.{ExprFault}
 use Rattle.query_grammar.specs.declared.fault.ExprFault.TheVariants as fault
-use Rattle.query_grammar.specs.declared.limits.TheConstants.{MOST_DEPTH}
+use Rattle.query_grammar.specs.Limits.{most_depth}
 use Rattle.query_grammar.specs.Tree.{Tree}
 use Rattle.query_grammar.specs.Grammar.{Reads}
 use Rattle.query_grammar.specs.Depth.{IsOpener, IsWithinDepth}
@@ -21,7 +21,7 @@ pub record IsFirstWithout (tokens : List Token) (place : ℕ) : Type 0 where
 
 -- the same, in tokens that are neither none nor too many, nor too deep before it
 abbrev pub IsUnexpected : List Token → ℕ → Type 0
-IsUnexpected tokens place = AreSome tokens × IsWithinDepth MOST_DEPTH (take place tokens) × IsFirstWithout tokens place
+IsUnexpected tokens place = AreSome tokens × IsWithinDepth most_depth (take place tokens) × IsFirstWithout tokens place
 
 -- a Left or a Bang stands at the place
 abbrev pub HasOpener : List Token → ℕ → Type 0

@@ -3,6 +3,7 @@ pub mod Nodes
 pub mod Size
 pub mod Grammar
 pub mod Depth
+pub mod Limits
 pub mod Faults
 pub mod Truth
 pub mod Laws

@@ -37,15 +37,15 @@ use Rattle.query_model.specs.Documents.{docs_of, queries_of, DifferentIds, IsDoc
 use Rattle.query_model.proofs.ListFacts.{slice_get-append_left, slice_get-append_seam}
 use Rattle.query_model.proofs.ReadingLaws.{Reads, reads_from_Accepts}
 
-go_on : {A B E : Type 0} (r : Result A E) (f : A → Result B E) (y : B) → (r >>= f) ≡ Ok y → (x : A) × (r ≡ Ok x) × (f x ≡ Ok y)
+pub go_on : {A B E : Type 0} (r : Result A E) (f : A → Result B E) (y : B) → (r >>= f) ≡ Ok y → (x : A) × (r ≡ Ok x) × (f x ≡ Ok y)
 go_on (Ok x) f y e = (x, refl, e)
 go_on (Err err) f y e = absurd cc
 
-checked : {B E : Type 0} (b : Bool) (err : E) (f : Unit {0} → Result B E) (y : B) → (check b err >>= f) ≡ Ok y → (b ≡ true) × (f tt ≡ Ok y)
+pub checked : {B E : Type 0} (b : Bool) (err : E) (f : Unit {0} → Result B E) (y : B) → (check b err >>= f) ≡ Ok y → (b ≡ true) × (f tt ≡ Ok y)
 checked true err f y e = (refl, e)
 checked false err f y e = absurd cc
 
-passed : {E : Type 0} (b : Bool) (err : E) (y : Unit {0}) → check b err ≡ Ok y → b ≡ true
+pub passed : {E : Type 0} (b : Bool) (err : E) (y : Unit {0}) → check b err ≡ Ok y → b ≡ true
 passed true err y e = refl
 passed false err y e = absurd cc
 
@@ -53,11 +53,11 @@ one_of : {A : Type 0} (b : Bool) (x y z : A) → cond b x y ≡ z → (x ≡ z) 
 one_of true x y z e = inl e
 one_of false x y z e = inr e
 
-not_true : (b : Bool) → not b ≡ true → b ≡ false
+pub not_true : (b : Bool) → not b ≡ true → b ≡ false
 not_true true e = absurd (true≢false (sym e))
 not_true false e = refl
 
-words_within : (texts : List Bytes) (words : List Word) → words_of texts ≡ Ok words → (length words ≤ 1000) × AllPass is_word words
+pub words_within : (texts : List Bytes) (words : List Word) → words_of texts ≡ Ok words → (length words ≤ 1000) × AllPass is_word words
 words_within texts words e =
     let all = checked (list_all is_word (take 1000 texts)) BadWord (λ u. check (nat_le (length texts) 1000) (bad.Limit limit.Words) >>= λ v. Ok texts) words e in
     let few = checked (nat_le (length texts) 1000) (bad.Limit limit.Words) (λ v. Ok texts) words all.1 in
@@ -98,7 +98,7 @@ may_follow before others doc e =
       is_document = record { few = within.0; words = within.1 };
     })
 
-query_is_no_doc : (p : Prio) (name : Bytes) (texts : List Bytes) (doc : Doc) → query_said p name texts ≡ Ok (Said.doc doc) → ⊥
+pub query_is_no_doc : (p : Prio) (name : Bytes) (texts : List Bytes) (doc : Doc) → query_said p name texts ≡ Ok (Said.doc doc) → ⊥
 query_is_no_doc p name texts doc e =
     let asks = go_on (ask_named name) _ (Said.doc doc) e in
     let tokens = go_on (tokens_of texts) _ (Said.doc doc) asks.2 in
@@ -106,7 +106,7 @@ query_is_no_doc p name texts doc e =
     let is : given ≡ Ok (Said.doc doc) = tokens.2 in
     cc
 
-prio_is_no_doc : (p : Prio) (others : List Bytes) (doc : Doc) → prio_said p others ≡ Ok (Said.doc doc) → ⊥
+pub prio_is_no_doc : (p : Prio) (others : List Bytes) (doc : Doc) → prio_said p others ≡ Ok (Said.doc doc) → ⊥
 prio_is_no_doc p others doc e =
     let name = go_on (first_of others MissingField) _ (Said.doc doc) e in
     query_is_no_doc p name.0.0 name.0.1 doc name.2

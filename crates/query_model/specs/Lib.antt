@@ -6,6 +6,7 @@ pub mod Expressions
 pub mod Lines
 pub mod Reading
 pub mod Documents
+pub mod ByFacts
 pub mod Answers
 pub mod Merging
 pub mod Output

@@ -1,5 +1,5 @@
 -- What is written for an input.
-use Rattle.std.specs.Prelude.{ℕ, ◌≡◌, List, [], ◌∷◌, ◌++◌, Bool, true, false, codes, map}
+use Rattle.std.specs.Prelude.{ℕ, ◌≡◌, ◌⊎◌, List, [], ◌∷◌, ◌++◌, Bool, true, false, codes, map}
 use Rattle.std.specs.Fmt.{decimal}
 use Rattle.std.specs.List.{flat_map, enumerate_from}
 use Rattle.query_model.specs.declared.line.Line.{Line}
@@ -68,7 +68,8 @@ kind_text bad.NotYet = codes "not built yet"
 abbrev pub error_text : BadInput → Bytes
 error_text bad = codes "error line " ++ (decimal bad.line ++ (codes ": " ++ (kind_text bad.kind ++ line_feed ∷ [])))
 
--- What is to be written for these bytes: the output of the input as which they are accepted, or the error line of their refusal.
-pub record IsTextOf (bytes : Bytes) (shards : ℕ) (text : Bytes) : Type 0 where
-  pub accepted : (input : Input) → Accepts bytes shards input → text ≡ output input
-  pub refused : (bad : BadInput) → Refuses bytes shards bad → text ≡ error_text bad
+-- what is to be written for these bytes: the output of the input as which they are accepted, or the error line of their refusal
+abbrev pub IsTextOf : Bytes → ℕ → Bytes → Type 0
+IsTextOf bytes shards text =
+    ((input : Input) × Accepts bytes shards input × (text ≡ output input))
+    ⊎ ((bad : BadInput) × Refuses bytes shards bad × (text ≡ error_text bad))

@@ -45,8 +45,7 @@ returns-in-Err-Memory-answer_input-clause-ends g c =
     let sink = shown (g.K.Sink.holds c.args.sink.now) (g.K.Sink.faults c.args.sink.now) in
     let sink' = shown (g.K.Sink.holds c.answer_input.new.sink) (g.K.Sink.faults c.answer_input.new.sink) in
     let all = subst (λ t. ReadsAll source source' t) (sym c.as_slice.ensures.value) c.in-Ok.ensures.all in
-    answer_memory_ends source source' sink sink' c.as_slice.result.now c.in-Ok-read_input.input all
-    (λ other a. c.in-Ok-read_input.ensures.accepts other a) (λ bad r. c.in-Ok-read_input.ensures.refuses bad r) c.in-Err-Memory-answer_input.ensures.front
+    answer_memory_ends source source' sink sink' c.as_slice.result.now c.in-Ok-read_input.input all c.in-Ok-read_input.ensures.accepted c.in-Err-Memory-answer_input.ensures.front
 
 pub returns-in-Err-WriteFault-clause-comes : goal.returns-in-Err-WriteFault-clause-comes
 returns-in-Err-WriteFault-clause-comes g c =
