@@ -14,7 +14,7 @@ use Rattle.core_word.specs.declared.view.View.{View}
 use Rattle.core_word.specs.declared.view.View.TheVariants as view
 use Rattle.core_word.specs.Rule.{Cells, IsPast, Unbegun, StandsFor}
 use Rattle.core_word.specs.Plays.{Standing, key_at, producer_ready, consumer_ready, begin_producer, begin_consumer}
-use Rattle.core_word.proofs.Owing.{within, one_view}
+use Rattle.core_word.proofs.Owing.{within, one_view, over_others}
 
 before_last : {A : Type 0} (l : List A) (a : A) (k : ℕ) (b : A) → k ≢ length l → get_elem? (l ++ a ∷ []) k ≡ maybe.some b → get_elem? l k ≡ maybe.some b
 before_last [] a zero b ne e = absurd (ne refl)
@@ -36,7 +36,7 @@ module _ {T C P : Type 0} where
     other zero v ne e = absurd (ne refl)
     other (suc k) v ne e = absurd (some-ne-none v (sym e))
 
-  key_begins : (id u : ℕ) (s : Cells T C P) → StandsFor s → get_elem? s.views id ≡ maybe.some (view.Key u) → (b : Unbegun s) × (id ≡ b.seat) × (u ≡ b.number)
+  pub key_begins : (id u : ℕ) (s : Cells T C P) → StandsFor s → get_elem? s.views id ≡ maybe.some (view.Key u) → (b : Unbegun s) × (id ≡ b.seat) × (u ≡ b.number)
   key_begins id u s (inl b) at = dite (ℕ_discrete id b.seat)
       (λ e. let same = one_view s.views id b.seat _ _ at b.at e in let number : u ≡ b.number = cc in (b, e, number))
       (λ ne. absurd (b.others id _ ne at))
@@ -45,9 +45,9 @@ module _ {T C P : Type 0} where
       (λ np. dite (ℕ_discrete id b.consumer)
       (λ e. let same = one_view s.views id b.consumer _ _ at b.at_c e in cc)
       (λ nc. absurd (b.others id _ np nc at)))
-  key_begins id u s (inr (inr b)) at = dite (ℕ_discrete id b.seat)
-      (λ e. let same = one_view s.views id b.seat _ _ at b.at e in cc)
-      (λ ne. absurd (b.others id _ ne at))
+  key_begins id u s (inr (inr b)) at = dite (ℕ_discrete id b.last)
+      (λ e. let same = one_view s.views id b.last _ _ at b.at_last e in cc)
+      (λ ne. absurd (over_others s b id _ ne at))
 
   begins_two : (id u : ℕ) → Splits StandsFor id (key_at {T = T} {C = C} {P = P} u).0 (producer_ready {T = T} {C = C} {P = P} u).0 (consumer_ready {T = T} {C = C} {P = P} u).0
   begins_two id u s holds at =

@@ -7,7 +7,7 @@ use mathlib.Core.Logic.{dite}
 use native.Mathlib.Decide.{ℕ_discrete}
 use lib.ListN.{get_elem?}
 use Rattle.core_state.specs.Table.{code_of}
-use Rattle.core_state.specs.declared.table.State.{State as CoreState}
+use Rattle.core_state.specs.Schedule.{state_from}
 use Rattle.atomic_table.specs.Table.{rest, turned, Act, Valid, Allows, homes_after, carried_after}
 use Rattle.atomic_table.proofs.Lists.{set_here, set_else}
 use Rattle.core_word.specs.declared.view.Departure.TheVariants as departed
@@ -15,8 +15,8 @@ use Rattle.core_word.specs.declared.view.ProducerPhase.{ProducerPhase}
 use Rattle.core_word.specs.declared.view.ConsumerPhase.{ConsumerPhase}
 use Rattle.core_word.specs.declared.view.View.{View}
 use Rattle.core_word.specs.declared.view.View.TheVariants as view
-use Rattle.core_word.specs.Views.{use_of, producer_left, consumer_left}
-use Rattle.core_word.specs.Rule.{Held, Home, Cells, words_of, homes_of, Fit, IsPast, Unbegun, Begun, Over, StandsFor}
+use Rattle.core_word.specs.Views.{use_of, producer_left, consumer_left, Knows}
+use Rattle.core_word.specs.Rule.{Held, Home, Cells, words_of, homes_of, IsSet, Fit, IsPast, IsFirstOf, Unbegun, Begun, Over, StandsFor}
 use Rattle.fan_base.specs.declared.outcome.Try.{Try}
 use Rattle.core_state.specs.declared.schedule.Offer.{Offer}
 use Rattle.core_state.specs.declared.schedule.Offer.TheVariants as offered
@@ -52,6 +52,24 @@ module _ {T C P : Type 0} where
   pub one_view : (vs : List (View T C P)) (i j : ℕ) (v w : View T C P) → get_elem? vs i ≡ maybe.some v → get_elem? vs j ≡ maybe.some w → i ≡ j → v ≡ w
   one_view vs i j v w e f same = some-injective v w (sym e ∙ (ap (get_elem? vs) same ∙ f))
 
+  past_later : (u : ℕ) (v : View T C P) → IsPast u v → IsPast (suc u) v
+  past_later u (view.Key n) past = absurd past
+  past_later u (view.Producer n p) past = let lt = past.0 in (omega arith, past.1)
+  past_later u (view.Consumer n c) past = let lt = past.0 in (omega arith, past.1)
+  past_later u (view.Husk n o k) past = absurd past
+
+  first_past : (u : ℕ) (v : View T C P) → IsFirstOf u v → IsPast (suc u) v
+  first_past u (view.Key n) left = absurd left
+  first_past u (view.Producer n p) left = let same = left.0 in (omega arith, left.1)
+  first_past u (view.Consumer n c) left = let same = left.0 in (omega arith, left.1)
+  first_past u (view.Husk n o k) left = absurd left
+
+  -- once a use is over, every other half was the first to leave its use
+  pub over_others : (s : Cells T C P) (b : Over s) (k : ℕ) (v : View T C P) → k ≢ b.last → get_elem? s.views k ≡ maybe.some v → IsPast (suc b.number) v
+  over_others s b k v ne at = dite (ℕ_discrete k b.first)
+      (λ e. subst (λ w. IsPast (suc b.number) w) (sym (one_view s.views k b.first v b.v at b.at_first e)) (first_past b.number b.v b.left))
+      (λ nf. past_later b.number v (b.others k v ne nf at))
+
   module _ (id : ℕ) (u : ℕ) (cs : List (ℕ × Held T C P)) (i : ℕ) (f : ℕ → ℕ) (then : ℕ → Standing T C P → Type 0) where
     -- a step of a table with these words, slots and views
     abbrev pub Steps : List ℕ → List (Home T C P) → List (View T C P) → Type 0
@@ -75,12 +93,13 @@ module _ {T C P : Type 0} where
         × Fit p q
         × then (slice_index (words_of p c) i) (view.Consumer u q, carried_after cs a)
 
-    -- the step by which a last leaver reads the state and takes all slots
-    abbrev pub ReadsAll : List ℕ → List (Home T C P) → Type 0
-    ReadsAll ws hs = (s : CoreState) × (a : Act (Held T C P)) × Valid hs cs a
-        × (slice_set ws i (f (slice_index ws i)) ≡ code_of s ∷ 0 ∷ [])
+    -- the step by which a last leaver reads the state and takes all slots, beside the first leaver's view
+    abbrev pub ReadsAll : View T C P → List ℕ → List (Home T C P) → Type 0
+    ReadsAll v ws hs = (offer : Offer (Try T) P) × (claim : Claim C) × (a : Act (Held T C P)) × Valid hs cs a
+        × (slice_set ws i (f (slice_index ws i)) ≡ code_of (state_from offer claim) ∷ 0 ∷ [])
         × (homes_after hs cs a ≡ maybe.none ∷ maybe.none ∷ maybe.none ∷ [])
-        × then (slice_index ws i) (view.Husk u s, carried_after cs a)
+        × IsSet offer × Knows v offer claim
+        × then (slice_index ws i) (view.Husk u offer claim, carried_after cs a)
 
     pub placed : (ws : List ℕ) (hs : List (Home T C P)) (vs : List (View T C P)) (ws' : List ℕ) (hs' : List (Home T C P)) → ws ≡ ws' → hs ≡ hs' → Steps ws' hs' vs → Steps ws hs vs
     placed ws hs vs ws' hs' e f g = subst (λ x. Steps x hs vs) (sym e) (subst (λ y. Steps ws' y vs) (sym f) g)
@@ -143,9 +162,9 @@ module _ {T C P : Type 0} where
           (λ ne. let past = b.others id _ ne at in stays past.1)
 
       pub not_over : (s : Cells T C P) → Over s → get_elem? s.views id ≡ maybe.some (view.Producer u p) → ⊥
-      not_over s b at = dite (ℕ_discrete id b.seat)
-          (λ e. let same = one_view s.views id b.seat _ _ at b.at e in cc)
-          (λ ne. let past = b.others id _ ne at in stays past.1)
+      not_over s b at = dite (ℕ_discrete id b.last)
+          (λ e. let same = one_view s.views id b.last _ _ at b.at_last e in cc)
+          (λ ne. let past = over_others s b id _ ne at in stays past.1)
 
       pub producer_steps : (slots : ℕ) → ProducerOwes p → Allows StandsFor slots id (view.Producer u p, cs) i f then
       producer_steps slots owes s (inl b) long at small = absurd (not_unbegun s b at)
@@ -209,9 +228,9 @@ module _ {T C P : Type 0} where
           (λ ne. let past = b.others id _ ne at in stays past.1)
 
       pub consumer_not_over : (s : Cells T C P) → Over s → get_elem? s.views id ≡ maybe.some (view.Consumer u c) → ⊥
-      consumer_not_over s b at = dite (ℕ_discrete id b.seat)
-          (λ e. let same = one_view s.views id b.seat _ _ at b.at e in cc)
-          (λ ne. let past = b.others id _ ne at in stays past.1)
+      consumer_not_over s b at = dite (ℕ_discrete id b.last)
+          (λ e. let same = one_view s.views id b.last _ _ at b.at_last e in cc)
+          (λ ne. let past = over_others s b id _ ne at in stays past.1)
 
       pub consumer_steps : (slots : ℕ) → ConsumerOwes c → Allows StandsFor slots id (view.Consumer u c, cs) i f then
       consumer_steps slots owes s (inl b) long at small = absurd (consumer_not_unbegun s b at)

@@ -1,7 +1,6 @@
 -- The last leaver reads the state and takes all slots.
-use Rattle.std.proofs.Common.{◌≡◌, ◌≢◌, ℕ, suc, inl, inr, List, [], refl, sym, ap, ◌∙◌, subst, Some, None, arith}
+use Rattle.std.proofs.Common.{◌≡◌, ◌≢◌, ℕ, inl, inr, List, [], refl, sym, ap, ◌∙◌, subst, Some, None}
 use Rattle.fan_base.specs.declared.outcome.Try.{Try}
-use Rattle.core_state.specs.declared.table.State.TheVariants as state
 use Rattle.core_state.specs.declared.schedule.Offer.{Offer}
 use Rattle.core_state.specs.declared.schedule.Offer.TheVariants as offered
 use Rattle.core_state.specs.declared.schedule.Claim.{Claim}
@@ -17,8 +16,6 @@ use Rattle.core_word.specs.Rule.{StandsFor}
 use Rattle.core_word.specs.Plays.{Standing}
 use Rattle.std.specs.Prelude.{slice_set}
 use mathlib.Core.Option as maybe
-use mathlib.Core.Logic.{dite}
-use native.Mathlib.Decide.{ℕ_discrete}
 use lib.ListN.{get_elem?}
 use Rattle.atomic_table.proofs.Lists.{set_here, set_else}
 use Rattle.core_word.specs.declared.view.View.{View}
@@ -40,18 +37,12 @@ first_only departed.First fit = refl
 first_only departed.Last fit = absurd fit
 
 module _ {T C P : Type 0} where
-  past_later : (u : ℕ) (v : View T C P) → IsPast u v → IsPast (suc u) v
-  past_later u (view.Key n) past = absurd past
-  past_later u (view.Producer n p) past = let lt = past.0 in (omega arith, past.1)
-  past_later u (view.Consumer n c) past = let lt = past.0 in (omega arith, past.1)
-  past_later u (view.Husk n s) past = absurd past
-
   module _ (id u : ℕ) where
-    abbrev Reads : View T C P → List ℕ → List (Home T C P) → Type 0
-    Reads v = ReadsAll id u [] 0 (λ n. n) (reads_end (v, []))
+    abbrev Reads : View T C P → View T C P → List ℕ → List (Home T C P) → Type 0
+    Reads v w = ReadsAll id u [] 0 (λ n. n) (reads_end (v, [])) w
 
     producer_reads : (offer : Offer (Try T) P) (got : Claim C) (c : ConsumerPhase T C P) → Fit (producer.Acted offer got departed.Last) c
-        → Reads (view.Producer u (producer.Acted offer got departed.Last)) (words_of (producer.Acted offer got departed.Last) c) (homes_of (producer.Acted offer got departed.Last) c)
+        → Reads (view.Producer u (producer.Acted offer got departed.Last)) (view.Consumer u c) (words_of (producer.Acted offer got departed.Last) c) (homes_of (producer.Acted offer got departed.Last) c)
     producer_reads offer got consumer.Ready fit = absurd fit.1
     producer_reads offer got consumer.Holding fit = absurd fit.1
     producer_reads offer got (consumer.Aware s) fit = absurd fit.1
@@ -59,29 +50,29 @@ module _ {T C P : Type 0} where
     producer_reads offer got (consumer.Acted claim got' departed.Last) fit = absurd fit.1
     producer_reads offered.Nothing claimed.Nothing (consumer.Acted claim got' departed.First) fit = absurd fit.0.0
     producer_reads offered.Nothing (claimed.Callback x) (consumer.Acted claim got' departed.First) fit = absurd fit.0.0
-    producer_reads (offered.Result r) claimed.Nothing (consumer.Acted claimed.Nothing offered.Nothing departed.First) fit = (state.OnlyResult, chain (takes 0 (Some (item.Outcome r))) (chain (takes 1 None) (takes 2 None)), (refl, (refl, refl)), refl, refl, ((offered.Result r), claimed.Nothing, tt, (refl, tt), refl))
+    producer_reads (offered.Result r) claimed.Nothing (consumer.Acted claimed.Nothing offered.Nothing departed.First) fit = (offered.Result r, claimed.Nothing, chain (takes 0 (Some (item.Outcome r))) (chain (takes 1 None) (takes 2 None)), (refl, (refl, refl)), refl, refl, tt, (refl, tt), (offered.Result r, claimed.Nothing, tt, (refl, tt), refl))
     producer_reads (offered.Result r) claimed.Nothing (consumer.Acted claimed.Nothing (offered.Result q) departed.First) fit = let e = fit.0.1 in cc
     producer_reads (offered.Result r) claimed.Nothing (consumer.Acted claimed.Nothing (offered.Proxy q) departed.First) fit = let e = fit.0.1 in cc
-    producer_reads (offered.Result r) claimed.Nothing (consumer.Acted (claimed.Callback c) (offered.Result q) departed.First) fit = (state.Done, chain (takes 0 None) (chain (takes 1 None) (takes 2 None)), (refl, (refl, refl)), refl, refl, ((offered.Result r), claimed.Callback c, tt, (refl, tt), refl))
+    producer_reads (offered.Result r) claimed.Nothing (consumer.Acted (claimed.Callback c) (offered.Result q) departed.First) fit = (offered.Result r, claimed.Callback c, chain (takes 0 None) (chain (takes 1 None) (takes 2 None)), (refl, (refl, refl)), refl, refl, tt, (refl, sym fit.0.1), (offered.Result r, claimed.Callback c, tt, (refl, tt), refl))
     producer_reads (offered.Result r) claimed.Nothing (consumer.Acted (claimed.Callback c) offered.Nothing departed.First) fit = let e = fit.0.1 in cc
     producer_reads (offered.Result r) claimed.Nothing (consumer.Acted (claimed.Callback c) (offered.Proxy q) departed.First) fit = let e = fit.0.1 in cc
     producer_reads (offered.Result r) (claimed.Callback x) (consumer.Acted claimed.Nothing got' departed.First) fit = absurd fit.0.1
-    producer_reads (offered.Result r) (claimed.Callback x) (consumer.Acted (claimed.Callback c) offered.Nothing departed.First) fit = (state.Done, chain (takes 0 None) (chain (takes 1 None) (takes 2 None)), (refl, (refl, refl)), refl, refl, ((offered.Result r), claimed.Callback c, tt, (refl, ap (λ y. claimed.Callback y) fit.0.1.0), refl))
+    producer_reads (offered.Result r) (claimed.Callback x) (consumer.Acted (claimed.Callback c) offered.Nothing departed.First) fit = (offered.Result r, claimed.Callback c, chain (takes 0 None) (chain (takes 1 None) (takes 2 None)), (refl, (refl, refl)), refl, refl, tt, (refl, tt), (offered.Result r, claimed.Callback c, tt, (refl, ap (λ y. claimed.Callback y) fit.0.1.0), refl))
     producer_reads (offered.Result r) (claimed.Callback x) (consumer.Acted (claimed.Callback c) (offered.Result q) departed.First) fit = let e = fit.0.1.1 in cc
     producer_reads (offered.Result r) (claimed.Callback x) (consumer.Acted (claimed.Callback c) (offered.Proxy q) departed.First) fit = let e = fit.0.1.1 in cc
-    producer_reads (offered.Proxy r) claimed.Nothing (consumer.Acted claimed.Nothing offered.Nothing departed.First) fit = (state.Proxy, chain (takes 0 None) (chain (takes 1 None) (takes 2 (Some (item.Proxy r)))), (refl, (refl, refl)), refl, refl, ((offered.Proxy r), claimed.Nothing, tt, (refl, tt), refl))
+    producer_reads (offered.Proxy r) claimed.Nothing (consumer.Acted claimed.Nothing offered.Nothing departed.First) fit = (offered.Proxy r, claimed.Nothing, chain (takes 0 None) (chain (takes 1 None) (takes 2 (Some (item.Proxy r)))), (refl, (refl, refl)), refl, refl, tt, (refl, tt), (offered.Proxy r, claimed.Nothing, tt, (refl, tt), refl))
     producer_reads (offered.Proxy r) claimed.Nothing (consumer.Acted claimed.Nothing (offered.Result q) departed.First) fit = let e = fit.0.1 in cc
     producer_reads (offered.Proxy r) claimed.Nothing (consumer.Acted claimed.Nothing (offered.Proxy q) departed.First) fit = let e = fit.0.1 in cc
-    producer_reads (offered.Proxy r) claimed.Nothing (consumer.Acted (claimed.Callback c) (offered.Proxy q) departed.First) fit = (state.Empty, chain (takes 0 None) (chain (takes 1 None) (takes 2 None)), (refl, (refl, refl)), refl, refl, ((offered.Proxy r), claimed.Callback c, tt, (refl, tt), refl))
+    producer_reads (offered.Proxy r) claimed.Nothing (consumer.Acted (claimed.Callback c) (offered.Proxy q) departed.First) fit = (offered.Proxy r, claimed.Callback c, chain (takes 0 None) (chain (takes 1 None) (takes 2 None)), (refl, (refl, refl)), refl, refl, tt, (refl, sym fit.0.1), (offered.Proxy r, claimed.Callback c, tt, (refl, tt), refl))
     producer_reads (offered.Proxy r) claimed.Nothing (consumer.Acted (claimed.Callback c) offered.Nothing departed.First) fit = let e = fit.0.1 in cc
     producer_reads (offered.Proxy r) claimed.Nothing (consumer.Acted (claimed.Callback c) (offered.Result q) departed.First) fit = let e = fit.0.1 in cc
     producer_reads (offered.Proxy r) (claimed.Callback x) (consumer.Acted claimed.Nothing got' departed.First) fit = absurd fit.0.1
-    producer_reads (offered.Proxy r) (claimed.Callback x) (consumer.Acted (claimed.Callback c) offered.Nothing departed.First) fit = (state.Empty, chain (takes 0 None) (chain (takes 1 None) (takes 2 None)), (refl, (refl, refl)), refl, refl, ((offered.Proxy r), claimed.Callback c, tt, (refl, ap (λ y. claimed.Callback y) fit.0.1.0), refl))
+    producer_reads (offered.Proxy r) (claimed.Callback x) (consumer.Acted (claimed.Callback c) offered.Nothing departed.First) fit = (offered.Proxy r, claimed.Callback c, chain (takes 0 None) (chain (takes 1 None) (takes 2 None)), (refl, (refl, refl)), refl, refl, tt, (refl, tt), (offered.Proxy r, claimed.Callback c, tt, (refl, ap (λ y. claimed.Callback y) fit.0.1.0), refl))
     producer_reads (offered.Proxy r) (claimed.Callback x) (consumer.Acted (claimed.Callback c) (offered.Result q) departed.First) fit = let e = fit.0.1.1 in cc
     producer_reads (offered.Proxy r) (claimed.Callback x) (consumer.Acted (claimed.Callback c) (offered.Proxy q) departed.First) fit = let e = fit.0.1.1 in cc
 
     consumer_reads : (claim : Claim C) (got : Offer (Try T) P) (p : ProducerPhase T C P) → Fit p (consumer.Acted claim got departed.Last)
-        → Reads (view.Consumer u (consumer.Acted claim got departed.Last)) (words_of p (consumer.Acted claim got departed.Last)) (homes_of p (consumer.Acted claim got departed.Last))
+        → Reads (view.Consumer u (consumer.Acted claim got departed.Last)) (view.Producer u p) (words_of p (consumer.Acted claim got departed.Last)) (homes_of p (consumer.Acted claim got departed.Last))
     consumer_reads claim got producer.Ready fit = absurd fit.1
     consumer_reads claim got (producer.Holding o) fit = absurd fit.1
     consumer_reads claim got (producer.Aware o) fit = absurd fit.1
@@ -89,24 +80,24 @@ module _ {T C P : Type 0} where
     consumer_reads claim got (producer.Acted offer got' departed.Last) fit = absurd fit.1
     consumer_reads claim got (producer.Acted offered.Nothing claimed.Nothing departed.First) fit = absurd fit.0.0
     consumer_reads claim got (producer.Acted offered.Nothing (claimed.Callback x) departed.First) fit = absurd fit.0.0
-    consumer_reads claimed.Nothing offered.Nothing (producer.Acted (offered.Result r) claimed.Nothing departed.First) fit = (state.OnlyResult, chain (takes 0 (Some (item.Outcome r))) (chain (takes 1 None) (takes 2 None)), (refl, (refl, refl)), refl, refl, ((offered.Result r), claimed.Nothing, tt, (refl, tt), refl))
+    consumer_reads claimed.Nothing offered.Nothing (producer.Acted (offered.Result r) claimed.Nothing departed.First) fit = (offered.Result r, claimed.Nothing, chain (takes 0 (Some (item.Outcome r))) (chain (takes 1 None) (takes 2 None)), (refl, (refl, refl)), refl, refl, tt, (refl, tt), (offered.Result r, claimed.Nothing, tt, (refl, tt), refl))
     consumer_reads claimed.Nothing (offered.Result q) (producer.Acted (offered.Result r) claimed.Nothing departed.First) fit = let e = fit.0.1 in cc
     consumer_reads claimed.Nothing (offered.Proxy q) (producer.Acted (offered.Result r) claimed.Nothing departed.First) fit = let e = fit.0.1 in cc
     consumer_reads (claimed.Callback c) offered.Nothing (producer.Acted (offered.Result r) claimed.Nothing departed.First) fit = let e = fit.0.1 in cc
-    consumer_reads (claimed.Callback c) (offered.Result q) (producer.Acted (offered.Result r) claimed.Nothing departed.First) fit = (state.Done, chain (takes 0 None) (chain (takes 1 None) (takes 2 None)), (refl, (refl, refl)), refl, refl, ((offered.Result r), claimed.Callback c, tt, (refl, sym fit.0.1), refl))
+    consumer_reads (claimed.Callback c) (offered.Result q) (producer.Acted (offered.Result r) claimed.Nothing departed.First) fit = (offered.Result r, claimed.Callback c, chain (takes 0 None) (chain (takes 1 None) (takes 2 None)), (refl, (refl, refl)), refl, refl, tt, (refl, tt), (offered.Result r, claimed.Callback c, tt, (refl, sym fit.0.1), refl))
     consumer_reads (claimed.Callback c) (offered.Proxy q) (producer.Acted (offered.Result r) claimed.Nothing departed.First) fit = let e = fit.0.1 in cc
     consumer_reads claimed.Nothing got (producer.Acted (offered.Result r) (claimed.Callback x) departed.First) fit = absurd fit.0.1
-    consumer_reads (claimed.Callback c) offered.Nothing (producer.Acted (offered.Result r) (claimed.Callback x) departed.First) fit = (state.Done, chain (takes 0 None) (chain (takes 1 None) (takes 2 None)), (refl, (refl, refl)), refl, refl, ((offered.Result r), claimed.Callback c, tt, (refl, tt), refl))
+    consumer_reads (claimed.Callback c) offered.Nothing (producer.Acted (offered.Result r) (claimed.Callback x) departed.First) fit = (offered.Result r, claimed.Callback c, chain (takes 0 None) (chain (takes 1 None) (takes 2 None)), (refl, (refl, refl)), refl, refl, tt, (refl, ap (λ y. claimed.Callback y) fit.0.1.0), (offered.Result r, claimed.Callback c, tt, (refl, tt), refl))
     consumer_reads (claimed.Callback c) (offered.Result q) (producer.Acted (offered.Result r) (claimed.Callback x) departed.First) fit = let e = fit.0.1.1 in cc
     consumer_reads (claimed.Callback c) (offered.Proxy q) (producer.Acted (offered.Result r) (claimed.Callback x) departed.First) fit = let e = fit.0.1.1 in cc
-    consumer_reads claimed.Nothing offered.Nothing (producer.Acted (offered.Proxy r) claimed.Nothing departed.First) fit = (state.Proxy, chain (takes 0 None) (chain (takes 1 None) (takes 2 (Some (item.Proxy r)))), (refl, (refl, refl)), refl, refl, ((offered.Proxy r), claimed.Nothing, tt, (refl, tt), refl))
+    consumer_reads claimed.Nothing offered.Nothing (producer.Acted (offered.Proxy r) claimed.Nothing departed.First) fit = (offered.Proxy r, claimed.Nothing, chain (takes 0 None) (chain (takes 1 None) (takes 2 (Some (item.Proxy r)))), (refl, (refl, refl)), refl, refl, tt, (refl, tt), (offered.Proxy r, claimed.Nothing, tt, (refl, tt), refl))
     consumer_reads claimed.Nothing (offered.Result q) (producer.Acted (offered.Proxy r) claimed.Nothing departed.First) fit = let e = fit.0.1 in cc
     consumer_reads claimed.Nothing (offered.Proxy q) (producer.Acted (offered.Proxy r) claimed.Nothing departed.First) fit = let e = fit.0.1 in cc
     consumer_reads (claimed.Callback c) offered.Nothing (producer.Acted (offered.Proxy r) claimed.Nothing departed.First) fit = let e = fit.0.1 in cc
-    consumer_reads (claimed.Callback c) (offered.Proxy q) (producer.Acted (offered.Proxy r) claimed.Nothing departed.First) fit = (state.Empty, chain (takes 0 None) (chain (takes 1 None) (takes 2 None)), (refl, (refl, refl)), refl, refl, ((offered.Proxy r), claimed.Callback c, tt, (refl, sym fit.0.1), refl))
+    consumer_reads (claimed.Callback c) (offered.Proxy q) (producer.Acted (offered.Proxy r) claimed.Nothing departed.First) fit = (offered.Proxy r, claimed.Callback c, chain (takes 0 None) (chain (takes 1 None) (takes 2 None)), (refl, (refl, refl)), refl, refl, tt, (refl, tt), (offered.Proxy r, claimed.Callback c, tt, (refl, sym fit.0.1), refl))
     consumer_reads (claimed.Callback c) (offered.Result q) (producer.Acted (offered.Proxy r) claimed.Nothing departed.First) fit = let e = fit.0.1 in cc
     consumer_reads claimed.Nothing got (producer.Acted (offered.Proxy r) (claimed.Callback x) departed.First) fit = absurd fit.0.1
-    consumer_reads (claimed.Callback c) offered.Nothing (producer.Acted (offered.Proxy r) (claimed.Callback x) departed.First) fit = (state.Empty, chain (takes 0 None) (chain (takes 1 None) (takes 2 None)), (refl, (refl, refl)), refl, refl, ((offered.Proxy r), claimed.Callback c, tt, (refl, tt), refl))
+    consumer_reads (claimed.Callback c) offered.Nothing (producer.Acted (offered.Proxy r) (claimed.Callback x) departed.First) fit = (offered.Proxy r, claimed.Callback c, chain (takes 0 None) (chain (takes 1 None) (takes 2 None)), (refl, (refl, refl)), refl, refl, tt, (refl, ap (λ y. claimed.Callback y) fit.0.1.0), (offered.Proxy r, claimed.Callback c, tt, (refl, tt), refl))
     consumer_reads (claimed.Callback c) (offered.Result q) (producer.Acted (offered.Proxy r) (claimed.Callback x) departed.First) fit = let e = fit.0.1.1 in cc
     consumer_reads (claimed.Callback c) (offered.Proxy q) (producer.Acted (offered.Proxy r) (claimed.Callback x) departed.First) fit = let e = fit.0.1.1 in cc
 
@@ -123,27 +114,35 @@ module _ {T C P : Type 0} where
         let fit : Fit p c = subst (λ q. Fit q c) (sym phase) b.fit in
         let words : s.words ≡ words_of p c = b.words ∙ ap (λ q. words_of q c) (sym phase) in
         let homes : s.homes ≡ homes_of p c = b.homes ∙ ap (λ q. homes_of q c) (sym phase) in
+        let at_c : get_elem? s.views b.consumer ≡ maybe.some (view.Consumer u c) = b.at_c ∙ ap (λ n. maybe.some (view.Consumer n c)) (sym number) in
+        let apart : id ≢ b.consumer = λ e. b.apart (sym here ∙ e) in
         let r = producer_reads offer got c fit in
-        let w : View T C P = view.Husk u r.0 in
+        let w : View T C P = view.Husk u r.0 r.1 in
         let first : consumer_left c ≡ departed.First = only_first (consumer_left c) fit.1 in
-        let other : (k : ℕ) (v : View T C P) → k ≢ id → get_elem? (slice_set s.views id w) k ≡ maybe.some v → IsPast (suc u) v =
-        λ k v ne e. let e' = sym (set_else s.views id k w ne) ∙ e in dite (ℕ_discrete k b.consumer)
-        (λ at_c. let is : view.Consumer b.number c ≡ v = one_view s.views b.consumer k _ _ b.at_c e' (sym at_c) in subst (λ x. IsPast (suc u) x) is (omega arith, first))
-        (λ nc. past_later u v (subst (λ n. IsPast n v) (sym number) (b.others k v (λ x. ne (x ∙ sym here)) nc e'))) in
+        let other : (k : ℕ) (v : View T C P) → k ≢ id → k ≢ b.consumer → get_elem? (slice_set s.views id w) k ≡ maybe.some v → IsPast u v =
+        λ k v ne nc e. subst (λ n. IsPast n v) (sym number) (b.others k v (λ x. ne (x ∙ sym here)) nc (sym (set_else s.views id k w ne) ∙ e)) in
         placed id u [] 0 (λ n. n) (reads_end (view.Producer u p, [])) s.words s.homes s.views (words_of p c) (homes_of p c) words homes (
           w,
-          r.1,
           r.2,
+          r.3,
           inr (inr record {
-            seat = id;
+            last = id;
+            first = b.consumer;
+            apart = apart;
             number = u;
-            state = r.0;
-            at = set_here s.views id w (within s.views id _ at);
+            offer = r.0;
+            claim = r.1;
+            set = r.6;
+            at_last = set_here s.views id w (within s.views id _ at);
+            v = view.Consumer u c;
+            at_first = set_else s.views id b.consumer w (λ e. apart (sym e)) ∙ at_c;
+            left = (refl, first);
+            knows = r.7;
             others = other;
-            words = r.3;
-            homes = r.4;
+            words = r.4;
+            homes = r.5;
           }),
-          r.5,
+          r.8,
         )
 
     consumer_ends : (slots : ℕ) (claim : Claim C) (got : Offer (Try T) P) → Allows StandsFor slots id (view.Consumer u (consumer.Acted claim got departed.Last), []) 0 (λ n. n) (reads_end (view.Consumer u (consumer.Acted claim got departed.Last), []))
@@ -159,27 +158,35 @@ module _ {T C P : Type 0} where
         let fit : Fit p c = subst (λ q. Fit p q) (sym phase) b.fit in
         let words : s.words ≡ words_of p c = b.words ∙ ap (λ q. words_of p q) (sym phase) in
         let homes : s.homes ≡ homes_of p c = b.homes ∙ ap (λ q. homes_of p q) (sym phase) in
+        let at_p : get_elem? s.views b.producer ≡ maybe.some (view.Producer u p) = b.at_p ∙ ap (λ n. maybe.some (view.Producer n p)) (sym number) in
+        let apart : id ≢ b.producer = λ e. b.apart (sym e ∙ here) in
         let r = consumer_reads claim got p fit in
-        let w : View T C P = view.Husk u r.0 in
+        let w : View T C P = view.Husk u r.0 r.1 in
         let first : producer_left p ≡ departed.First = first_only (producer_left p) fit.1 in
-        let other : (k : ℕ) (v : View T C P) → k ≢ id → get_elem? (slice_set s.views id w) k ≡ maybe.some v → IsPast (suc u) v =
-        λ k v ne e. let e' = sym (set_else s.views id k w ne) ∙ e in dite (ℕ_discrete k b.producer)
-        (λ at_p. let is : view.Producer b.number p ≡ v = one_view s.views b.producer k _ _ b.at_p e' (sym at_p) in subst (λ x. IsPast (suc u) x) is (omega arith, first))
-        (λ np. past_later u v (subst (λ n. IsPast n v) (sym number) (b.others k v np (λ x. ne (x ∙ sym here)) e'))) in
+        let other : (k : ℕ) (v : View T C P) → k ≢ id → k ≢ b.producer → get_elem? (slice_set s.views id w) k ≡ maybe.some v → IsPast u v =
+        λ k v ne np e. subst (λ n. IsPast n v) (sym number) (b.others k v np (λ x. ne (x ∙ sym here)) (sym (set_else s.views id k w ne) ∙ e)) in
         placed id u [] 0 (λ n. n) (reads_end (view.Consumer u c, [])) s.words s.homes s.views (words_of p c) (homes_of p c) words homes (
           w,
-          r.1,
           r.2,
+          r.3,
           inr (inr record {
-            seat = id;
+            last = id;
+            first = b.producer;
+            apart = apart;
             number = u;
-            state = r.0;
-            at = set_here s.views id w (within s.views id _ at);
+            offer = r.0;
+            claim = r.1;
+            set = r.6;
+            at_last = set_here s.views id w (within s.views id _ at);
+            v = view.Producer u p;
+            at_first = set_else s.views id b.producer w (λ e. apart (sym e)) ∙ at_p;
+            left = (refl, first);
+            knows = r.7;
             others = other;
-            words = r.3;
-            homes = r.4;
+            words = r.4;
+            homes = r.5;
           }),
-          r.5,
+          r.8,
         )
 
 -- the last leaver ends the use

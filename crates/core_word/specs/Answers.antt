@@ -7,7 +7,6 @@ use Rattle.core_state.specs.declared.schedule.Offer.{Offer}
 use Rattle.core_state.specs.declared.schedule.Offer.TheVariants as offered
 use Rattle.core_state.specs.declared.schedule.Claim.{Claim}
 use Rattle.core_state.specs.declared.schedule.Claim.TheVariants as claimed
-use Rattle.core_state.specs.Schedule.{state_from, leftover_from}
 use Rattle.core_word.specs.declared.producer.Landed.{Landed}
 use Rattle.core_word.specs.declared.producer.Landed.TheVariants as landed
 use Rattle.core_word.specs.declared.producer.Passed.{Passed}
@@ -17,8 +16,6 @@ use Rattle.core_word.specs.declared.consumer.Met.TheVariants as met
 use Rattle.core_word.specs.declared.left.Leftover.{Leftover}
 use Rattle.core_word.specs.declared.left.Left.{Left}
 use Rattle.core_word.specs.declared.left.Left.TheVariants as left
-use Rattle.core_word.specs.Rule.{IsSet}
-use Rattle.core_word.specs.Plays.{GotClaim, GotOffer, leftover_as}
 use Rattle.core_word.specs.Seen.{SeenReceipt, SeenHusk}
 
 -- Waiting at Start. At OnlyCallback a Fire with the core's number, the outcome that was set, and the callback that was got.
@@ -39,21 +36,11 @@ MeetsAt found got number callback (met.Forward forward) = (found ≡ state.Proxy
 
 module _ {T C P : Type 0} where
   -- a fact for each answer of a leave
-  abbrev pub MatchLeft : Left T C P → (SeenReceipt → Type 0) → (Leftover T P → SeenHusk → Type 0) → Type 0
+  abbrev pub MatchLeft : Left T C P → (SeenReceipt T C P → Type 0) → (Leftover T P → SeenHusk T C P → Type 0) → Type 0
   MatchLeft (left.First receipt) First Last = First receipt
   MatchLeft (left.Last leftover husk) First Last = Last leftover husk
 
   -- a fact for the answer of the last leave
-  abbrev pub IfLast : Left T C P → (Leftover T P → SeenHusk → Type 0) → Type 0
+  abbrev pub IfLast : Left T C P → (Leftover T P → SeenHusk T C P → Type 0) → Type 0
   IfLast (left.First receipt) Last = Unit {0}
   IfLast (left.Last leftover husk) Last = Last leftover husk
-
-  -- The end of a use, for a producer that set this offer and got this: with what the consumer has set, the state is that of both acts, and the leftover is what they leave.
-  abbrev pub EndsForProducer : Offer (Try T) P → Claim C → State → Leftover T P → Type 0
-  EndsForProducer offer got state leftover =
-      (claim : Claim C) × GotClaim got claim × (state ≡ state_from offer claim) × (leftover ≡ leftover_as (leftover_from offer claim))
-
-  -- the same for a consumer that set this claim and got this
-  abbrev pub EndsForConsumer : Claim C → Offer (Try T) P → State → Leftover T P → Type 0
-  EndsForConsumer claim got state leftover =
-      (offer : Offer (Try T) P) × IsSet offer × GotOffer got offer × (state ≡ state_from offer claim) × (leftover ≡ leftover_as (leftover_from offer claim))

@@ -8,7 +8,7 @@ use Rattle.core_state.specs.declared.schedule.Offer.TheVariants as offered
 use Rattle.core_state.specs.declared.schedule.Claim.{Claim}
 use Rattle.core_state.specs.declared.schedule.Claim.TheVariants as claimed
 use Rattle.core_state.specs.Table.{code_of}
-use Rattle.core_state.specs.Schedule.{state_from, leftover_from}
+use Rattle.core_state.specs.Schedule.{leftover_from}
 use Rattle.atomic_table.specs.Table.{Me}
 use Rattle.atomic_table.specs.Seated.{TableId}
 use Rattle.atomic_table.specs.declared.shared.Seat.{Seat}
@@ -23,7 +23,7 @@ use Rattle.core_word.specs.declared.view.View.{View}
 use Rattle.core_word.specs.declared.view.View.TheVariants as view
 use Rattle.core_word.specs.declared.left.Leftover.{Leftover}
 use Rattle.core_word.specs.declared.left.Leftover.TheVariants as leftover
-use Rattle.core_word.specs.Views.{use_of, offer_of, claim_got, claim_of, offer_got}
+use Rattle.core_word.specs.Views.{use_of, offer_of, claim_got, claim_of, offer_got, Knows}
 use Rattle.core_word.specs.Rule.{Held, IsSet}
 
 -- where a seat stands
@@ -44,16 +44,6 @@ abbrev pub found_by_consumer : {R K : Type 0} → Offer R K → State
 found_by_consumer offered.Nothing = state.Start
 found_by_consumer (offered.Result r) = state.OnlyResult
 found_by_consumer (offered.Proxy k) = state.Proxy
-
--- what a half got is what the other half set
-abbrev pub GotClaim : {C : Type 0} → Claim C → Claim C → Type 0
-GotClaim claimed.Nothing claim = Unit {0}
-GotClaim (claimed.Callback c) claim = claim ≡ claimed.Callback c
-
-abbrev pub GotOffer : {R K : Type 0} → Offer R K → Offer R K → Type 0
-GotOffer offered.Nothing offer = Unit {0}
-GotOffer (offered.Result r) offer = offer ≡ offered.Result r
-GotOffer (offered.Proxy k) offer = offer ≡ offered.Proxy k
 
 module _ {T C P : Type 0} where
   abbrev pub key_at : ℕ → Standing T C P
@@ -151,20 +141,13 @@ module _ {T C P : Type 0} where
   leaving left (view.Key number) = view.Key number
   leaving left (view.Producer number p) = view.Producer number (producer.Acted (offer_of p) (claim_got p) left)
   leaving left (view.Consumer number c) = view.Consumer number (consumer.Acted (claim_of c) (offer_got c) left)
-  leaving left (view.Husk number s) = view.Husk number s
+  leaving left (view.Husk number offer claim) = view.Husk number offer claim
 
   -- A half leaves, and gives its slots home. It is the last where it found one half attached.
   abbrev pub leaves : Standing T C P → ℕ → Standing T C P → Type 0
   leaves before found after =
       (found ≡ 1 → after ≡ (leaving departed.Last before.0, []))
       × (found ≢ 1 → (found ≡ 2) × (after ≡ (leaving departed.First before.0, [])))
-
-  -- what both halves have set, by what one of them knows
-  abbrev pub Knows : View T C P → Offer (Try T) P → Claim C → Type 0
-  Knows (view.Key number) offer claim = ⊥
-  Knows (view.Producer number p) offer claim = (offer ≡ offer_of p) × GotClaim (claim_got p) claim
-  Knows (view.Consumer number c) offer claim = (claim ≡ claim_of c) × GotOffer (offer_got c) offer
-  Knows (view.Husk number s) offer claim = ⊥
 
   abbrev pub result_left : Offer (Try T) P → Held T C P
   result_left offered.Nothing = None
@@ -176,23 +159,23 @@ module _ {T C P : Type 0} where
   proxy_left (offered.Result r) = None
   proxy_left (offered.Proxy k) = Some (item.Proxy k)
 
-  -- The last leaver reads the state that both halves' acts make, and takes all slots with what is left over.
+  -- The last leaver reads the state that both halves' acts make, and so knows what both have set. It takes all slots with what is left over.
   abbrev pub reads_end : Standing T C P → ℕ → Standing T C P → Type 0
   reads_end before found after =
       (offer : Offer (Try T) P) × (claim : Claim C) × IsSet offer × Knows before.0 offer claim
-      × (after ≡ (view.Husk (use_of before.0) (state_from offer claim), (2, proxy_left (leftover_from offer claim)) ∷ (1, None) ∷ (0, result_left (leftover_from offer claim)) ∷ []))
+      × (after ≡ (view.Husk (use_of before.0) offer claim, (2, proxy_left (leftover_from offer claim)) ∷ (1, None) ∷ (0, result_left (leftover_from offer claim)) ∷ []))
 
   abbrev pub begin_producer : View T C P → View T C P
   begin_producer (view.Key number) = view.Producer number producer.Ready
   begin_producer (view.Producer number p) = view.Producer number p
   begin_producer (view.Consumer number c) = view.Consumer number c
-  begin_producer (view.Husk number s) = view.Husk number s
+  begin_producer (view.Husk number offer claim) = view.Husk number offer claim
 
   abbrev pub begin_consumer : View T C P → View T C P
   begin_consumer (view.Key number) = view.Consumer number consumer.Ready
   begin_consumer (view.Producer number p) = view.Producer number p
   begin_consumer (view.Consumer number c) = view.Consumer number c
-  begin_consumer (view.Husk number s) = view.Husk number s
+  begin_consumer (view.Husk number offer claim) = view.Husk number offer claim
 
   -- a half that may leave: a producer that has acted, or a consumer that has acted or gives up
   abbrev pub IsLeaving : Standing T C P → Type 0
@@ -207,8 +190,8 @@ module _ {T C P : Type 0} where
       ⊎ ((number : ℕ) × (claim : Claim C) × (got : Offer (Try T) P) × (v ≡ view.Consumer number (consumer.Acted claim got departed.Last)))
 
   -- a last leaver that has emptied all slots
-  abbrev pub husk_at : ℕ → State → Standing T C P
-  husk_at number s = (view.Husk number s, (0, None) ∷ (2, None) ∷ (1, None) ∷ [])
+  abbrev pub husk_at : ℕ → Offer (Try T) P → Claim C → Standing T C P
+  husk_at number offer claim = (view.Husk number offer claim, (0, None) ∷ (2, None) ∷ (1, None) ∷ [])
 
   -- a seat of this home stands so
   pub record Sits (home : TableId) (seat : Seat (Held T C P) (View T C P)) (standing : Standing T C P) : Type 0 where

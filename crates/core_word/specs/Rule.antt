@@ -1,9 +1,8 @@
 -- The core rule: what the words, the slots at home and the views of a home's table stand for between any two steps.
-use Rattle.std.specs.Prelude.{◌≡◌, ◌≢◌, ℕ, suc, ◌+◌, ◌<◌, ◌⊎◌, Bool, true, false, ◌||◌, List, [], ◌∷◌, Option, Some, None}
+use Rattle.std.specs.Prelude.{◌≡◌, ◌≢◌, ℕ, ◌+◌, ◌<◌, ◌⊎◌, Bool, true, false, ◌||◌, List, [], ◌∷◌, Option, Some, None}
 use mathlib.Core.Option as maybe
 use lib.ListN.{get_elem?}
 use Rattle.fan_base.specs.declared.outcome.Try.{Try}
-use Rattle.core_state.specs.declared.table.State as core
 use Rattle.core_state.specs.declared.table.State.TheVariants as state
 use Rattle.core_state.specs.declared.schedule.Offer.{Offer}
 use Rattle.core_state.specs.declared.schedule.Offer.TheVariants as offered
@@ -22,7 +21,7 @@ use Rattle.core_word.specs.declared.view.ConsumerPhase.{ConsumerPhase}
 use Rattle.core_word.specs.declared.view.ConsumerPhase.TheVariants as consumer
 use Rattle.core_word.specs.declared.view.View.{View}
 use Rattle.core_word.specs.declared.view.View.TheVariants as view
-use Rattle.core_word.specs.Views.{attached, offer_of, claim_of, producer_left, consumer_left, producer_has_result, producer_has_callback, producer_has_proxy, consumer_has_result, consumer_has_callback, consumer_has_proxy}
+use Rattle.core_word.specs.Views.{attached, offer_of, claim_of, producer_left, consumer_left, Knows, producer_has_result, producer_has_callback, producer_has_proxy, consumer_has_result, consumer_has_callback, consumer_has_proxy}
 
 -- what a slot holds, and a slot of the table: out with a seat, or at home with what it holds
 abbrev pub Held : Type 0 → Type 0 → Type 0 → Type 0
@@ -138,7 +137,14 @@ module _ {T C P : Type 0} where
   IsPast number (view.Key n) = ⊥
   IsPast number (view.Producer n p) = (n < number) × (producer_left p ≡ departed.First)
   IsPast number (view.Consumer n c) = (n < number) × (consumer_left c ≡ departed.First)
-  IsPast number (view.Husk n s) = ⊥
+  IsPast number (view.Husk n offer claim) = ⊥
+
+  -- the view of the half that was the first to leave this use
+  abbrev pub IsFirstOf : ℕ → View T C P → Type 0
+  IsFirstOf number (view.Key n) = ⊥
+  IsFirstOf number (view.Producer n p) = (n ≡ number) × (producer_left p ≡ departed.First)
+  IsFirstOf number (view.Consumer n c) = (n ≡ number) × (consumer_left c ≡ departed.First)
+  IsFirstOf number (view.Husk n offer claim) = ⊥
 
   -- Nobody has begun the greatest use: one seat has its key. All slots are at home and empty.
   pub record Unbegun (s : Cells T C P) : Type 0 where
@@ -164,14 +170,22 @@ module _ {T C P : Type 0} where
     pub homes : s.homes ≡ homes_of p c
     pub fit : Fit p c
 
-  -- Both have left the greatest use, and the last leaver has read the state and has all slots.
+  -- Both have left the greatest use. The last leaver has read the state, so it knows what both have set, and has all slots. The first leaver's view still tells its act.
   pub record Over (s : Cells T C P) : Type 0 where
-    pub seat : ℕ
+    pub last : ℕ
+    pub first : ℕ
+    pub apart : last ≢ first
     pub number : ℕ
-    pub state : core.State
-    pub at : get_elem? s.views seat ≡ maybe.some (view.Husk number state)
-    pub others : (k : ℕ) (v : View T C P) → k ≢ seat → get_elem? s.views k ≡ maybe.some v → IsPast (suc number) v
-    pub words : s.words ≡ code_of state ∷ 0 ∷ []
+    pub offer : Offer (Try T) P
+    pub claim : Claim C
+    pub set : IsSet offer
+    pub at_last : get_elem? s.views last ≡ maybe.some (view.Husk number offer claim)
+    pub v : View T C P
+    pub at_first : get_elem? s.views first ≡ maybe.some v
+    pub left : IsFirstOf number v
+    pub knows : Knows v offer claim
+    pub others : (k : ℕ) (v : View T C P) → k ≢ last → k ≢ first → get_elem? s.views k ≡ maybe.some v → IsPast number v
+    pub words : s.words ≡ code_of (state_from offer claim) ∷ 0 ∷ []
     pub homes : s.homes ≡ maybe.none ∷ maybe.none ∷ maybe.none ∷ []
 
   abbrev pub StandsFor : Cells T C P → Type 0

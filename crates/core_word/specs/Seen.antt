@@ -45,19 +45,22 @@ pub record SeenLeftC (T C P : Type 0) : Type 0 where
   pub found : State
   pub got : Offer (Try T) P
 
--- a receipt of the first leave: which half left, and how many halves its leave found attached
-pub record SeenReceipt : Type 0 where
+-- A receipt of the first leave: which half left, how many halves its leave found attached, and what it had set and got. For a producer it set the offer and got the claim, for a consumer the other way round.
+pub record SeenReceipt (T C P : Type 0) : Type 0 where
   pub home : HomeId
   pub use_number : ℕ
   pub half : Half
   pub attached : ℕ
+  pub offer : Offer (Try T) P
+  pub claim : Claim C
 
--- The husk of a core: how many halves the last leave found attached, and the state that the last leaver read.
-pub record SeenHusk : Type 0 where
+-- The husk of a core: how many halves the last leave found attached, and what both halves had set, as the last leaver read it.
+pub record SeenHusk (T C P : Type 0) : Type 0 where
   pub home : HomeId
   pub use_number : ℕ
   pub attached : ℕ
-  pub state : State
+  pub offer : Offer (Try T) P
+  pub claim : Claim C
 
 -- a result with its callback, and the number of the core that handed it over
 pub record SeenFire (T C : Type 0) : Type 0 where

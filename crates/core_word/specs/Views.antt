@@ -3,8 +3,6 @@ use Rattle.std.specs.Prelude.{◌≡◌, ℕ, Bool, true, false}
 use Rattle.core_state.specs.declared.schedule.Half.{Half}
 use Rattle.core_state.specs.declared.schedule.Half.TheVariants as half
 use Rattle.fan_base.specs.declared.outcome.Try.{Try}
-use Rattle.core_state.specs.declared.table.State.{State}
-use Rattle.core_state.specs.declared.table.State.TheVariants as state
 use Rattle.core_state.specs.declared.schedule.Offer.{Offer}
 use Rattle.core_state.specs.declared.schedule.Offer.TheVariants as offered
 use Rattle.core_state.specs.declared.schedule.Claim.{Claim}
@@ -35,6 +33,16 @@ abbrev pub found_attached : Departure → ℕ
 found_attached departed.No = 0
 found_attached departed.First = 2
 found_attached departed.Last = 1
+
+-- what a half got is what the other half set
+abbrev pub GotClaim : {C : Type 0} → Claim C → Claim C → Type 0
+GotClaim claimed.Nothing claim = Unit {0}
+GotClaim (claimed.Callback c) claim = claim ≡ claimed.Callback c
+
+abbrev pub GotOffer : {R K : Type 0} → Offer R K → Offer R K → Type 0
+GotOffer offered.Nothing offer = Unit {0}
+GotOffer (offered.Result r) offer = offer ≡ offered.Result r
+GotOffer (offered.Proxy k) offer = offer ≡ offered.Proxy k
 
 module _ {T C P : Type 0} where
   -- what the producer has set
@@ -136,40 +144,41 @@ module _ {T C P : Type 0} where
   use_of (view.Key number) = number
   use_of (view.Producer number phase) = number
   use_of (view.Consumer number phase) = number
-  use_of (view.Husk number state) = number
+  use_of (view.Husk number offer claim) = number
 
   abbrev pub attached_found : View T C P → ℕ
   attached_found (view.Key number) = 0
   attached_found (view.Producer number p) = found_attached (producer_left p)
   attached_found (view.Consumer number c) = found_attached (consumer_left c)
-  attached_found (view.Husk number s) = 1
+  attached_found (view.Husk number offer claim) = 1
 
   -- the view of this half, which was the first to leave
   abbrev pub IsFirstLeave : Half → View T C P → Type 0
   IsFirstLeave half.Producer (view.Key number) = ⊥
   IsFirstLeave half.Producer (view.Producer number p) = producer_left p ≡ departed.First
   IsFirstLeave half.Producer (view.Consumer number c) = ⊥
-  IsFirstLeave half.Producer (view.Husk number s) = ⊥
+  IsFirstLeave half.Producer (view.Husk number offer claim) = ⊥
   IsFirstLeave half.Consumer (view.Key number) = ⊥
   IsFirstLeave half.Consumer (view.Producer number p) = ⊥
   IsFirstLeave half.Consumer (view.Consumer number c) = consumer_left c ≡ departed.First
-  IsFirstLeave half.Consumer (view.Husk number s) = ⊥
+  IsFirstLeave half.Consumer (view.Husk number offer claim) = ⊥
 
-  -- the state that a last leaver has read
-  abbrev pub state_read : View T C P → State
-  state_read (view.Key number) = state.Start
-  state_read (view.Producer number p) = state.Start
-  state_read (view.Consumer number c) = state.Start
-  state_read (view.Husk number s) = s
-
+  -- what the producer has set, and what the consumer has set, as far as a half knows
   abbrev pub offer_in_view : View T C P → Offer (Try T) P
   offer_in_view (view.Key number) = offered.Nothing
   offer_in_view (view.Producer number p) = offer_of p
   offer_in_view (view.Consumer number c) = offer_got c
-  offer_in_view (view.Husk number s) = offered.Nothing
+  offer_in_view (view.Husk number offer claim) = offer
 
   abbrev pub claim_in_view : View T C P → Claim C
   claim_in_view (view.Key number) = claimed.Nothing
   claim_in_view (view.Producer number p) = claim_got p
   claim_in_view (view.Consumer number c) = claim_of c
-  claim_in_view (view.Husk number s) = claimed.Nothing
+  claim_in_view (view.Husk number offer claim) = claim
+
+  -- what both halves have set, by what one of them knows
+  abbrev pub Knows : View T C P → Offer (Try T) P → Claim C → Type 0
+  Knows (view.Key number) offer claim = ⊥
+  Knows (view.Producer number p) offer claim = (offer ≡ offer_of p) × GotClaim (claim_got p) claim
+  Knows (view.Consumer number c) offer claim = (claim ≡ claim_of c) × GotOffer (offer_got c) offer
+  Knows (view.Husk number o k) offer claim = ⊥

@@ -9,3 +9,6 @@ pub use Rattle.core_state.specs.declared.schedule.Claim.{Claim}
 pub use Rattle.core_state.specs.declared.schedule.Claim.TheVariants as claimed
 pub use Rattle.core_state.specs.Schedule.{state_from, leftover_from}
 pub use Rattle.core_word.specs.Seen.{HomeId}
+pub use Rattle.core_word.specs.Rule.{IsSet}
+pub use Rattle.core_word.specs.Views.{GotClaim, GotOffer}
+pub use Rattle.core_word.specs.Plays.{leftover_as}

@@ -1,22 +1,50 @@
 //! What a home holds when it is closed.
 ghost use Rattle.std.specs.Prelude.{◌≡◌, IsSome};
-ghost use Rattle.core_word.specs.Closing.{IsOutcome, IsCallback, IsProxy};
+ghost use Rattle.std.specs.Slots.{slots_len, slots_items, IsFull};
+ghost use Rattle.atomic_table.specs.Table.{Final};
+ghost use Rattle.fan_base.specs.declared.outcome.Try.{Try};
+ghost use Rattle.core_word.specs.declared.view.Item.{Item};
+ghost use Rattle.core_word.specs.Closing.{IsUntouched};
+ghost use Rattle.core_word.specs.Plays.{HasKey};
+ghost use Rattle.core_word.specs.Rule.{StandsFor};
 
-use crate::view::Item;
+use crate::rule::{CoreRule, Place};
+use crate::view::{Item, View};
+use atomic_table::{Closed, Table};
 use core_state::State;
 use fan_base::Try;
+use std::alloc::Global;
 use std::mem::ManuallyDrop;
 
-/// What the slots of a closed home held, with the state and the number of attached halves that its
-/// words had. Where a half was still attached, what it or the other half had given up and nobody had
-/// got is here.
+/// What the slots of a closed home held, with what its words said.
 #[derive(Drop)]
 pub struct Unspent<T, C, P> {
+    /// The result that was set and that nobody got.
     pub outcome: Option<Try<T>>,
+    /// The callback that was set and that nobody got.
     pub callback: Option<C>,
+    /// The proxy that was named and that nobody got.
     pub proxy: Option<P>,
+    /// The state of the core.
     pub state: State,
+    /// How many halves hadn't left: 0 to 2.
     pub attached: u64,
+}
+
+/// Closes the table of a home. Where the home still has its key, nothing was ever begun.
+pub(crate) fn closed<T, C, P>(
+    table: Table<Option<Item<T, C, P>>, View<T, C, P>, (), CoreRule, Global>,
+    key: Option<Place<T, C, P>>,
+) -> Closed<Option<Item<T, C, P>>, Global>
+    requires { HasKey table.shared.table_id key }
+    ensures counts { (slots_len result.words ≡ table.shared.table_id.words) × (slots_len result.slots ≡ table.shared.table_id.slots) }
+    ensures values { IsFull result.words × IsFull result.slots × Final StandsFor (slots_items result.words) (slots_items result.slots) }
+    ensures untouched { IsSome key → IsUntouched (slots_items result.words) (slots_items result.slots) }
+{
+    match key {
+        Some(seat) => table.close_with(seat),
+        None => table.close(),
+    }
 }
 
 // A slot that a seat still had comes back with some item, of which nothing is known. One that lies in
@@ -26,7 +54,7 @@ fn leak<X>(stray: X) {
 }
 
 fn fill<X>(field: Option<X>, stray: X) -> Option<X>
-    ensures { IsSome result }
+    ensures { (x : X) → field ≡ Some x → result ≡ Some x }
 {
     match field {
         None => Some(stray),
@@ -46,9 +74,10 @@ impl<T, C, P> Unspent<T, C, P> {
         state: State,
         attached: u64,
     ) -> Unspent<T, C, P>
-        ensures outcome { IsOutcome result_slot → IsSome result.outcome }
-        ensures callback { IsCallback callback_slot → IsSome result.callback }
-        ensures proxy { IsProxy proxy_slot → IsSome result.proxy }
+        ensures outcome { (r : Try T) → result_slot ≡ Some (Item.Outcome r) → result.outcome ≡ Some r }
+        ensures callback { (c : C) → callback_slot ≡ Some (Item.Callback c) → result.callback ≡ Some c }
+        ensures proxy { (k : P) → proxy_slot ≡ Some (Item.Proxy k) → result.proxy ≡ Some k }
+        ensures empty { result_slot ≡ None → callback_slot ≡ None → proxy_slot ≡ None → (result.outcome ≡ None) × (result.callback ≡ None) × (result.proxy ≡ None) }
         ensures words { (result.state ≡ state) × (result.attached ≡ attached) }
     {
         let (outcome, first) = own_outcome(result_slot);
@@ -67,10 +96,11 @@ impl<T, C, P> Unspent<T, C, P> {
     }
 
     fn with_stray(self, stray: Option<Item<T, C, P>>) -> Unspent<T, C, P>
-        ensures outcome { IsSome self.outcome → IsSome result.outcome }
-        ensures callback { IsSome self.callback → IsSome result.callback }
-        ensures proxy { IsSome self.proxy → IsSome result.proxy }
+        ensures outcome { (r : Try T) → self.outcome ≡ Some r → result.outcome ≡ Some r }
+        ensures callback { (c : C) → self.callback ≡ Some c → result.callback ≡ Some c }
+        ensures proxy { (k : P) → self.proxy ≡ Some k → result.proxy ≡ Some k }
         ensures words { (result.state ≡ self.state) × (result.attached ≡ self.attached) }
+        ensures none { stray ≡ None → result ≡ self }
     {
         let Unspent {
             outcome,
@@ -113,7 +143,8 @@ impl<T, C, P> Unspent<T, C, P> {
 }
 
 fn own_outcome<T, C, P>(slot: Option<Item<T, C, P>>) -> (Option<Try<T>>, Option<Item<T, C, P>>)
-    ensures { IsOutcome slot → IsSome result.0 }
+    ensures own { (r : Try T) → slot ≡ Some (Item.Outcome r) → result.0 ≡ Some r }
+    ensures empty { slot ≡ None → (result.0 ≡ None) × (result.1 ≡ None) }
 {
     match slot {
         Some(Item::Outcome(outcome)) => (Some(outcome), None),
@@ -122,7 +153,8 @@ fn own_outcome<T, C, P>(slot: Option<Item<T, C, P>>) -> (Option<Try<T>>, Option<
 }
 
 fn own_callback<T, C, P>(slot: Option<Item<T, C, P>>) -> (Option<C>, Option<Item<T, C, P>>)
-    ensures { IsCallback slot → IsSome result.0 }
+    ensures own { (c : C) → slot ≡ Some (Item.Callback c) → result.0 ≡ Some c }
+    ensures empty { slot ≡ None → (result.0 ≡ None) × (result.1 ≡ None) }
 {
     match slot {
         Some(Item::Callback(callback)) => (Some(callback), None),
@@ -131,7 +163,8 @@ fn own_callback<T, C, P>(slot: Option<Item<T, C, P>>) -> (Option<C>, Option<Item
 }
 
 fn own_proxy<T, C, P>(slot: Option<Item<T, C, P>>) -> (Option<P>, Option<Item<T, C, P>>)
-    ensures { IsProxy slot → IsSome result.0 }
+    ensures own { (k : P) → slot ≡ Some (Item.Proxy k) → result.0 ≡ Some k }
+    ensures empty { slot ≡ None → (result.0 ≡ None) × (result.1 ≡ None) }
 {
     match slot {
         Some(Item::Proxy(proxy)) => (Some(proxy), None),

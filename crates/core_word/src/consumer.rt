@@ -1,6 +1,10 @@
 //! The consumer's half of a core.
 ghost use Rattle.std.specs.Prelude.{◌≡◌, ◌<◌};
-ghost use Rattle.core_word.specs.Answers.{MeetsAt, MatchLeft, IfLast, EndsForConsumer};
+ghost use Rattle.core_state.specs.Schedule.{leftover_from};
+ghost use Rattle.core_word.specs.Answers.{MeetsAt, MatchLeft, IfLast};
+ghost use Rattle.core_word.specs.Plays.{leftover_as};
+ghost use Rattle.core_word.specs.Rule.{IsSet};
+ghost use Rattle.core_word.specs.Views.{GotOffer};
 
 use crate::fire::{Fire, Forward};
 use crate::left::{Husk, Left, Receipt};
@@ -13,7 +17,9 @@ use std::marker::Model;
 pub enum Met<T, C, P> {
     /// Neither a result nor a proxy was there.
     Waiting,
+    /// A result was there: this callback gets it.
     Fire(Fire<T, C>),
+    /// A proxy was there: this callback goes to it.
     Forward(Forward<C, P>),
 }
 
@@ -121,7 +127,8 @@ impl<'h, T, C, P> LeftC<'h, T, C, P> {
         ensures home { MatchLeft result (λ receipt. receipt.home ≡ self.entry.home) (λ leftover husk. husk.home ≡ self.entry.home) }
         ensures use_number { MatchLeft result (λ receipt. receipt.use_number ≡ self.entry.use_number) (λ leftover husk. husk.use_number ≡ self.entry.use_number) }
         ensures count { MatchLeft result (λ receipt. (receipt.half ≡ Half.Consumer) × (1 < receipt.attached)) (λ leftover husk. husk.attached ≡ 1) }
-        ensures leftover { IfLast result (λ leftover husk. EndsForConsumer self.entry.claim self.entry.got husk.state leftover) }
+        ensures acts { MatchLeft result (λ receipt. (receipt.claim ≡ self.entry.claim) × (receipt.offer ≡ self.entry.got)) (λ leftover husk. (husk.claim ≡ self.entry.claim) × IsSet husk.offer × GotOffer self.entry.got husk.offer) }
+        ensures leftover { IfLast result (λ leftover husk. leftover ≡ leftover_as (leftover_from husk.offer husk.claim)) }
     {
         let LeftC {
             table,

@@ -39,6 +39,7 @@ impl<T, C> Fire<T, C> {
         self.no
     }
 
+    /// The callback, to look at: which executor it has, say.
     pub fn callback(&self) -> &C
         ensures { result.now ≡ self.now.callback }
     {

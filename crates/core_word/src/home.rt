@@ -1,9 +1,11 @@
 //! The memory of a core, and the key that begins it.
-ghost use Rattle.std.specs.Prelude.{◌≡◌, ◌≢◌, ◌↔◌, Bool, true, false, IfOk, IfSome, IsSome, IsNone};
+ghost use Rattle.std.specs.Prelude.{◌≡◌, ◌≢◌, ◌↔◌, Bool, true, false, IfOk, IfSome, IsSome, IsNone, List};
+ghost use Rattle.core_word.specs.Closing.{IsUnused, IsEnd, HandsOut};
 ghost use Rattle.core_word.specs.Count.{raised};
+ghost use Rattle.core_word.specs.Rule.{Held};
 ghost use Rattle.core_state.specs.declared.table.State.{State};
 
-use crate::close::Unspent;
+use crate::close::{self, Unspent};
 use crate::consumer::Consumer;
 use crate::producer::Producer;
 use crate::rule::{Begins, Cells, CoreRule, Place};
@@ -35,6 +37,7 @@ impl<T, C, P> Model for Home<T, C, P> {
 }
 
 impl<T, C, P> Home<T, C, P> {
+    /// A home that nobody has begun. `Memory` where there is none for two words and three slots.
     pub fn new(alloc: Global) -> Result<Home<T, C, P>, Memory>
         ensures { IfOk result (λ home. home.taken ≡ false) }
     {
@@ -60,16 +63,18 @@ impl<T, C, P> Home<T, C, P> {
         })
     }
 
-    /// Gives the memory back, and hands out what the slots hold. Halves can be left over only where
-    /// their owner was never run or dropped, as with a proxy that lies in a slot.
+    /// Gives the memory back, and hands out what the slots hold. A half can be left over only where its
+    /// owner forgot it, as with a proxy that lies in a slot. What such a half had at that moment may come
+    /// out or not.
     pub fn close(self) -> Unspent<T, C, P>
+        ensures untaken { self.taken ≡ false → IsUnused result }
+        ensures ended { (slots : List (Held T C P)) × IsEnd result.state result.attached slots × HandsOut slots result }
         ensures outcome { result.attached ≢ 0 → result.state ≡ State.OnlyResult → IsSome result.outcome }
         ensures callback { result.attached ≢ 0 → result.state ≡ State.OnlyCallback → IsSome result.callback }
         ensures proxy { result.attached ≢ 0 → result.state ≡ State.Proxy → IsSome result.proxy }
     {
         let Home { table, key } = self;
-        drop(key);
-        let mut closed = table.close();
+        let mut closed = close::closed(table, key);
         let word = closed.word(0);
         let attached = closed.word(1);
         let result_slot = closed.take(0);

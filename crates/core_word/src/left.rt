@@ -11,8 +11,11 @@ use std::marker::Model;
 /// What is left of a core that both halves have left.
 #[derive(Debug, PartialEq, Eq, Drop)]
 pub enum Leftover<T, P> {
+    /// The result or the proxy went to the callback.
     Nothing,
+    /// The result, where the consumer gave up.
     Outcome(Try<T>),
+    /// The proxy, where the consumer gave up.
     Proxy(P),
 }
 
@@ -32,21 +35,21 @@ pub struct Receipt<T, C, P> {
 
 impl<T, C, P> Model for Receipt<T, C, P> {
     ghost use Rattle.core_word.specs.Seen.{SeenReceipt};
-    ghost use Rattle.core_word.specs.Views.{use_of, attached_found, IsFirstLeave};
+    ghost use Rattle.core_word.specs.Views.{use_of, attached_found, offer_in_view, claim_in_view, IsFirstLeave};
 
-    ghost Value = { SeenReceipt };
+    ghost Value = { SeenReceipt T C P };
 
-    ghost view = { λ r. record { home = r.seat.table_id; use_number = use_of r.seat.me.0; half = r.half; attached = attached_found r.seat.me.0 } };
+    ghost view = { λ r. record { home = r.seat.table_id; use_number = use_of r.seat.me.0; half = r.half; attached = attached_found r.seat.me.0; offer = offer_in_view r.seat.me.0; claim = claim_in_view r.seat.me.0 } };
 
     ghost invariant = { λ r. IsFirstLeave r.half r.seat.me.0 };
 }
 
 impl<T, C, P> Receipt<T, C, P> {
-    ghost use Rattle.core_word.specs.Views.{use_of, IsFirstLeave};
+    ghost use Rattle.core_word.specs.Views.{use_of, offer_in_view, claim_in_view, IsFirstLeave};
 
     pub(crate) fn new(half: Half, seat: Place<T, C, P>) -> Receipt<T, C, P>
         requires { IsFirstLeave half seat.me.0 }
-        ensures { result ≡ record { home = seat.table_id; use_number = use_of seat.me.0; half = half; attached = 2 } }
+        ensures { result ≡ record { home = seat.table_id; use_number = use_of seat.me.0; half = half; attached = 2; offer = offer_in_view seat.me.0; claim = claim_in_view seat.me.0 } }
     {
         Receipt { half, seat }
     }
@@ -67,25 +70,24 @@ pub struct Husk<'h, T, C, P> {
 
 impl<'h, T, C, P> Model for Husk<'h, T, C, P> {
     ghost use Rattle.core_word.specs.Seen.{SeenHusk};
-    ghost use Rattle.core_word.specs.Views.{use_of, state_read, attached_found};
+    ghost use Rattle.core_word.specs.Views.{use_of, offer_in_view, claim_in_view, attached_found};
     ghost use Rattle.core_word.specs.Plays.{IsHome, Sits, husk_at};
 
-    ghost Value = { SeenHusk };
+    ghost Value = { SeenHusk T C P };
 
-    ghost view = { λ h. record { home = h.table.now.table_id; use_number = use_of h.seat.me.0; attached = attached_found h.seat.me.0; state = state_read h.seat.me.0 } };
+    ghost view = { λ h. record { home = h.table.now.table_id; use_number = use_of h.seat.me.0; attached = attached_found h.seat.me.0; offer = offer_in_view h.seat.me.0; claim = claim_in_view h.seat.me.0 } };
 
-    ghost invariant = { λ h. IsHome h.table.now.table_id × Sits h.table.now.table_id h.seat (husk_at (use_of h.seat.me.0) (state_read h.seat.me.0)) };
+    ghost invariant = { λ h. IsHome h.table.now.table_id × Sits h.table.now.table_id h.seat (husk_at (use_of h.seat.me.0) (offer_in_view h.seat.me.0) (claim_in_view h.seat.me.0)) };
 }
 
 impl<'h, T, C, P> Husk<'h, T, C, P> {
-    ghost use Rattle.core_state.specs.declared.table.State.{State};
-    ghost use Rattle.core_word.specs.Views.{use_of, state_read};
+    ghost use Rattle.core_word.specs.Views.{use_of, offer_in_view, claim_in_view};
     ghost use Rattle.core_word.specs.Plays.{IsHome, Sits, husk_at};
 
     pub(crate) fn new(table: &'h Cells<T, C, P>, seat: Place<T, C, P>) -> Husk<'h, T, C, P>
         requires home { IsHome table.now.table_id }
-        requires sits { Sits table.now.table_id seat (husk_at (use_of seat.me.0) (state_read seat.me.0)) }
-        ensures { result ≡ record { home = table.now.table_id; use_number = use_of seat.me.0; attached = 1; state = state_read seat.me.0 } }
+        requires sits { Sits table.now.table_id seat (husk_at (use_of seat.me.0) (offer_in_view seat.me.0) (claim_in_view seat.me.0)) }
+        ensures { result ≡ record { home = table.now.table_id; use_number = use_of seat.me.0; attached = 1; offer = offer_in_view seat.me.0; claim = claim_in_view seat.me.0 } }
     {
         Husk { table, seat }
     }

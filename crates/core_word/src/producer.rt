@@ -1,6 +1,9 @@
 //! The producer's half of a core.
 ghost use Rattle.std.specs.Prelude.{◌≡◌, ◌<◌};
-ghost use Rattle.core_word.specs.Answers.{LandsAt, PassesAt, MatchLeft, IfLast, EndsForProducer};
+ghost use Rattle.core_state.specs.Schedule.{leftover_from};
+ghost use Rattle.core_word.specs.Answers.{LandsAt, PassesAt, MatchLeft, IfLast};
+ghost use Rattle.core_word.specs.Plays.{leftover_as};
+ghost use Rattle.core_word.specs.Views.{GotClaim};
 
 use crate::fire::{Fire, Forward};
 use crate::left::{Husk, Left, Receipt};
@@ -14,6 +17,7 @@ use std::marker::Model;
 pub enum Landed<T, C> {
     /// No callback was there.
     Waiting,
+    /// A callback was there: it gets this result.
     Fire(Fire<T, C>),
 }
 
@@ -21,6 +25,7 @@ pub enum Landed<T, C> {
 pub enum Passed<C, P> {
     /// No callback was there.
     Waiting,
+    /// A callback was there: it goes to this proxy.
     Forward(Forward<C, P>),
 }
 
@@ -132,7 +137,8 @@ impl<'h, T, C, P> LeftP<'h, T, C, P> {
         ensures home { MatchLeft result (λ receipt. receipt.home ≡ self.entry.home) (λ leftover husk. husk.home ≡ self.entry.home) }
         ensures use_number { MatchLeft result (λ receipt. receipt.use_number ≡ self.entry.use_number) (λ leftover husk. husk.use_number ≡ self.entry.use_number) }
         ensures count { MatchLeft result (λ receipt. (receipt.half ≡ Half.Producer) × (1 < receipt.attached)) (λ leftover husk. husk.attached ≡ 1) }
-        ensures leftover { IfLast result (λ leftover husk. EndsForProducer self.entry.offer self.entry.got husk.state leftover) }
+        ensures acts { MatchLeft result (λ receipt. (receipt.offer ≡ self.entry.offer) × (receipt.claim ≡ self.entry.got)) (λ leftover husk. (husk.offer ≡ self.entry.offer) × GotClaim self.entry.got husk.claim) }
+        ensures leftover { IfLast result (λ leftover husk. leftover ≡ leftover_as (leftover_from husk.offer husk.claim)) }
     {
         let LeftP {
             table,

@@ -3,16 +3,16 @@ ghost use Rattle.std.specs.Prelude.{◌≡◌, ◌≢◌, ◌∷◌, [], ◌⊎�
 ghost use Rattle.std.specs.Bool.{OnTrue, OnFalse};
 ghost use Rattle.fan_base.specs.declared.outcome.Try.{Try};
 ghost use Rattle.atomic_table.specs.Table.{rest};
-ghost use Rattle.core_state.specs.Schedule.{state_from, leftover_from};
+ghost use Rattle.core_state.specs.Schedule.{leftover_from};
 ghost use Rattle.core_state.specs.declared.table.State.{State};
 ghost use Rattle.core_state.specs.declared.schedule.Offer.{Offer};
 ghost use Rattle.core_state.specs.declared.schedule.Claim.{Claim};
 ghost use Rattle.core_word.specs.declared.view.Own.{Own};
 ghost use Rattle.core_word.specs.declared.view.Item.{Item};
 ghost use Rattle.core_word.specs.declared.view.Departure.{Departure};
-ghost use Rattle.core_word.specs.Views.{use_of};
+ghost use Rattle.core_word.specs.Views.{use_of, Knows};
 ghost use Rattle.core_word.specs.Rule.{IsSet};
-ghost use Rattle.core_word.specs.Plays.{IsHome, Sits, producer_ready, producer_holding, producer_aware, producer_acted, consumer_ready, consumer_holding, consumer_aware, consumer_acted, leaving, IsLeaving, IsLast, Knows, husk_at, leftover_as};
+ghost use Rattle.core_word.specs.Plays.{IsHome, Sits, producer_ready, producer_holding, producer_aware, producer_acted, consumer_ready, consumer_holding, consumer_aware, consumer_acted, leaving, IsLeaving, IsLast, husk_at, leftover_as};
 
 use crate::left::Leftover;
 use crate::rule::{
@@ -253,7 +253,7 @@ pub(crate) fn leave<T, C, P>(table: &Cells<T, C, P>, seat: &mut Place<T, C, P>) 
 pub(crate) fn read_end<T, C, P>(table: &Cells<T, C, P>, seat: &mut Place<T, C, P>) -> Leftover<T, P>
     requires home { IsHome table.now.table_id }
     requires last { (seat.old.table_id ≡ table.now.table_id) × (seat.old.me.1 ≡ []) × IsLast seat.old.me.0 }
-    ensures { (offer : Offer (Try T) P) × (claim : Claim C) × IsSet offer × Knows seat.old.me.0 offer claim × Sits table.now.table_id seat.new (husk_at (use_of seat.old.me.0) (state_from offer claim)) × (result ≡ leftover_as (leftover_from offer claim)) }
+    ensures { (offer : Offer (Try T) P) × (claim : Claim C) × IsSet offer × Knows seat.old.me.0 offer claim × Sits table.now.table_id seat.new (husk_at (use_of seat.old.me.0) offer claim) × (result ≡ leftover_as (leftover_from offer claim)) }
 {
     table.load::<ReadsEnd>(seat, STATE);
     let proxy = table.exchange(seat, PROXY, None);

@@ -23,6 +23,7 @@ impl Model for Tally {
 }
 
 impl Tally {
+    /// A tally with all numbers 0.
     pub fn new() -> Tally
         ensures { result ≡ record { made = 0; handed = 0; forwarded = 0; freed = 0 } }
     {

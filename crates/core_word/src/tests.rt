@@ -3,6 +3,7 @@ ghost use Rattle.std.specs.Prelude.{◌≡◌};
 use crate::{Consumer, Home, Landed, Left, Leftover, Met, Passed, Producer, State, Tally, Unspent};
 use fan_base::Try;
 use std::alloc::{AllocError, Global};
+use std::mem::ManuallyDrop;
 use std::test::Fail;
 use std::thread;
 use std::thread::Threads;
@@ -442,5 +443,140 @@ fn values_that_cannot_be_dropped_come_out(rt: HostRuntime) -> Result<(), Fail> {
     let home = Home::new(rt.alloc()).map_err(|_| AllocError)?;
     assert_eq!(rt; closed(home), (0, 0, 0, State::Start, 2));
     assert_eq!(rt; counts(&t), (2, 1, 0, 2));
+    Ok(())
+}
+
+// Lets go of a value that can't be dropped.
+fn forget<X>(value: X) {
+    let _ = unsafe { ManuallyDrop::new_unchecked(value) };
+}
+
+type Rest = (Option<Try<u64>>, Option<u64>, Option<u64>, State, u64);
+
+fn rest(home: Numbers) -> Rest {
+    let Unspent {
+        outcome,
+        callback,
+        proxy,
+        state,
+        attached,
+    } = home.close();
+    (outcome, callback, proxy, state, attached)
+}
+
+// A home that is closed with a result in it, of which the producer has left or not.
+fn with_a_result(alloc: Global, leaves: bool) -> Result<Rest, AllocError> {
+    let mut home = numbers(alloc)?;
+    let mut t = Tally::new();
+    let (producer, consumer) = begun(&mut home, 1, &mut t)?;
+    forget(consumer);
+    let (answer, producer) = producer.set_result(Try::Value(5));
+    landed(answer, &mut t);
+    if leaves {
+        left(producer.leave(), &mut t);
+    } else {
+        forget(producer);
+    }
+    Ok(rest(home))
+}
+
+fn with_a_proxy(alloc: Global, leaves: bool) -> Result<Rest, AllocError> {
+    let mut home = numbers(alloc)?;
+    let mut t = Tally::new();
+    let (producer, consumer) = begun(&mut home, 1, &mut t)?;
+    forget(consumer);
+    let (answer, producer) = producer.set_proxy(3);
+    passed(answer, &mut t);
+    if leaves {
+        left(producer.leave(), &mut t);
+    } else {
+        forget(producer);
+    }
+    Ok(rest(home))
+}
+
+fn with_a_callback(alloc: Global, leaves: bool) -> Result<Rest, AllocError> {
+    let mut home = numbers(alloc)?;
+    let mut t = Tally::new();
+    let (producer, consumer) = begun(&mut home, 1, &mut t)?;
+    forget(producer);
+    let (answer, consumer) = consumer.set_callback(7);
+    met(answer, &mut t);
+    if leaves {
+        left(consumer.leave(), &mut t);
+    } else {
+        forget(consumer);
+    }
+    Ok(rest(home))
+}
+
+#[test]
+fn what_waits_in_a_closed_home_comes_out(rt: HostRuntime) -> Result<(), Fail> {
+    let alloc = rt.alloc();
+    let result = Some(Try::Value(5));
+    assert_eq!(rt;
+        with_a_result(alloc, false)?,
+        (result, None, None, State::OnlyResult, 2)
+    );
+    let result = Some(Try::Value(5));
+    assert_eq!(rt;
+        with_a_result(alloc, true)?,
+        (result, None, None, State::OnlyResult, 1)
+    );
+    assert_eq!(rt;
+        with_a_callback(alloc, false)?,
+        (None, Some(7), None, State::OnlyCallback, 2)
+    );
+    assert_eq!(rt;
+        with_a_callback(alloc, true)?,
+        (None, Some(7), None, State::OnlyCallback, 1)
+    );
+    assert_eq!(rt;
+        with_a_proxy(alloc, false)?,
+        (None, None, Some(3), State::Proxy, 2)
+    );
+    assert_eq!(rt;
+        with_a_proxy(alloc, true)?,
+        (None, None, Some(3), State::Proxy, 1)
+    );
+    assert_eq!(rt; rest(numbers(alloc)?), (None, None, None, State::Start, 2));
+    Ok(())
+}
+
+fn may_cross<X: Send>(_: &X) {}
+
+// A core whose every part could go to another thread: how many parts were shown.
+fn crossing_parts(home: &mut Numbers, t: &mut Tally) -> u64 {
+    let Some(key) = home.key() else {
+        return 0;
+    };
+    may_cross(&key);
+    let (producer, consumer) = key.start(1, t);
+    may_cross(&producer);
+    may_cross(&consumer);
+    let (answer, producer) = producer.set_result(Try::Value(5));
+    may_cross(&answer);
+    landed(answer, t);
+    may_cross(&producer);
+    let (answer, consumer) = consumer.set_callback(7);
+    may_cross(&answer);
+    met(answer, t);
+    may_cross(&consumer);
+    let first = producer.leave();
+    may_cross(&first);
+    left(first, t);
+    let last = consumer.leave();
+    may_cross(&last);
+    left(last, t);
+    8
+}
+
+#[test]
+fn every_part_of_a_core_may_cross_threads(rt: HostRuntime) -> Result<(), Fail> {
+    let mut home = numbers(rt.alloc())?;
+    may_cross(&home);
+    let mut t = Tally::new();
+    assert_eq!(rt; crossing_parts(&mut home, &mut t), 8);
+    may_cross(&t);
     Ok(())
 }

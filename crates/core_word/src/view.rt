@@ -53,6 +53,6 @@ pub enum View<T, C, P> {
     Key(u64),
     Producer(u64, ProducerPhase<T, C, P>),
     Consumer(u64, ConsumerPhase<T, C, P>),
-    /// The last leaver, once it has read the final state. It has all slots.
-    Husk(u64, State),
+    /// The last leaver, once it has read the final state: what both halves had set. It has all slots.
+    Husk(u64, Offer<Try<T>, P>, Claim<C>),
 }

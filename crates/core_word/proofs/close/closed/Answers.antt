@@ -1,0 +1,9 @@
+use Rattle.std.proofs.Common.{ap, subst}
+use Rattle.core_word.specs.Plays.{HasKey}
+use Rattle.core_word.proofs.Ending.{untouched}
+use Rattle.core_word.proofs.close.closed.Goals as goal
+
+pub returns-in-Some-clause-untouched : goal.returns-in-Some-clause-untouched
+returns-in-Some-clause-untouched g c some =
+    let sits = subst (HasKey _) c.in-Some.is c.requires in
+    untouched _ _ (ap (λ me. me.0) sits.stands) _ _ c.close_with.ensures.values.2
