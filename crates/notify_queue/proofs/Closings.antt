@@ -1,18 +1,16 @@
 -- What the receiver knows of all messages, once it has heard all ends and then found the queue empty.
-use Rattle.std.proofs.Common.{◌≡◌, ◌≢◌, ℕ, zero, suc, ◌+◌, ◌^◌, ◌<◌, ◌≤◌, cond, eqb, List, [], ◌∷◌, ◌++◌, length, map, get_or, sym, refl, ap, ◌∙◌, subst, append-nil, arith}
-use Rattle.std.specs.List.{All, Any, sum_by}
+use Rattle.std.proofs.Common.{◌≡◌, ◌≢◌, ℕ, zero, suc, ◌+◌, ◌^◌, ◌<◌, ◌≤◌, cond, eqb, List, [], ◌∷◌, ◌++◌, length, map, get_or, sym, refl, ap, ◌∙◌, append-nil, arith}
+use Rattle.std.specs.List.{All, sum_by}
 use Rattle.std.proofs.lemmas.Bool.{eq-eqb, ne_eqb}
 use Rattle.std.proofs.lemmas.List.{length-append, length-map}
 use Rattle.std.proofs.lemmas.List.Elements.{All-nil}
 use Rattle.std.proofs.lemmas.List.Sums.{sum_by-cons}
 use mathlib.Core.Logic.{dite}
 use native.Mathlib.Decide.{ℕ_discrete}
-use Rattle.notify_queue.specs.declared.delivery.Knowledge.{Knowledge}
 use Rattle.notify_queue.specs.declared.delivery.Told.{Told}
 use Rattle.notify_queue.specs.declared.stamp.Stamped.{Stamped}
 use Rattle.notify_queue.specs.Delivery.{Shows, receiving}
-use Rattle.notify_queue.specs.Ends.{Receiving, Sending, HasEnded, IsDrained, IsDry, AreAllEnds, told_by}
-use Rattle.notify_queue.specs.History.{LeavesInOrder}
+use Rattle.notify_queue.specs.Ends.{Receiving, Sending, IsDry, AreAllEnds, told_by}
 use Rattle.notify_queue.specs.Stamps.{stamped_of, messages_of, IsInOrder}
 use Rattle.notify_queue.proofs.Counts.{sum_below, sum_below-none, length-by_sender, length-few}
 use Rattle.notify_queue.proofs.Histories.{messages_of-append}
@@ -110,7 +108,7 @@ number_at (x ∷ ends) (suc k) s e lt at is = number_at ends k s e (omega arith)
 module _ {M : Type 0} where
   -- what the receiver knows once it has heard the ends and taken the rest
   abbrev pub Closes : Receiving M → List (Sending M) → List (Stamped M) → Type 0
-  Closes r ends rest = Shows (receiving r.senders (r.ended ++ map told_by ends) (r.taken ++ rest)) []
+  Closes r ends rest = Shows (receiving r.senders (r.ended ++ map told_by ends) r.heard (r.taken ++ rest)) []
 
   pub from_senders : (r : Receiving M) (ends : List (Sending M)) (rest : List (Stamped M)) → Closes r ends rest → All (λ x. x.stamp.sender < r.senders) (r.taken ++ rest)
   from_senders r ends rest c = rw append-nil at c.from_senders

@@ -38,10 +38,14 @@ use Rattle.fan_base.specs.contracts.parcel.Parcel as parcel
 use Rattle.notify_queue.specs.contracts.channel.Channel as channel
 use Rattle.notify_queue.specs.contracts.sender.Sender as sender
 use Rattle.notify_queue.specs.contracts.sender.Sender.TheInside as of_sender
+use Rattle.notify_queue.specs.contracts.sender.Note as note
+use Rattle.notify_queue.specs.contracts.sender.Note.TheInside as of_note
 use Rattle.notify_queue.specs.contracts.sender.SenderEnd as end
 use Rattle.notify_queue.specs.contracts.sender.SenderEnd.TheInside as of_end
 use Rattle.notify_queue.specs.contracts.receiver.Receiver as receiver
 use Rattle.notify_queue.specs.contracts.receiver.Receiver.TheInside as of_receiver
+use Rattle.notify_queue.specs.contracts.rest.Rest as rest
+use Rattle.notify_queue.specs.contracts.rest.Rest.TheInside as of_rest
 use Rattle.crossbeam_utils.proofs.sync.parker.RuledParker.TheSendSync as parker
 
 ruleset all = (link_atomic_blocks.the_field_send, link_atomic_blocks.the_send, link_atomic_blocks.the_field_sync, link_atomic_blocks.the_sync, seat_atomic_blocks.the_send, web_atomic_blocks.the_send, web_atomic_blocks.the_sync, table_atomic_table.the_field_send, table_atomic_table.the_send, table_atomic_table.the_field_sync, table_atomic_table.the_sync, sendlease_atomic_table.the_send, sendlease_atomic_table.the_sync, seat_atomic_table.the_send, shared_atomic_table.the_send, shared_atomic_table.the_sync, phantomdata_std.the_field_send, phantomdata_std.the_send, phantomdata_std.the_field_sync, phantomdata_std.the_sync, manuallydrop_std.the_field_send, manuallydrop_std.the_send, manuallydrop_std.the_field_sync, manuallydrop_std.the_sync, option_std.the_field_send, option_std.the_send, option_std.the_field_sync, option_std.the_sync, memory_std.the_field_send, memory_std.the_send, memory_std.the_field_sync, memory_std.the_sync, chained_crossbeam_queue.the_send, chained_crossbeam_queue.the_sync, ends_crossbeam_queue.the_field_send, ends_crossbeam_queue.the_send, ends_crossbeam_queue.the_field_sync, ends_crossbeam_queue.the_sync, laps_crossbeam_queue.the_field_send, laps_crossbeam_queue.the_send, laps_crossbeam_queue.the_field_sync, laps_crossbeam_queue.the_sync, stage_crossbeam_queue.the_field_send, stage_crossbeam_queue.the_send, stage_crossbeam_queue.the_field_sync, stage_crossbeam_queue.the_sync, unruled_crossbeam_utils.the_field_send, unruled_crossbeam_utils.the_send, unruled_crossbeam_utils.the_field_sync, unruled_crossbeam_utils.the_sync, ruledunparker_crossbeam_utils.the_field_send, ruledunparker_crossbeam_utils.the_send, ruledunparker_crossbeam_utils.the_field_sync, ruledunparker_crossbeam_utils.the_sync, signals_crossbeam_utils.the_field_send, signals_crossbeam_utils.the_send, signals_crossbeam_utils.the_field_sync, signals_crossbeam_utils.the_sync, delivery_notify_queue.the_field_send, delivery_notify_queue.the_send, delivery_notify_queue.the_field_sync, delivery_notify_queue.the_sync, knowledge_notify_queue.the_field_send, knowledge_notify_queue.the_send, knowledge_notify_queue.the_field_sync, knowledge_notify_queue.the_sync, told_notify_queue.the_field_send, told_notify_queue.the_send, told_notify_queue.the_field_sync, told_notify_queue.the_sync, markrule_notify_queue.the_field_send, markrule_notify_queue.the_send, markrule_notify_queue.the_field_sync, markrule_notify_queue.the_sync, role_notify_queue.the_field_send, role_notify_queue.the_send, role_notify_queue.the_field_sync, role_notify_queue.the_sync, stamp_notify_queue.the_field_send, stamp_notify_queue.the_send, stamp_notify_queue.the_field_sync, stamp_notify_queue.the_sync, stamped_notify_queue.the_field_send, stamped_notify_queue.the_send, stamped_notify_queue.the_field_sync, stamped_notify_queue.the_sync, arc_std.the_send, arc_std.the_sync, box_std.the_send, box_std.the_sync, linkedlist_std.the_send, linkedlist_std.the_sync, nodes_std.the_send, nodes_std.the_sync, global_std.the_field_send, global_std.the_send, global_std.the_field_sync, global_std.the_sync, crossing_fan_base.Parcel-send, crossing_fan_base.Parcels-send, crosses, sendable)
@@ -69,10 +73,16 @@ pub Sender-send : (M : RattleType) → IsSend M → IsSend (sender.the_row M)
 Sender-send M s = view_send (of_sender.the_row M) _ _ _ _ (sender_inside M s)
 
 end_inside : (M : RattleType) → IsSend M → IsSend (of_end.the_row M)
-end_inside M s = recorded_send (of_end.the_field M).row _ _ (of_end.the_type M).to_one (struct_send (shape (of_end.the_type M)) (search all depth 60 fits 20000, (search all depth 60 fits 20000, tt)))
+end_inside M s = recorded_send (of_end.the_field M).row _ _ (of_end.the_type M).to_one (struct_send (shape (of_end.the_type M)) (search all depth 60 fits 20000, (search all depth 60 fits 20000, (search all depth 60 fits 20000, tt))))
 
 pub SenderEnd-send : (M : RattleType) → IsSend M → IsSend (end.the_row M)
 SenderEnd-send M s = view_send (of_end.the_row M) _ _ _ _ (end_inside M s)
+
+note_inside : (M : RattleType) → IsSend M → IsSend (of_note.the_row M)
+note_inside M s = recorded_send (of_note.the_field M).row _ _ (of_note.the_type M).to_one (struct_send (shape (of_note.the_type M)) (search all depth 60 fits 20000, (search all depth 60 fits 20000, tt)))
+
+pub Note-send : (M : RattleType) → IsSend M → IsSend (note.the_row M)
+Note-send M s = view_send (of_note.the_row M) _ _ _ _ (note_inside M s)
 
 receiver_inside : (M : RattleType) → IsSend M → IsSend (of_receiver.the_row M)
 receiver_inside M s =
@@ -94,3 +104,9 @@ receiver_inside M s =
 
 pub Receiver-send : (M : RattleType) → IsSend M → IsSend (receiver.the_row M)
 Receiver-send M s = view_send (of_receiver.the_row M) _ _ _ _ (receiver_inside M s)
+
+rest_inside : (M : RattleType) → IsSend M → IsSend (of_rest.the_row M)
+rest_inside M s = recorded_send (of_rest.the_field M).row _ _ (of_rest.the_type M).to_one (struct_send (shape (of_rest.the_type M)) (search all depth 60 fits 20000, (search all depth 60 fits 20000, (search all depth 60 fits 20000, tt))))
+
+pub Rest-send : (M : RattleType) → IsSend M → IsSend (rest.the_row M)
+Rest-send M s = view_send (of_rest.the_row M) _ _ _ _ (rest_inside M s)

@@ -1,5 +1,5 @@
 -- Each step on the queue keeps its rule.
-use Rattle.std.proofs.Common.{◌≡◌, ◌≢◌, ℕ, zero, suc, ◌+◌, ◌*◌, ◌^◌, ◌<◌, ◌≤◌, ◌⊎◌, Bool, true, false, true≢false, cond, eqb, List, [], ◌∷◌, ◌++◌, length, map, take, get_or, Option, Some, None, sym, refl, ap, ◌∙◌, subst, inl, inr, ⊎_elim, append_assoc, append-nil, set, arith}
+use Rattle.std.proofs.Common.{◌≡◌, ◌≢◌, ℕ, zero, suc, ◌+◌, ◌^◌, ◌<◌, ◌≤◌, true, true≢false, cond, eqb, List, [], ◌∷◌, ◌++◌, length, map, take, get_or, Option, Some, None, sym, refl, ap, ◌∙◌, subst, ⊎_elim, append_assoc, append-nil, set, arith}
 use Rattle.std.specs.List.{All}
 use Rattle.std.proofs.lemmas.Bool.{eq-eqb, ne_eqb}
 use Rattle.std.proofs.lemmas.List.{length-append}
@@ -10,16 +10,16 @@ use mathlib.Core.Logic.{dite}
 use native.Mathlib.Decide.{ℕ_discrete}
 use lib.ListN.{get_elem?}
 use Rattle.crossbeam_queue.specs.Fifo.{Pushes, Pops, Forks, Merges, Learns}
-use Rattle.crossbeam_queue.proofs.Lists.{at_set, at_snoc}
+use Rattle.crossbeam_queue.proofs.Lists.{at_set}
 use Rattle.notify_queue.specs.declared.delivery.Knowledge.{Knowledge}
 use Rattle.notify_queue.specs.declared.delivery.Told.{Told}
 use Rattle.notify_queue.specs.declared.stamp.Stamped.{Stamped}
-use Rattle.notify_queue.specs.Delivery.{Delivers, IsKnown, IsTold, Took, Shows, idle, sending, telling, receiving, told}
-use Rattle.notify_queue.specs.History.{Event, put, taken, puts, takes, QueueHistory}
+use Rattle.notify_queue.specs.Delivery.{Delivers, IsKnown, IsTold, IsHeard, Took, Shows, idle, sending, telling, noting, receiving, told}
+use Rattle.notify_queue.specs.History.{Event, put, taken, puts, takes}
 use Rattle.notify_queue.specs.Stamps.{stamped_of, messages_of}
 use Rattle.notify_queue.proofs.Counts.{length-few}
 use Rattle.notify_queue.proofs.Lists.{some_is, none_some, All-one, All-seam, all_set, all_more, length_set}
-use Rattle.notify_queue.proofs.Histories.{puts-append, takes-append, messages_of-append, messages_of-same, messages_of-other, in_order_front, lawful_put, lawful_take}
+use Rattle.notify_queue.proofs.Histories.{puts-append, takes-append, prefix_more, messages_of-append, messages_of-same, messages_of-other, in_order_front, lawful_put, lawful_take}
 
 -- of a sender that is yet to be made there are no messages
 none_of : {M : Type 0} (s : ℕ) (xs : List (Stamped M)) → All (λ x. x.stamp.sender < s) xs → messages_of s xs ≡ []
@@ -38,6 +38,13 @@ module _ {M : Type 0} where
       let was = all i d lt in
       let is = same t was in
       record { ended = is.0; made_before = omega (arith, was.made_before); whole = is.1 ∙ was.whole }
+
+  -- what is heard stays so where more is put
+  heard_stays : (h k : List (Event M)) (more : List (Stamped M)) (ts : List (Told M)) → puts k ≡ puts h ++ more → All (IsHeard h) ts → All (IsHeard k) ts
+  heard_stays h k more ts is all i d lt =
+      let t = get_or ts i d in
+      subst (λ (l : List M). IsPrefix t.put l) (sym (messages_of-append t.sender (puts h) more) ∙ ap (messages_of t.sender) (sym is))
+      (prefix_more t.put (messages_of t.sender (puts h)) (messages_of t.sender more) (all i d lt))
 
   -- a sender puts a message
   pub pushes : (n pass : ℕ) (v : Knowledge M) (x : Stamped M) → v.sends ≡ true → x.stamp.sender ≡ v.number → x.stamp.index ≡ length v.put → length v.put + 1 < 2 ^ 32
@@ -73,6 +80,7 @@ module _ {M : Type 0} where
               record {
                 sends = λ _. (mine.0, mine.1, own);
                 told = All-nil (IsTold history d.pass_of d.made);
+                heard = All-nil (IsHeard history);
                 receives = λ first. absurd (true≢false (sym may ∙ ((d.known pass v here).receives first).0));
               }
               (λ j u apart e.
@@ -80,6 +88,7 @@ module _ {M : Type 0} where
               record {
                 sends = λ s. let o = k.sends s in (o.0, o.1, others u.number (λ same. apart (some_is (sym o.0 ∙ ap d.pass_of same ∙ mine.0))) ∙ o.2);
                 told = told_stays d.history history d.pass_of d.pass_of d.made d.made u.told (omega arith) none k.told;
+                heard = heard_stays d.history history (x ∷ []) u.heard put_is k.heard;
                 receives = λ first. let o = k.receives first in (o.0, o.1 ∙ sym taken_is, o.2);
               });
         },
@@ -89,7 +98,7 @@ module _ {M : Type 0} where
   -- the receiver takes the message in front
   pub pops : (v : Knowledge M) → Pops Delivers 0 v (Took v)
   pops v x items views d here =
-      let w : Knowledge M = receiving v.made v.told (v.taken ++ x ∷ []) in
+      let w : Knowledge M = receiving v.made v.told v.heard (v.taken ++ x ∷ []) in
       let mine = (d.known 0 v here).receives refl in
       let history = d.history ++ taken x ∷ [] in
       let put_is : puts history ≡ puts d.history = puts-append d.history (taken x ∷ []) ∙ append-nil (puts d.history) in
@@ -100,6 +109,7 @@ module _ {M : Type 0} where
       let stays : (t : Told M) → IsTold d.history d.pass_of d.made t → (d.pass_of t.sender ≡ None) × (messages_of t.sender (puts history) ≡ messages_of t.sender (puts d.history)) =
       λ t is. (is.ended, same t.sender) in
       let told = told_stays d.history history d.pass_of d.pass_of d.made d.made v.told (omega arith) stays (d.known 0 v here).told in
+      let no_more : puts history ≡ puts d.history ++ [] = puts-append d.history (taken x ∷ []) in
       let Now : ℕ → Knowledge M → Type 0 = IsKnown history d.pass_of d.made in (
         w,
         record {
@@ -116,6 +126,7 @@ module _ {M : Type 0} where
               record {
                 sends = λ s. absurd (true≢false (sym s));
                 told = told;
+                heard = heard_stays d.history history [] v.heard no_more (d.known 0 v here).heard;
                 receives = λ _. (refl, ap (λ l. l ++ x ∷ []) mine.1 ∙ sym taken_is, mine.2);
               }
               (λ j u apart e.
@@ -123,6 +134,7 @@ module _ {M : Type 0} where
               record {
                 sends = λ s. let o = k.sends s in (o.0, o.1, same u.number ∙ o.2);
                 told = told_stays d.history history d.pass_of d.pass_of d.made d.made u.told (omega arith) stays k.told;
+                heard = heard_stays d.history history [] u.heard no_more k.heard;
                 receives = λ first. absurd (apart first);
               });
         },
@@ -151,15 +163,18 @@ module _ {M : Type 0} where
         taken_is = sym mine.1;
         put_is = put_is;
         told = λ i e lt. ap (messages_of (get_or v.told i e).sender) (sym put_is) ∙ ((d.known 0 v here).told i e lt).whole;
+        heard = λ i e lt.
+            let t = get_or v.heard i e in
+            subst (λ (l : List (Stamped M)). IsPrefix t.put (messages_of t.sender l)) put_is ((d.known 0 v here).heard i e lt);
         from_senders = rw (← put_is, mine.2) d.from_senders;
         short = λ s. rw (← put_is) (d.short s);
         few = rw mine.2 d.few;
       }
 
   -- the receiver makes a sender
-  pub makes : (v : Knowledge M) → v.made < 64 → Forks Delivers 0 v (receiving (v.made + 1) v.told v.taken) (sending v.made [])
+  pub makes : (v : Knowledge M) → v.made < 64 → Forks Delivers 0 v (receiving (v.made + 1) v.told v.heard v.taken) (sending v.made [])
   makes v room items views d here =
-      let left : Knowledge M = receiving (v.made + 1) v.told v.taken in
+      let left : Knowledge M = receiving (v.made + 1) v.told v.heard v.taken in
       let right : Knowledge M = sending v.made [] in
       let mine = (d.known 0 v here).receives refl in
       let after = set views 0 left in
@@ -182,12 +197,14 @@ module _ {M : Type 0} where
             record {
               sends = λ _. (ap (λ b. cond b (Some (length after)) (d.pass_of v.made)) (eq-eqb v.made v.made refl), omega arith, none_of v.made (puts d.history) (rw mine.2 d.from_senders));
               told = All-nil (IsTold d.history pass_of (v.made + 1));
+              heard = All-nil (IsHeard d.history);
               receives = λ first. absurd (omega (arith, length_set views 0 left d.has_pass));
             }
             (all_set Now views 0 left
             record {
               sends = λ s. absurd (true≢false (sym s));
               told = told_stays d.history d.history d.pass_of pass_of d.made (v.made + 1) v.told (omega (arith, mine.2)) stays (d.known 0 v here).told;
+              heard = (d.known 0 v here).heard;
               receives = λ _. (refl, mine.1, refl);
             }
             (λ j u apart e.
@@ -195,6 +212,7 @@ module _ {M : Type 0} where
             record {
               sends = λ s. let o = k.sends s in (before u.number o.1 ∙ o.0, omega (arith, o.1, mine.2), o.2);
               told = told_stays d.history d.history d.pass_of pass_of d.made (v.made + 1) u.told (omega (arith, mine.2)) stays k.told;
+              heard = k.heard;
               receives = λ first. absurd (apart first);
             }));
       }
@@ -226,12 +244,14 @@ module _ {M : Type 0} where
             record {
               sends = λ s. absurd (true≢false (sym s));
               told = told;
+              heard = All-nil (IsHeard d.history);
               receives = λ first. absurd (omega (arith, length_set views pass w d.has_pass));
             }
             (all_set Now views pass w
             record {
               sends = λ s. absurd (true≢false (sym s));
               told = told;
+              heard = All-nil (IsHeard d.history);
               receives = λ first. absurd (true≢false (sym may ∙ ((d.known pass v here).receives first).0));
             }
             (λ j u apart e.
@@ -239,14 +259,42 @@ module _ {M : Type 0} where
             record {
               sends = λ s. let o = k.sends s in (else_same u.number (λ same. apart (some_is (sym o.0 ∙ ap d.pass_of same ∙ mine.0))) ∙ o.0, o.1, o.2);
               told = told_stays d.history d.history d.pass_of pass_of d.made d.made u.told (omega arith) stays k.told;
+              heard = k.heard;
               receives = k.receives;
             }));
       }
 
-  -- the receiver is told what another pass was told
-  pub joins : (v : Knowledge M) (other : ℕ) (u : Knowledge M) → Merges Delivers 0 v other u (receiving v.made (v.told ++ u.told) v.taken) idle
+  -- a sender makes a note of what it has put
+  pub notes : (pass : ℕ) (v : Knowledge M) → v.sends ≡ true → Forks Delivers pass v v (noting v.number v.put)
+  notes pass v may items views d here =
+      let w : Knowledge M = noting v.number v.put in
+      let mine = (d.known pass v here).sends may in
+      let after = set views pass v in
+      let Now : ℕ → Knowledge M → Type 0 = IsKnown d.history d.pass_of d.made in
+      record {
+        history = d.history;
+        pass_of = d.pass_of;
+        made = d.made;
+        lawful = d.lawful;
+        held = d.held;
+        few = d.few;
+        from_senders = d.from_senders;
+        short = d.short;
+        has_pass = omega (arith, length-append after (w ∷ []));
+        known = all_more Now after w
+            record {
+              sends = λ s. absurd (true≢false (sym s));
+              told = All-nil (IsTold d.history d.pass_of d.made);
+              heard = All-one (IsHeard d.history) (told v.number v.put) ([], append-nil v.put ∙ sym mine.2);
+              receives = λ first. absurd (omega (arith, length_set views pass v d.has_pass));
+            }
+            (all_set Now views pass v (d.known pass v here) (λ j u apart e. d.known j u e));
+      }
+
+  -- the receiver is told what another pass tells
+  pub joins : (v : Knowledge M) (other : ℕ) (u : Knowledge M) → Merges Delivers 0 v other u (receiving v.made (v.told ++ u.told) (v.heard ++ u.heard) v.taken) idle
   joins v other u items views d here two there =
-      let both : Knowledge M = receiving v.made (v.told ++ u.told) v.taken in
+      let both : Knowledge M = receiving v.made (v.told ++ u.told) (v.heard ++ u.heard) v.taken in
       let mine = d.known 0 v here in
       let after = set views 0 both in
       let was : get_elem? views other ≡ some u = ⊎_elim (λ (x : (other ≡ 0) × (both ≡ u)). absurd (two x.0)) (λ (x : (other ≢ 0) × (get_elem? views other ≡ some u)). x.1) (at_set views 0 other both u there) in
@@ -265,12 +313,14 @@ module _ {M : Type 0} where
             record {
               sends = λ s. absurd (true≢false (sym s));
               told = All-nil (IsTold d.history d.pass_of d.made);
+              heard = All-nil (IsHeard d.history);
               receives = λ first. absurd (two first);
             }
             (λ j y _ e. all_set Now views 0 both
             record {
               sends = λ s. absurd (true≢false (sym s));
               told = All-append (IsTold d.history d.pass_of d.made) v.told u.told mine.told (d.known other u was).told;
+              heard = All-append (IsHeard d.history) v.heard u.heard mine.heard (d.known other u was).heard;
               receives = λ first. let r = mine.receives first in (refl, r.1, r.2);
             }
             (λ i z _ at. d.known i z at) j y e);
@@ -285,6 +335,7 @@ knows_nothing {M} zero v e = subst (IsKnown [] (λ _. None) 0 0) (some-injective
     record {
       sends = λ s. absurd (true≢false (sym s));
       told = All-nil (IsTold {M = M} [] (λ _. None) 0);
+      heard = All-nil (IsHeard {M = M} []);
       receives = λ _. (refl, refl, refl);
     }
 knows_nothing (suc pass) v e = absurd (some-ne-none v (sym e))

@@ -1,16 +1,15 @@
 -- Lists of stamped messages, and a history that gets longer by one event.
-use Rattle.std.proofs.Common.{◌≡◌, ◌≢◌, ℕ, zero, suc, ◌+◌, ◌-◌, ◌<◌, ◌≤◌, ◌⊎◌, Bool, true, false, cond, eqb, List, [], ◌∷◌, ◌++◌, length, map, filter, take, drop, Some, None, sym, refl, ap, ◌∙◌, inl, inr, ⊎_elim, subst, append_assoc, append-nil, arith}
+use Rattle.std.proofs.Common.{◌≡◌, ◌≢◌, ℕ, zero, suc, ◌⊎◌, cond, eqb, List, [], ◌∷◌, ◌++◌, length, map, take, Some, sym, refl, ap, ◌∙◌, inl, inr, ⊎_elim, append_assoc, append-nil, arith}
 use Rattle.std.specs.List.{slice_get}
 use Rattle.std.proofs.lemmas.Bool.{eq-eqb, ne_eqb}
-use Rattle.std.proofs.lemmas.List.{take-append-le, take-append-drop, take_all, map-append, length-map, length-append}
+use Rattle.std.proofs.lemmas.List.{take-append-le, take_all, map-append, length-map, length-append}
 use Rattle.std.proofs.lemmas.List.Elements.{filter-append}
-use Rattle.std.proofs.Math.Seq.{take-append-add}
 use mathlib.Core.List.{IsPrefix}
 use mathlib.Core.Logic.{dite}
 use native.Mathlib.Decide.{dec_le, ℕ_discrete}
 use Rattle.notify_queue.specs.declared.stamp.Stamped.{Stamped}
 use Rattle.notify_queue.specs.Stamps.{stamped_of, messages_of, IsInOrder}
-use Rattle.notify_queue.specs.History.{Event, put, taken, puts, takes, QueueHistory, LeavesInOrder}
+use Rattle.notify_queue.specs.History.{Event, put, taken, puts, takes, QueueHistory}
 
 pub get-front : {A : Type 0} (xs ys : List A) (k : ℕ) (x : A) → slice_get xs k ≡ Some x → slice_get (xs ++ ys) k ≡ Some x
 get-front [] ys k x e = cc
@@ -23,7 +22,7 @@ get-snoc [] y x (suc k) e = cc
 get-snoc (z ∷ xs) y x zero e = inl e
 get-snoc (z ∷ xs) y x (suc k) e = ⊎_elim (λ h. inl h) (λ (h : (k ≡ length xs) × (y ≡ x)). inr (ap suc h.0, h.1)) (get-snoc xs y x k e)
 
-prefix_more : {A : Type 0} (xs ys zs : List A) → IsPrefix xs ys → IsPrefix xs (ys ++ zs)
+pub prefix_more : {A : Type 0} (xs ys zs : List A) → IsPrefix xs ys → IsPrefix xs (ys ++ zs)
 prefix_more xs ys zs p = (p.0 ++ zs, sym (append_assoc xs p.0 zs) ∙ ap (λ l. l ++ zs) p.1)
 
 module _ {M : Type 0} where
@@ -100,82 +99,3 @@ module _ {M : Type 0} where
     oldest_first = moments h (taken x) q.oldest_first
         (rw (puts-append h (taken x ∷ []), takes-append h (taken x ∷ []), append-nil) (items, append_assoc (takes h) (x ∷ []) items ∙ sym held));
   }
-
-module _ {M : Type 0} where
-  all_put : List (Stamped M) → List (Event M)
-  all_put [] = []
-  all_put (x ∷ xs) = put x ∷ all_put xs
-
-  all_taken : List (Stamped M) → List (Event M)
-  all_taken [] = []
-  all_taken (x ∷ xs) = taken x ∷ all_taken xs
-
-  length-all_put : (xs : List (Stamped M)) → length (all_put xs) ≡ length xs
-  unfolding all_put
-  length-all_put [] = refl
-  length-all_put (x ∷ xs) = omega (arith, length-all_put xs)
-
-  puts-all_put : (xs : List (Stamped M)) → puts (all_put xs) ≡ xs
-  unfolding all_put
-  puts-all_put [] = refl
-  puts-all_put (x ∷ xs) = ap (λ l. x ∷ l) (puts-all_put xs)
-
-  takes-take-all_put : (n : ℕ) (xs : List (Stamped M)) → takes (take n (all_put xs)) ≡ []
-  unfolding all_put
-  takes-take-all_put zero [] = refl
-  takes-take-all_put zero (x ∷ xs) = refl
-  takes-take-all_put (suc n) [] = refl
-  takes-take-all_put (suc n) (x ∷ xs) = takes-take-all_put n xs
-
-  takes-all_put : (xs : List (Stamped M)) → takes (all_put xs) ≡ []
-  unfolding all_put
-  takes-all_put [] = refl
-  takes-all_put (x ∷ xs) = takes-all_put xs
-
-  takes-take-all_taken : (n : ℕ) (xs : List (Stamped M)) → takes (take n (all_taken xs)) ≡ take n xs
-  unfolding all_taken
-  takes-take-all_taken zero [] = refl
-  takes-take-all_taken zero (x ∷ xs) = refl
-  takes-take-all_taken (suc n) [] = refl
-  takes-take-all_taken (suc n) (x ∷ xs) = ap (λ l. x ∷ l) (takes-take-all_taken n xs)
-
-  puts-take-all_taken : (n : ℕ) (xs : List (Stamped M)) → puts (take n (all_taken xs)) ≡ []
-  unfolding all_taken
-  puts-take-all_taken zero [] = refl
-  puts-take-all_taken zero (x ∷ xs) = refl
-  puts-take-all_taken (suc n) [] = refl
-  puts-take-all_taken (suc n) (x ∷ xs) = puts-take-all_taken n xs
-
-  takes-all_taken : (xs : List (Stamped M)) → takes (all_taken xs) ≡ xs
-  unfolding all_taken
-  takes-all_taken [] = refl
-  takes-all_taken (x ∷ xs) = ap (λ l. x ∷ l) (takes-all_taken xs)
-
-  puts-all_taken : (xs : List (Stamped M)) → puts (all_taken xs) ≡ []
-  unfolding all_taken
-  puts-all_taken [] = refl
-  puts-all_taken (x ∷ xs) = puts-all_taken xs
-
-  -- all are put, and then those in front are taken
-  pub leaves_in_order : (gone left : List (Stamped M)) → IsInOrder (gone ++ left) → LeavesInOrder gone left
-  leaves_in_order gone left o =
-      let all = gone ++ left in
-      let front = all_put all in
-      let back = all_taken gone in
-      let put_is : puts (front ++ back) ≡ all = puts-append front back ∙ ap (λ l. l ++ puts back) (puts-all_put all) ∙ ap (λ l. all ++ l) (puts-all_taken gone) ∙ append-nil all in
-      record {
-        history = front ++ back;
-        lawful = record {
-          in_order = rw put_is o;
-          oldest_first = λ n. dite (dec_le n (length front))
-              (λ le. let f = take-append-le n front back le in rw (f, takes-take-all_put n all) (puts (take n front), refl))
-              (λ gt.
-              let m : ℕ = n - length front in
-              let e : n ≡ length front + m = omega arith in
-              let f = ap (λ k. take k (front ++ back)) e ∙ take-append-add front back m in
-              rw (f, takes-append front (take m back), takes-all_put all, takes-take-all_taken m gone, puts-append front (take m back), puts-all_put all, puts-take-all_taken m gone, append-nil)
-              (drop m gone ++ left, sym (append_assoc (take m gone) (drop m gone) left) ∙ ap (λ l. l ++ left) (take-append-drop m gone)));
-        };
-        taken_is = takes-append front back ∙ ap (λ l. l ++ takes back) (takes-all_put all) ∙ takes-all_taken gone;
-        put_is = put_is;
-      }

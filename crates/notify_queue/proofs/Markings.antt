@@ -1,6 +1,5 @@
 -- Each step on the end marks keeps their rule.
-use Rattle.std.proofs.Common.{◌≡◌, ◌≢◌, ℕ, zero, suc, ◌+◌, ◌<◌, ◌≤◌, ◌⊎◌, Bool, true, false, cond, eqb, List, [], ◌∷◌, ◌++◌, length, get_or, map, replicate, Option, Some, None, sym, refl, ap, ◌∙◌, subst, inl, inr, ⊎_elim, append_assoc, append-nil, set, arith}
-use Rattle.std.specs.List.{All}
+use Rattle.std.proofs.Common.{◌≡◌, ◌≢◌, ℕ, zero, suc, ◌+◌, ◌<◌, cond, eqb, List, [], ◌∷◌, ◌++◌, length, get_or, replicate, Option, Some, None, sym, refl, ap, ◌∙◌, subst, inl, inr, ⊎_elim, append_assoc, append-nil, set, arith}
 use Rattle.std.specs.declared.alloc.Global.{Global}
 use Rattle.std.proofs.Common.{get_or-set_same, get_or-set_other}
 use Rattle.std.proofs.Math.ListN.{length-set}
@@ -15,9 +14,9 @@ use Rattle.atomic_table.specs.Table.{State, Me, Act, takes, gives, keeps, Valid,
 use Rattle.atomic_table.proofs.Lists.{at_index, at_map, set_here, set_else}
 use Rattle.crossbeam_queue.specs.SegTies.{SegId}
 use Rattle.notify_queue.specs.declared.marks.Marking.{Marking}
-use Rattle.notify_queue.specs.declared.marks.Role.TheVariants.{Reads, Sends, Fills, Ended}
-use Rattle.notify_queue.specs.Marks.{Marked, IsMarked, StandsAt, Stage, is_waiting, is_filling, is_telling, is_read, Tells, Copy, Filling, Found, Looked, reading, marks_sending, marks_filling, marks_ended}
-use Rattle.notify_queue.proofs.Lists.{some_is, none_some, All-one, get_end, all_set, all_more, length_set}
+use Rattle.notify_queue.specs.declared.marks.Role.TheVariants.{Sends, Fills, Ended}
+use Rattle.notify_queue.specs.Marks.{Marked, IsMarked, StandsAt, Stage, is_waiting, is_filling, is_telling, is_read, Tells, HasMarked, Copy, Found, Looked, reading, marks_sending, marks_filling, marks_ended}
+use Rattle.notify_queue.proofs.Lists.{some_is, All-one, all_set, all_more, length_set}
 
 module _ {M : Type 0} (queue : SegId Global) where
   -- the word, the slot and the stage of one sender change
@@ -114,7 +113,7 @@ module _ {M : Type 0} (queue : SegId Global) where
 
   -- and gives it back with a pass in it, as it sets its mark
   pub sets_mark : (slots seat : ℕ) (v : Marking M) (pass : Copy M) → v.role ≡ Fills → v.number < slots → Tells v.queue v.number pass
-      → Allows (Marked queue) slots seat (v, (v.number, Some pass) ∷ []) v.number (λ _. 1) (λ found me. Unit {0})
+      → Allows (Marked queue) slots seat (v, (v.number, Some pass) ∷ []) v.number (λ _. 1) (λ found me'. HasMarked v.queue v.number me')
   sets_mark slots seat v pass fills inside tells s m len here range =
       let i = v.number in
       let w : Marking M = marks_ended v.queue i m.missed in
@@ -153,7 +152,7 @@ module _ {M : Type 0} (queue : SegId Global) where
               (λ (t : m.stage u.number ≡ is_read). absurd (let q : is_read ≡ is_filling = sym t ∙ ap m.stage same ∙ own.2 in cc)) (k.ended r).0)
               (λ z. ((λ t. let q : is_read ≡ is_filling = sym t ∙ own.2 in cc), (λ q. cc))) k);
         },
-        tt,
+        record { missed = m.missed; me_is = refl },
       )
 
   -- the two steps as a sender's seat makes them
@@ -165,9 +164,9 @@ module _ {M : Type 0} (queue : SegId Global) where
       subst F (sym e) (takes_slot slots seat (marks_sending q sender) refl inside)
 
   pub sets_own_mark : (slots seat : ℕ) (me : Me (Option (Copy M)) (Marking M)) (q : SegId Global) (sender : ℕ) (pass : Copy M) → me ≡ (marks_filling q sender, (sender, Some pass) ∷ [])
-      → sender < slots → Tells q sender pass → Allows (Marked queue) slots seat me sender (λ _. 1) (λ found me'. Unit {0})
+      → sender < slots → Tells q sender pass → Allows (Marked queue) slots seat me sender (λ _. 1) (λ found me'. HasMarked me.0.queue me.0.number me')
   sets_own_mark slots seat me q sender pass e inside tells =
-      let F : Me (Option (Copy M)) (Marking M) → Type 0 = λ m. Allows (Marked queue) slots seat m sender (λ _. 1) (λ found me'. Unit {0}) in
+      let F : Me (Option (Copy M)) (Marking M) → Type 0 = λ m. Allows (Marked queue) slots seat m sender (λ _. 1) (λ found me'. HasMarked m.0.queue m.0.number me') in
       subst F (sym e) (sets_mark slots seat (marks_filling q sender) pass refl inside tells)
 
   -- the receiver finds the mark in turn set, and takes its slot

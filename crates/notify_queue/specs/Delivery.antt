@@ -1,5 +1,5 @@
 -- The rule of a queue: what it holds, and what each pass knows.
-use Rattle.std.specs.Prelude.{◌≡◌, ℕ, ◌+◌, ◌^◌, ◌<◌, ◌≤◌, Bool, true, false, List, [], ◌∷◌, ◌++◌, length, Option, Some, None}
+use Rattle.std.specs.Prelude.{◌≡◌, ℕ, ◌^◌, ◌<◌, ◌≤◌, true, false, List, [], ◌∷◌, ◌++◌, length, Option, Some, None}
 use Rattle.std.specs.List.{All}
 use mathlib.Core.List.{IsPrefix}
 use mathlib.Core.Option.{some}
@@ -16,19 +16,23 @@ module _ {M : Type 0} where
 
   -- a pass that knows nothing
   abbrev pub idle : Knowledge M
-  idle = record { sends = false; number = 0; put = []; told = []; taken = []; made = 0 }
+  idle = record { sends = false; number = 0; put = []; told = []; heard = []; taken = []; made = 0 }
 
   -- the pass of a sender
   abbrev pub sending : ℕ → List M → Knowledge M
-  sending number put = record { sends = true; number = number; put = put; told = []; taken = []; made = 0 }
+  sending number put = record { sends = true; number = number; put = put; told = []; heard = []; taken = []; made = 0 }
 
   -- a pass that tells what a sender put, which has ended
   abbrev pub telling : ℕ → List M → Knowledge M
-  telling number put = record { sends = false; number = number; put = put; told = told number put ∷ []; taken = []; made = 0 }
+  telling number put = record { sends = false; number = number; put = put; told = told number put ∷ []; heard = []; taken = []; made = 0 }
+
+  -- a pass that tells what a sender has put so far
+  abbrev pub noting : ℕ → List M → Knowledge M
+  noting number put = record { sends = false; number = number; put = put; told = []; heard = told number put ∷ []; taken = []; made = 0 }
 
   -- the pass of the receiver
-  abbrev pub receiving : ℕ → List (Told M) → List (Stamped M) → Knowledge M
-  receiving made told taken = record { sends = false; number = 0; put = []; told = told; taken = taken; made = made }
+  abbrev pub receiving : ℕ → List (Told M) → List (Told M) → List (Stamped M) → Knowledge M
+  receiving made told heard taken = record { sends = false; number = 0; put = []; told = told; heard = heard; taken = taken; made = made }
 
   -- the sender has no pass any more, and this is all that it put
   pub record IsTold (history : List (Event M)) (pass_of : ℕ → Option ℕ) (made : ℕ) (t : Told M) : Type 0 where
@@ -36,11 +40,16 @@ module _ {M : Type 0} where
     pub made_before : t.sender < made
     pub whole : messages_of t.sender (puts history) ≡ t.put
 
+  -- the sender has put this, and perhaps more since
+  abbrev pub IsHeard : List (Event M) → Told M → Type 0
+  IsHeard history t = IsPrefix t.put (messages_of t.sender (puts history))
+
   -- what a pass knows is so
   pub record IsKnown (history : List (Event M)) (pass_of : ℕ → Option ℕ) (made : ℕ) (pass : ℕ) (v : Knowledge M) : Type 0 where
     -- a sender has one pass, which knows all that it has put
     pub sends : v.sends ≡ true → (pass_of v.number ≡ Some pass) × (v.number < made) × (messages_of v.number (puts history) ≡ v.put)
     pub told : All (IsTold history pass_of made) v.told
+    pub heard : All (IsHeard history) v.heard
     -- the receiver knows all that was taken, and how many senders there are. It is none of them
     pub receives : pass ≡ 0 → (v.sends ≡ false) × (v.taken ≡ takes history) × (v.made ≡ made)
 
@@ -59,7 +68,7 @@ module _ {M : Type 0} where
 
   -- what a take tells: the message stands behind those that were taken, and what was taken is in order. Of a sender that has ended no more is taken than it put
   pub record Took (v : Knowledge M) (x : Stamped M) (w : Knowledge M) : Type 0 where
-    pub view : w ≡ receiving v.made v.told (v.taken ++ x ∷ [])
+    pub view : w ≡ receiving v.made v.told v.heard (v.taken ++ x ∷ [])
     pub in_order : IsInOrder (v.taken ++ x ∷ [])
     pub few : length v.taken < 2 ^ 38
     pub from_sender : x.stamp.sender < v.made
@@ -72,6 +81,7 @@ module _ {M : Type 0} where
     pub taken_is : takes history ≡ v.taken
     pub put_is : puts history ≡ v.taken ++ items
     pub told : All (λ t. messages_of t.sender (v.taken ++ items) ≡ t.put) v.told
+    pub heard : All (λ t. IsPrefix t.put (messages_of t.sender (v.taken ++ items))) v.heard
     pub from_senders : All (λ x. x.stamp.sender < v.made) (v.taken ++ items)
     pub short : (sender : ℕ) → length (messages_of sender (v.taken ++ items)) < 2 ^ 32
     pub few : v.made ≤ 64

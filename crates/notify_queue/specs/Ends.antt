@@ -1,6 +1,7 @@
 -- What contracts see of the ends of a queue.
-use Rattle.std.specs.Prelude.{◌≡◌, ℕ, ◌+◌, ◌^◌, ◌<◌, ◌≤◌, List, [], ◌∷◌, ◌++◌, length}
+use Rattle.std.specs.Prelude.{◌≡◌, ℕ, ◌<◌, List, [], ◌∷◌, ◌++◌, length}
 use Rattle.std.specs.List.{All, Any}
+use mathlib.Core.List.{IsPrefix}
 use Rattle.std.specs.declared.alloc.Global.{Global}
 use Rattle.crossbeam_queue.specs.SegTies.{SegId}
 use Rattle.notify_queue.specs.declared.delivery.Told.{Told}
@@ -11,19 +12,25 @@ use Rattle.notify_queue.specs.Stamps.{messages_of}
 pub record QueueId : Type 0 where
   pub line : SegId Global
 
--- a sender, before and after its end: its number, and the messages that it put
+-- a sender, its note or its end: its number, and the messages that it had put
 pub record Sending (M : Type 0) : Type 0 where
   pub queue : QueueId
   pub number : ℕ
   pub sent : List M
 
--- the receiver: how many senders there are, and what was taken. Of each sender that it has found ended, what that one put in all. The senders that it found not ended, look by look
+-- the receiver: how many senders there are, and what was taken. Of each sender that it has found ended, what that one put in all. What it has heard, by notes, that senders had put. The senders that it found not ended, look by look
 pub record Receiving (M : Type 0) : Type 0 where
   pub queue : QueueId
   pub senders : ℕ
   pub taken : List (Stamped M)
   pub ended : List (Told M)
+  pub heard : List (Told M)
   pub missed : List ℕ
+
+-- what was left of a queue at its close, oldest first, and all that was ever popped from it, in that order
+pub record Leaving (M : Type 0) : Type 0 where
+  pub left : List (Stamped M)
+  pub popped : List (Stamped M)
 
 module _ {M : Type 0} where
   -- a sender that has put nothing
@@ -32,9 +39,9 @@ module _ {M : Type 0} where
 
   -- the receiver of a new queue
   abbrev pub new_receiver : QueueId → ℕ → Receiving M
-  new_receiver queue senders = record { queue = queue; senders = senders; taken = []; ended = []; missed = [] }
+  new_receiver queue senders = record { queue = queue; senders = senders; taken = []; ended = []; heard = []; missed = [] }
 
-  -- what the end of a sender tells
+  -- what the end of a sender tells, or its note
   abbrev pub told_by : Sending M → Told M
   told_by e = record { sender = e.number; put = e.sent }
 
@@ -45,6 +52,11 @@ module _ {M : Type 0} where
   -- all that the senders found ended had put is taken
   abbrev pub IsDrained : Receiving M → Type 0
   IsDrained r = All (λ t. messages_of t.sender r.taken ≡ t.put) r.ended
+
+  -- all that it knows to have been put is taken: by the senders found ended, and by those that it has heard of
+  pub record HasTakenAll (r : Receiving M) : Type 0 where
+    pub drained : IsDrained r
+    pub heard : All (λ t. IsPrefix t.put (messages_of t.sender r.taken)) r.heard
 
   -- nothing can come any more, and nothing is left
   pub record IsDry (r : Receiving M) : Type 0 where

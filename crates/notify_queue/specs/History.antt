@@ -1,5 +1,5 @@
 -- What happened to a queue, step by step.
-use Rattle.std.specs.Prelude.{◌≡◌, ℕ, List, [], ◌∷◌, ◌++◌, take}
+use Rattle.std.specs.Prelude.{ℕ, List, [], ◌∷◌, take}
 use mathlib.Core.List.{IsPrefix}
 use Rattle.notify_queue.specs.declared.stamp.Stamped.{Stamped}
 use Rattle.notify_queue.specs.Stamps.{IsInOrder}
@@ -24,10 +24,3 @@ module _ {M : Type 0} where
   pub record QueueHistory (history : List (Event M)) : Type 0 where
     pub in_order : IsInOrder (puts history)
     pub oldest_first : (moment : ℕ) → IsPrefix (takes (take moment history)) (puts (take moment history))
-
-  -- a lawful history took these messages and left those
-  pub record LeavesInOrder (gone left : List (Stamped M)) : Type 0 where
-    pub history : List (Event M)
-    pub lawful : QueueHistory history
-    pub taken_is : takes history ≡ gone
-    pub put_is : puts history ≡ gone ++ left

@@ -76,6 +76,11 @@ module _ {M : Type 0} where
     pub has_seat : 0 < length s.views
     pub known : (seat : ℕ) (v : Marking M) → get_elem? s.views seat ≡ core.some v → IsMarked queue seat_of stage made missed seat v
 
+  -- the sender's seat has set its mark and given its slot back
+  pub record HasMarked (queue : SegId Global) (sender : ℕ) (me : Me (Option (Copy M)) (Marking M)) : Type 0 where
+    pub missed : List ℕ
+    pub me_is : me ≡ (marks_ended queue sender missed, [])
+
   -- the sender's seat has its slot, which is empty
   abbrev pub Filling : Step (Option (Copy M)) → Me (Option (Copy M)) (Marking M) → ℕ → Me (Option (Copy M)) (Marking M) → Type 0
   Filling step me word me' = me' ≡ (marks_filling me.0.queue me.0.number, (me.0.number, None) ∷ [])

@@ -5,7 +5,7 @@ use Rattle.std.specs.Arc.{arc_value}
 use Rattle.crossbeam_queue.specs.SegTies.{IsSegPassOf}
 use Rattle.notify_queue.specs.declared.receiver.Receiver.TheInside.{Inside}
 use Rattle.notify_queue.specs.Delivery.{receiving}
-use Rattle.notify_queue.specs.Ends.{QueueId, Receiving}
+use Rattle.notify_queue.specs.Ends.{Receiving}
 use Rattle.notify_queue.specs.Marks.{reading}
 use Rattle.notify_queue.specs.Stamps.{IsInOrder}
 
@@ -16,13 +16,14 @@ module _ {M : Type 0} where
     senders = r.senders;
     taken = r.pass.me.view.client.taken;
     ended = r.pass.me.view.client.told;
+    heard = r.pass.me.view.client.heard;
     missed = r.seat.me.0.missed;
   }
 
   pub record IsReceiver (r : Inside M) : Type 0 where
     pub pass_of : IsSegPassOf (arc_value r.channel).line r.pass
     pub first_pass : r.pass.id ≡ 0
-    pub knows : r.pass.me.view.client ≡ receiving r.senders r.pass.me.view.client.told r.pass.me.view.client.taken
+    pub knows : r.pass.me.view.client ≡ receiving r.senders r.pass.me.view.client.told r.pass.me.view.client.heard r.pass.me.view.client.taken
     pub count : r.taken ≡ length r.pass.me.view.client.taken
     pub few : length r.pass.me.view.client.taken ≤ 2 ^ 38
     pub in_order : IsInOrder r.pass.me.view.client.taken

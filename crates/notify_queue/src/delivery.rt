@@ -5,7 +5,7 @@ use crossbeam_queue::{RuledSegQueue, SegPass};
 use fan_base::Parcel;
 use std::collections::LinkedList;
 
-/// That a sender has ended, and what it put in all.
+/// A sender, and what it put: in all, where it has ended, or before it made a note.
 pub(crate) struct Told<M> {
     pub sender: u32,
     pub put: LinkedList<M>,
@@ -14,12 +14,13 @@ pub(crate) struct Told<M> {
 /// What a pass knows. No value of it is made.
 ///
 /// The pass of a sender has its number and what it has put. Pass 0 is the receiver's: it has what was taken, how many
-/// senders were made, and what the ended ones that it was told of had put.
+/// senders were made, what the ended ones that it was told of had put, and what it has heard that others had put.
 pub(crate) struct Knowledge<M> {
     pub sends: bool,
     pub number: u32,
     pub put: LinkedList<M>,
     pub told: LinkedList<Told<M>>,
+    pub heard: LinkedList<Told<M>>,
     pub taken: LinkedList<Stamped<M>>,
     pub made: u32,
 }
@@ -45,7 +46,7 @@ impl<M> Split<Knowledge<M>> for AnotherSender {
     ghost use Rattle.std.specs.Prelude.{◌+◌, []};
     ghost use Rattle.notify_queue.specs.Delivery.{receiving, sending};
 
-    ghost left = { λ v. receiving (v.made + 1) v.told v.taken };
+    ghost left = { λ v. receiving (v.made + 1) v.told v.heard v.taken };
 
     ghost right = { λ v. sending v.made [] };
 }
@@ -86,14 +87,25 @@ impl<M> Split<Knowledge<M>> for End {
     ghost right = { λ v. telling v.number v.put };
 }
 
-/// The receiver is told of an end.
+/// A sender makes a note of what it has put.
+pub(crate) struct Noting;
+
+impl<M> Split<Knowledge<M>> for Noting {
+    ghost use Rattle.notify_queue.specs.Delivery.{noting};
+
+    ghost left = { λ v. v };
+
+    ghost right = { λ v. noting v.number v.put };
+}
+
+/// The receiver is told of an end, or of a note.
 pub(crate) struct Hear;
 
 impl<M> Join<Knowledge<M>> for Hear {
     ghost use Rattle.std.specs.Prelude.{◌++◌};
     ghost use Rattle.notify_queue.specs.Delivery.{receiving, idle};
 
-    ghost both = { λ v w. receiving v.made (v.told ++ w.told) v.taken };
+    ghost both = { λ v w. receiving v.made (v.told ++ w.told) (v.heard ++ w.heard) v.taken };
 
     ghost spent = { idle };
 }

@@ -69,7 +69,9 @@ impl<M> Play<Option<Pass<M>>, Marking<M>> for TakeSlot {
 pub(crate) struct SetMark;
 
 impl<M> Play<Option<Pass<M>>, Marking<M>> for SetMark {
-    ghost then = { λ step me word after. Unit {0} };
+    ghost use Rattle.notify_queue.specs.Marks.{HasMarked};
+
+    ghost then = { λ step me word after. HasMarked me.0.queue me.0.number after };
 }
 
 /// The receiver reads the next mark.

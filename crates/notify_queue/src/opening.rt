@@ -15,7 +15,8 @@ use fan_base::Memory;
 use std::alloc::Global;
 use std::sync::Arc;
 
-/// A queue of so many senders, which have the numbers from 0 on.
+/// A queue of so many senders, which have the numbers from 0 on. `Memory` comes where there is none for the queue, its marks,
+/// its parker or the list of senders.
 pub fn queue<M>(alloc: Global, senders: u32) -> Result<(Receiver<M>, Vec<Sender<M>>), Memory>
     requires some { 1 ≤ senders }
     requires few { senders ≤ 64 }
@@ -37,11 +38,11 @@ fn senders_of<M>(
     seat: &mut MarkSeat<M>,
 ) -> Result<Vec<Sender<M>>, Memory>
     requires few { senders ≤ 64 }
-    requires pass { IsSegPassOf (arc_value channel.now).line pass.old × (pass.old.id ≡ 0) × (pass.old.me.view.client ≡ receiving 0 [] []) }
+    requires pass { IsSegPassOf (arc_value channel.now).line pass.old × (pass.old.id ≡ 0) × (pass.old.me.view.client ≡ receiving 0 [] [] []) }
     requires seat { (seat.old.table_id ≡ (arc_value channel.now).marks.shared.table_id) × (seat.old.id ≡ 0) × (seat.old.me.0 ≡ reading (arc_value channel.now).line 0 0 []) × (seat.old.table_id.words ≡ senders) }
     ensures count { IfOk result (λ made. length made.items ≡ senders) }
     ensures made { IfOk result (λ made. (number : ℕ) → number < senders → slice_get made.items number ≡ Some (new_sender (record { line = (arc_value channel.now).line }) number)) }
-    ensures pass { OnOk result (IsSegPassOf (arc_value channel.now).line pass.new × (pass.new.id ≡ 0) × (pass.new.me.view.client ≡ receiving senders [] [])) }
+    ensures pass { OnOk result (IsSegPassOf (arc_value channel.now).line pass.new × (pass.new.id ≡ 0) × (pass.new.me.view.client ≡ receiving senders [] [] [])) }
     ensures seat { OnOk result ((seat.new.table_id ≡ seat.old.table_id) × (seat.new.id ≡ 0) × (seat.new.me.0 ≡ reading (arc_value channel.now).line senders 0 [])) }
 {
     let mut made = Vec::with_capacity(alloc, senders as usize)?;

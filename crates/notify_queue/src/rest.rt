@@ -1,49 +1,54 @@
 ghost use Rattle.std.specs.Prelude.{◌≡◌, [], ◌∷◌, ◌↔◌, length, IsTrue, MatchOption};
 
+use crate::delivery::Pass;
 use crate::stamp::Stamped;
 use fan_base::Parcels;
 use std::marker::Model;
 
-/// The messages that were left in a queue at its close, in its order. It may be dropped, which forgets them.
+/// The messages that were left in a queue at its close, in its order, which is that of the puts of all senders together. It
+/// may be dropped, which forgets them.
 pub struct Rest<M> {
     parcels: Parcels<Stamped<M>>,
     len: usize,
+    // The receiver's, which knows what was popped.
+    pass: Pass<M>,
 }
 
 impl<M> Model for Rest<M> {
-    ghost use Rattle.std.specs.Prelude.{◌≡◌, List, length};
-    ghost use Rattle.notify_queue.specs.declared.stamp.Stamped.{Stamped};
+    ghost use Rattle.std.specs.Prelude.{◌≡◌, length};
+    ghost use Rattle.notify_queue.specs.Ends.{Leaving};
 
-    ghost Value = { List (Stamped M) };
+    ghost Value = { Leaving M };
 
-    ghost view = { λ rest. rest.parcels };
+    ghost view = { λ rest. record { left = rest.parcels; popped = rest.pass.me.view.client.taken } };
 
     ghost invariant = { λ rest. rest.len ≡ length rest.parcels };
 }
 
 impl<M> Rest<M> {
-    pub(crate) fn new(parcels: Parcels<Stamped<M>>, len: usize) -> Rest<M>
+    pub(crate) fn new(parcels: Parcels<Stamped<M>>, len: usize, pass: Pass<M>) -> Rest<M>
         requires { len ≡ length parcels }
-        ensures { result ≡ parcels }
+        ensures { result ≡ record { left = parcels; popped = pass.me.view.client.taken } }
     {
-        Rest { parcels, len }
+        Rest { parcels, len, pass }
     }
 
+    /// How many there are.
     pub fn len(&self) -> usize
-        ensures { result ≡ length self.now }
+        ensures { result ≡ length self.now.left }
     {
         self.len
     }
 
     pub fn is_empty(&self) -> bool
-        ensures { IsTrue result ↔ (self.now ≡ []) }
+        ensures { IsTrue result ↔ (self.now.left ≡ []) }
     {
         self.len == 0
     }
 
     /// Takes the oldest message.
     pub fn pop(&mut self) -> Option<Stamped<M>>
-        ensures { MatchOption result ((self.old ≡ []) × (self.new ≡ [])) (λ first. self.old ≡ first ∷ self.new) }
+        ensures { MatchOption result ((self.old.left ≡ []) × (self.new ≡ self.old)) (λ first. self.old ≡ record self.new { left = first ∷ self.new.left }) }
     {
         let parcel = self.parcels.pop_front()?;
         self.len -= 1;
@@ -53,7 +58,11 @@ impl<M> Rest<M> {
 
 impl<M> Drop for Rest<M> {
     fn drop(self) {
-        let Rest { parcels: _, len: _ } = self;
+        let Rest {
+            parcels: _,
+            len: _,
+            pass: _,
+        } = self;
     }
 }
 

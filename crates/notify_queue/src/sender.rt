@@ -28,9 +28,35 @@ impl<M> Model for Sender<M> {
     ghost invariant = { IsSender };
 }
 
+/// That a sender had put so many messages. It may cross to the receiver's thread with what else tells of them, and it
+/// may be dropped.
+pub struct Note<M> {
+    pass: Pass<M>,
+    number: u32,
+}
+
+impl<M> Model for Note<M> {
+    ghost use Rattle.notify_queue.specs.Ends.{Sending};
+    ghost use Rattle.notify_queue.specs.Senders.{note_of, IsNote};
+
+    ghost Value = { Sending M };
+
+    ghost view = { note_of };
+
+    ghost invariant = { IsNote };
+}
+
+impl<M> Drop for Note<M> {
+    fn drop(self) {
+        let Note { pass: _, number: _ } = self;
+    }
+}
+
 /// What is left of a sender after its end. [`crate::Receiver::close`] asks for the ends of all senders.
 pub struct SenderEnd<M> {
     pass: Pass<M>,
+    // It shows that the mark is set.
+    seat: MarkSeat<M>,
     number: u32,
 }
 
@@ -47,6 +73,10 @@ impl<M> Model for SenderEnd<M> {
 
 impl<M> Drop for SenderEnd<M> {
     fn drop(self) {
-        let SenderEnd { pass: _, number: _ } = self;
+        let SenderEnd {
+            pass: _,
+            seat: _,
+            number: _,
+        } = self;
     }
 }

@@ -2,7 +2,7 @@ ghost use Rattle.std.specs.Prelude.{◌≡◌, ◌+◌, ◌^◌, ◌<◌, ◌≤
 ghost use Rattle.notify_queue.specs.Ends.{new_receiver, new_sender};
 
 use super::*;
-use fan_base::{Parcel, Refused};
+use fan_base::{Memory, Parcel, Refused};
 use std::alloc::Global;
 use std::process::Abort;
 use std::sync::Wait;
@@ -60,6 +60,8 @@ fn two_senders_and_what_is_left(rt: HostRuntime) {
     assert_eq!(rt; put(&rt, &mut second, 'y'), (1, 0));
     assert_eq!(rt; put(&rt, &mut first, 'z'), (0, 1));
     assert_eq!(rt; first.puts(), 2);
+    receiver.hear(first.note());
+    receiver.hear(second.note());
     let got = receiver.take_up_to(&rt, 2).expect(&rt, "memory");
     let expected = [message(0, 0, 'x'), message(1, 0, 'y')];
     assert_eq!(rt; got.as_slice(), expected.as_slice());
@@ -81,6 +83,25 @@ fn two_senders_and_what_is_left(rt: HostRuntime) {
     assert_eq!(rt; rest.pop(), Some(message(1, 1, 'v')));
     assert_eq!(rt; rest.pop(), Some(message(0, 2, 'w')));
     assert_eq!(rt; rest.pop(), None);
+    assert_eq!(rt; wrapped(&rt, rt.alloc(), 'p').open(), 'p');
+}
+
+#[test]
+fn a_dry_receiver_leaves_nothing(rt: HostRuntime) {
+    let (mut receiver, mut first, mut second) = two_senders(&rt, rt.alloc());
+    put(&rt, &mut first, 'x');
+    put(&rt, &mut second, 'y');
+    put(&rt, &mut first, 'z');
+    let first = first.end(&rt);
+    let second = second.end(&rt);
+    assert!(rt; receiver.ended());
+    let got = receiver.take_up_to(&rt, 9).expect(&rt, "memory");
+    let expected = [message(0, 0, 'x'), message(1, 0, 'y'), message(0, 1, 'z')];
+    assert_eq!(rt; got.as_slice(), expected.as_slice());
+    assert_eq!(rt; receiver.take(&rt), None);
+    assert!(rt; receiver.ended());
+    let QueueEnd { put, taken, rest } = close_two(&rt, rt.alloc(), receiver, first, second);
+    assert_eq!(rt; (put, taken, rest.len()), (3, 3, 0));
 }
 
 fn put_many<R: Abort + Wait>(rt: &R, mut sender: Sender<u64>) -> SenderEnd<u64>
@@ -161,6 +182,41 @@ fn two_threads_put_and_one_takes(rt: HostRuntime) {
     assert_eq!(rt; (put, taken, rest.len()), (2 * MANY, 2 * MANY, 0));
 }
 
+// Puts a thousand messages and makes a note of them.
+fn put_noted<R: Abort + Wait>(rt: &R, mut sender: Sender<u64>) -> (Sender<u64>, Note<u64>)
+    ensures sender { (result.0.queue ≡ sender.queue) × (result.0.number ≡ sender.number) }
+    ensures note { result.1.queue ≡ sender.queue }
+{
+    assert!(rt; sender.puts() == 0);
+    for number in 0..1000 {
+        sender.put(rt, number).expect(rt, "memory");
+    }
+    let note = sender.note();
+    (sender, note)
+}
+
+#[test]
+fn all_that_was_heard_comes_before_none(rt: HostRuntime) {
+    let alloc = rt.alloc();
+    let (mut receiver, first, second) = two_senders::<u64, _>(&rt, alloc);
+    let first = wrapped(&rt, alloc, first);
+    let second = wrapped(&rt, alloc, second);
+    let (one, other) = join(
+        &rt,
+        move || put_noted(&rt, first.open()),
+        move || put_noted(&rt, second.open()),
+    );
+    let (first, note) = one;
+    receiver.hear(note);
+    let (second, note) = other;
+    receiver.hear(note);
+    let got = receiver.take_up_to(&rt, 2000).expect(&rt, "memory");
+    assert_eq!(rt; got.len(), 2000);
+    assert_eq!(rt; receiver.take(&rt), None);
+    let end = close_two(&rt, alloc, receiver, first.end(&rt), second.end(&rt));
+    assert_eq!(rt; (end.put, end.taken, end.rest.len()), (2000, 2000, 0));
+}
+
 // Takes as many messages as there are rounds, and answers each by one.
 fn bounce<R: Abort + Wait>(
     rt: &R,
@@ -234,6 +290,30 @@ fn put_pledges<R: Abort + Wait>(rt: &R, sender: &mut Sender<Pledge>) -> u64
     kept
 }
 
+// Spends what was taken, and says how many these were.
+fn spend_all(mut got: Vec<Stamped<Pledge>>) -> u64
+    ensures { result ≡ length got.items }
+{
+    let taken = got.len() as u64;
+    while let Some(stamped) = got.pop() {
+        stamped.message.spend();
+    }
+    got.destroy_empty();
+    taken
+}
+
+// Takes three messages, or none where there is no memory for the list, and says how many these were.
+fn take_three<R: Wait>(rt: &R, receiver: &mut Receiver<Pledge>) -> u64
+    ensures receiver { (receiver.new.queue ≡ receiver.old.queue) × (receiver.new.senders ≡ receiver.old.senders) }
+    ensures few { result ≤ 3 }
+{
+    match receiver.take_up_to(rt, 3) {
+        Ok(got) => spend_all(got),
+        Err(Memory) => 0,
+    }
+}
+
+// Each call that takes memory is refused where an allocation fails, and all else goes on.
 #[test]
 fn a_refused_message_comes_back(rt: HostRuntime) {
     let alloc = rt.alloc();
@@ -246,16 +326,18 @@ fn a_refused_message_comes_back(rt: HostRuntime) {
     let mut sender = senders.pop().expect(&rt, "a sender");
     senders.destroy_empty();
     let kept = put_pledges(&rt, &mut sender);
+    let had = take_three(&rt, &mut receiver);
     let first = receiver.take(&rt).expect(&rt, "a message");
-    assert_eq!(rt; (first.stamp.index, first.message.spend()), (0, 0));
+    assert_eq!(rt; first.stamp.index, had);
+    first.message.spend();
     ends.push_reserved(sender.end(&rt));
     let QueueEnd {
         put,
         taken,
         mut rest,
     } = receiver.close(&rt, ends);
-    assert_eq!(rt; (put, taken), (kept, 1));
-    let second = rest.pop().expect(&rt, "a message");
-    assert_eq!(rt; second.stamp.index, 1);
-    second.message.spend();
+    assert_eq!(rt; (put, taken), (kept, had + 1));
+    let next = rest.pop().expect(&rt, "a message");
+    assert_eq!(rt; next.stamp.index, taken);
+    next.message.spend();
 }

@@ -1,12 +1,12 @@
 ghost use Rattle.std.specs.Prelude.{◌≡◌, ℕ, ◌+◌, ◌^◌, ◌<◌, ◌≤◌, ◌++◌, ◌∷◌, [], length, map, true, MatchResult, MatchOption, IfOk};
 ghost use Rattle.std.specs.List.{All};
 ghost use Rattle.crossbeam_queue.specs.SegTies.{IsSegPassOf};
-ghost use Rattle.notify_queue.specs.Delivery.{sending, receiving, telling, idle, Took, Shows};
+ghost use Rattle.notify_queue.specs.Delivery.{sending, receiving, telling, noting, idle, Took, Shows};
 ghost use Rattle.notify_queue.specs.Ends.{told_by};
-ghost use Rattle.notify_queue.specs.Marks.{Tells, reading, marks_sending};
+ghost use Rattle.notify_queue.specs.Marks.{HasMarked, Tells, reading, marks_sending};
 
 use super::Channel;
-use crate::delivery::{AnotherSender, End, Hear, Line, Pass, Put, Take};
+use crate::delivery::{AnotherSender, End, Hear, Line, Noting, Pass, Put, Take};
 use crate::marks::{AnotherMark, MarkSeat, Marks, ReadMark, SetMark, TakeSlot};
 use crate::sender::SenderEnd;
 use crate::stamp::Stamped;
@@ -66,11 +66,20 @@ impl<M> Channel<M> {
         self.line.another::<End>(pass)
     }
 
-    /// Takes in what another pass was told.
+    /// A pass that tells what a sender has put so far. The sender's own pass stays as it is.
+    pub(crate) fn note(&self, pass: &mut Pass<M>) -> Pass<M>
+        requires { IsSegPassOf self.now.line pass.old × (pass.old.me.view.client.sends ≡ true) }
+        ensures pass { IsSegPassOf self.now.line pass.new × (pass.new.me.view.client ≡ pass.old.me.view.client) }
+        ensures note { IsSegPassOf self.now.line result × (result.me.view.client ≡ noting pass.old.me.view.client.number pass.old.me.view.client.put) }
+    {
+        self.line.another::<Noting>(pass)
+    }
+
+    /// Takes in what another pass tells.
     pub(crate) fn hear(&self, pass: &mut Pass<M>, told: Pass<M>)
         requires { IsSegPassOf self.now.line pass.old × (pass.old.id ≡ 0) × IsSegPassOf self.now.line told }
         ensures pass { IsSegPassOf self.now.line pass.new × (pass.new.id ≡ 0) }
-        ensures told { pass.new.me.view.client ≡ receiving pass.old.me.view.client.made (pass.old.me.view.client.told ++ told.me.view.client.told) pass.old.me.view.client.taken }
+        ensures told { pass.new.me.view.client ≡ receiving pass.old.me.view.client.made (pass.old.me.view.client.told ++ told.me.view.client.told) (pass.old.me.view.client.heard ++ told.me.view.client.heard) pass.old.me.view.client.taken }
     {
         self.line.absorb::<Hear>(pass, told);
     }
@@ -80,7 +89,7 @@ impl<M> Channel<M> {
         requires pass { IsSegPassOf self.now.line pass.old × (pass.old.id ≡ 0) }
         requires ends { All (λ e. e.queue.line ≡ self.now.line) ends.items }
         ensures pass { IsSegPassOf self.now.line pass.new × (pass.new.id ≡ 0) }
-        ensures same { (pass.new.me.view.client.made ≡ pass.old.me.view.client.made) × (pass.new.me.view.client.taken ≡ pass.old.me.view.client.taken) }
+        ensures same { (pass.new.me.view.client.made ≡ pass.old.me.view.client.made) × (pass.new.me.view.client.heard ≡ pass.old.me.view.client.heard) × (pass.new.me.view.client.taken ≡ pass.old.me.view.client.taken) }
         ensures told { pass.new.me.view.client.told ≡ pass.old.me.view.client.told ++ map told_by ends.items }
     {
         for end in ends {
@@ -89,15 +98,16 @@ impl<M> Channel<M> {
     }
 
     /// Leaves the copy in the sender's slot and sets its mark, and wakes the receiver.
-    pub(crate) fn set_mark(&self, mut seat: MarkSeat<M>, sender: u32, copy: Pass<M>)
-        requires seat { (seat.table_id ≡ self.now.marks.shared.table_id) × (seat.me ≡ (marks_sending self.now.line sender, [])) × (sender < seat.table_id.words) }
+    pub(crate) fn set_mark(&self, seat: &mut MarkSeat<M>, sender: u32, copy: Pass<M>)
+        requires seat { (seat.old.table_id ≡ self.now.marks.shared.table_id) × (seat.old.me ≡ (marks_sending self.now.line sender, [])) × (sender < seat.old.table_id.words) }
         requires copy { Tells self.now.line sender copy }
+        ensures { HasMarked self.now.line sender seat.new.me }
     {
         let table = &self.marks.shared;
         let slot = sender as usize;
-        table.load::<TakeSlot>(&mut seat, slot);
-        let _empty = table.exchange(&mut seat, slot, Some(copy));
-        table.store::<SetMark>(&mut seat, slot, 1);
+        table.load::<TakeSlot>(seat, slot);
+        let _empty = table.exchange(seat, slot, Some(copy));
+        table.store::<SetMark>(seat, slot, 1);
         self.wake.unpark();
     }
 
@@ -120,7 +130,7 @@ impl<M> Channel<M> {
     /// A pass for the next sender.
     pub(crate) fn another_sender(&self, pass: &mut Pass<M>) -> Pass<M>
         requires { IsSegPassOf self.now.line pass.old × (pass.old.id ≡ 0) × (pass.old.me.view.client.made < 64) }
-        ensures pass { IsSegPassOf self.now.line pass.new × (pass.new.id ≡ 0) × (pass.new.me.view.client ≡ receiving (pass.old.me.view.client.made + 1) pass.old.me.view.client.told pass.old.me.view.client.taken) }
+        ensures pass { IsSegPassOf self.now.line pass.new × (pass.new.id ≡ 0) × (pass.new.me.view.client ≡ receiving (pass.old.me.view.client.made + 1) pass.old.me.view.client.told pass.old.me.view.client.heard pass.old.me.view.client.taken) }
         ensures sender { IsSegPassOf self.now.line result × (result.me.view.client ≡ sending pass.old.me.view.client.made []) }
     {
         self.line.another::<AnotherSender>(pass)
@@ -160,7 +170,7 @@ impl<M> Channel<M> {
     pub(crate) fn drain<R: Wait>(&self, rt: &R, pass: &mut Pass<M>) -> (Parcels<Stamped<M>>, usize)
         requires { IsSegPassOf self.now.line pass.old × (pass.old.id ≡ 0) }
         ensures count { result.1 ≡ length result.0 }
-        ensures same { (pass.new.me.view.client.made ≡ pass.old.me.view.client.made) × (pass.new.me.view.client.told ≡ pass.old.me.view.client.told) }
+        ensures same { (pass.new.me.view.client.made ≡ pass.old.me.view.client.made) × (pass.new.me.view.client.told ≡ pass.old.me.view.client.told) × (pass.new.me.view.client.heard ≡ pass.old.me.view.client.heard) }
         ensures taken { pass.new.me.view.client.taken ≡ pass.old.me.view.client.taken ++ result.0 }
         ensures empty { Shows pass.new.me.view.client [] }
     {
@@ -184,13 +194,15 @@ impl<M> Channel<M> {
         rt: &R,
         mut pass: Pass<M>,
         ends: Vec<SenderEnd<M>>,
-    ) -> (Parcels<Stamped<M>>, usize)
+    ) -> (Parcels<Stamped<M>>, usize, Pass<M>)
         requires pass { IsSegPassOf self.now.line pass × (pass.id ≡ 0) }
         requires ends { All (λ e. e.queue.line ≡ self.now.line) ends.items }
         ensures count { result.1 ≡ length result.0 }
-        ensures empty { Shows (receiving pass.me.view.client.made (pass.me.view.client.told ++ map told_by ends.items) (pass.me.view.client.taken ++ result.0)) [] }
+        ensures popped { result.2.me.view.client.taken ≡ pass.me.view.client.taken ++ result.0 }
+        ensures empty { Shows (receiving pass.me.view.client.made (pass.me.view.client.told ++ map told_by ends.items) pass.me.view.client.heard (pass.me.view.client.taken ++ result.0)) [] }
     {
         self.hear_all(&mut pass, ends);
-        self.drain(rt, &mut pass)
+        let (parcels, len) = self.drain(rt, &mut pass);
+        (parcels, len, pass)
     }
 }

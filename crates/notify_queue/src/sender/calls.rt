@@ -1,11 +1,11 @@
 ghost use Rattle.std.specs.Prelude.{◌≡◌, ◌+◌, ◌<◌, ◌++◌, ◌∷◌, [], length, IfOk, IfErr, OnOk};
 ghost use Rattle.std.specs.Arc.{arc_value};
 ghost use Rattle.crossbeam_queue.specs.SegTies.{IsSegPassOf};
-ghost use Rattle.notify_queue.specs.Delivery.{receiving, telling};
+ghost use Rattle.notify_queue.specs.Delivery.{receiving, telling, noting};
 ghost use Rattle.notify_queue.specs.Ends.{new_sender};
 ghost use Rattle.notify_queue.specs.Marks.{reading};
 
-use super::{Sender, SenderEnd};
+use super::{Note, Sender, SenderEnd};
 use crate::channel::Channel;
 use crate::delivery::Pass;
 use crate::marks::MarkSeat;
@@ -50,6 +50,17 @@ impl<M> Sender<M> {
         self.puts
     }
 
+    /// A note of what it has put so far, for [`crate::Receiver::hear`].
+    pub fn note(&mut self) -> Note<M>
+        ensures sender { self.new ≡ self.old }
+        ensures note { result ≡ self.old }
+    {
+        Note {
+            pass: self.channel.note(&mut self.pass),
+            number: self.number,
+        }
+    }
+
     /// No message of this sender comes any more. It tells the receiver and wakes it.
     pub fn end<R: Wait>(self, _rt: &R) -> SenderEnd<M>
         ensures { result ≡ self }
@@ -57,14 +68,14 @@ impl<M> Sender<M> {
         let Sender {
             channel,
             mut pass,
-            seat,
+            mut seat,
             number,
             puts: _,
             alloc: _,
         } = self;
         let copy = channel.end(&mut pass);
-        channel.set_mark(seat, number, copy);
-        SenderEnd { pass, number }
+        channel.set_mark(&mut seat, number, copy);
+        SenderEnd { pass, seat, number }
     }
 
     /// The next sender of a channel, made by the receiver's pass and seat.
@@ -75,10 +86,10 @@ impl<M> Sender<M> {
         pass: &mut Pass<M>,
         seat: &mut MarkSeat<M>,
     ) -> Result<Sender<M>, Memory>
-        requires pass { IsSegPassOf (arc_value channel.now).line pass.old × (pass.old.id ≡ 0) × (pass.old.me.view.client ≡ receiving number [] []) × (number < 64) }
+        requires pass { IsSegPassOf (arc_value channel.now).line pass.old × (pass.old.id ≡ 0) × (pass.old.me.view.client ≡ receiving number [] [] []) × (number < 64) }
         requires seat { (seat.old.table_id ≡ (arc_value channel.now).marks.shared.table_id) × (seat.old.id ≡ 0) × (seat.old.me.0 ≡ reading (arc_value channel.now).line number 0 []) × (number < seat.old.table_id.words) }
         ensures sender { IfOk result (λ sender. sender ≡ new_sender (record { line = (arc_value channel.now).line }) number) }
-        ensures pass { OnOk result (IsSegPassOf (arc_value channel.now).line pass.new × (pass.new.id ≡ 0) × (pass.new.me.view.client ≡ receiving (number + 1) [] [])) }
+        ensures pass { OnOk result (IsSegPassOf (arc_value channel.now).line pass.new × (pass.new.id ≡ 0) × (pass.new.me.view.client ≡ receiving (number + 1) [] [] [])) }
         ensures seat { OnOk result ((seat.new.table_id ≡ seat.old.table_id) × (seat.new.id ≡ 0) × (seat.new.me.0 ≡ reading (arc_value channel.now).line (number + 1) 0 [])) }
     {
         let theirs = Arc::try_clone(channel)?;
@@ -105,12 +116,26 @@ impl<M> Sender<M> {
     }
 }
 
+impl<M> Note<M> {
+    /// The pass that tells what the sender had put.
+    pub(crate) fn into_pass(self) -> Pass<M>
+        ensures { IsSegPassOf self.queue.line result × (result.me.view.client ≡ noting self.number self.sent) }
+    {
+        let Note { pass, number: _ } = self;
+        pass
+    }
+}
+
 impl<M> SenderEnd<M> {
     /// The pass that tells what the sender put.
     pub(crate) fn into_pass(self) -> Pass<M>
         ensures { IsSegPassOf self.queue.line result × (result.me.view.client ≡ telling self.number self.sent) }
     {
-        let SenderEnd { pass, number: _ } = self;
+        let SenderEnd {
+            pass,
+            seat: _,
+            number: _,
+        } = self;
         pass
     }
 }

@@ -1,8 +1,4 @@
-use Rattle.std.proofs.Common.{◌≡◌, ◌<◌, Some, ap, ◌∙◌}
-use Rattle.atomic_table.specs.Table.{Me, rest}
-use Rattle.std.specs.Prelude.{Option, List, ℕ, ◌∷◌}
-use Rattle.notify_queue.specs.declared.marks.Marking.{Marking}
-use Rattle.notify_queue.specs.Marks.{Copy}
+use Rattle.std.proofs.Common.{◌<◌, ◌∙◌}
 use Rattle.notify_queue.proofs.Markings.{reads_own_mark, found_slot}
 use Rattle.notify_queue.proofs.channel.Channel.read_mark.Goals as goal
 

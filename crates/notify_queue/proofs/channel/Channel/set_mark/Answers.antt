@@ -1,4 +1,4 @@
-use Rattle.std.proofs.Common.{◌≡◌, ◌<◌, [], ◌∷◌, Some, None, sym, ap, ◌∙◌}
+use Rattle.std.proofs.Common.{◌<◌, [], ◌∷◌, Some, None, ap, ◌∙◌}
 use Rattle.atomic_table.specs.Table.{Me, rest}
 use Rattle.std.specs.Prelude.{Option}
 use Rattle.notify_queue.specs.declared.marks.Marking.{Marking}
@@ -11,7 +11,7 @@ load-requires g c =
     let table = c.args.self.now.marks.shared in
     let words : c.args.sender < table.table_id.words = rw c.requires.seat.0 at c.requires.seat.2 in
     let slots : c.args.sender < table.table_id.slots = rw c.args.self.now.one_slot_each words in
-    (c.requires.seat.0, words, takes_own_slot table.key table.table_id.slots c.args.seat.id c.args.seat.me _ _ c.requires.seat.1 slots)
+    (c.requires.seat.0, words, takes_own_slot table.key table.table_id.slots c.args.seat.now.id c.args.seat.now.me _ _ c.requires.seat.1 slots)
 
 pub store-requires : goal.store-requires
 store-requires g c =

@@ -1,4 +1,4 @@
-use Rattle.std.proofs.Common.{◌≡◌, ◌+◌, ◌≤◌, ◌++◌, [], length, vec_len, vec_capacity}
+use Rattle.std.proofs.Common.{◌≡◌, ◌≤◌, ◌++◌, [], vec_len, vec_capacity}
 use Rattle.notify_queue.specs.Ends.{IsDry}
 use Rattle.notify_queue.specs.Stamps.{IsInOrder}
 use Rattle.notify_queue.proofs.receiver.Receiver.take_up_to.Given as goal
