@@ -78,7 +78,7 @@ length-numbered : (adder k : ℕ) (adds : List Add) → length (numbered adder k
 length-numbered adder k [] = refl
 length-numbered adder k (x ∷ xs) = ap suc (length-numbered adder (k + 1) xs)
 
-total_is : (passes : List PassSeen) → passes_weight (λ _. 1) passes ≡ adds_total passes
+pub total_is : (passes : List PassSeen) → passes_weight (λ _. 1) passes ≡ adds_total passes
 total_is [] = refl
 total_is (p ∷ ps) = omega (arith, total_is ps, weigh_one (numbered p.number 0 p.adds), length-numbered p.number 0 p.adds)
 

@@ -1,5 +1,5 @@
 -- Seats that are put together.
-use Rattle.std.proofs.Common.{◌≡◌, ℕ, suc, ◌+◌, ◌<◌, ◌≤◌, List, [], ◌∷◌, ◌++◌, length, refl, sym, ap, ◌∙◌, subst, arith, append_assoc}
+use Rattle.std.proofs.Common.{◌≡◌, ℕ, zero, suc, ◌+◌, ◌<◌, ◌≤◌, List, [], ◌∷◌, ◌++◌, length, refl, sym, ap, ◌∙◌, subst, arith, append_assoc}
 use Rattle.std.specs.Prelude.{All}
 use Rattle.atomic_table.specs.Table.{Me, Final, Seen}
 use mathlib.Core.Option.{some, some-injective}
@@ -10,12 +10,13 @@ use Rattle.prio_pool.specs.declared.row.Turn.TheVariants.{Away}
 use Rattle.prio_pool.specs.declared.row.View.{View}
 use Rattle.prio_pool.specs.declared.row.Plan.{Plan}
 use Rattle.prio_pool.specs.Tasks.{Queued}
-use Rattle.prio_pool.specs.History.{weigh}
+use Rattle.prio_pool.specs.History.{AllSince, weigh}
+use Rattle.prio_pool.specs.declared.row.Deed.{Deed}
 use Rattle.prio_pool.specs.Record.{Record, AreRunsOf}
 use Rattle.prio_pool.specs.Seen.{PassSeen, EndSeen}
 use Rattle.prio_pool.specs.Rule.{Kept, together}
 use Rattle.prio_pool.specs.Passes.{IsEnd}
-use Rattle.prio_pool.specs.Gathering.{IsGathered, IsLeft, HasGathered, GathersMore, GathersPass}
+use Rattle.prio_pool.specs.Gathering.{IsGathered, IsLeft, HasGathered, GathersMore, GathersPass, seens_of}
 use Rattle.prio_pool.proofs.Totals.{weigh-append}
 use Rattle.prio_pool.proofs.Records.{length-runs, runs-append}
 use Rattle.prio_pool.proofs.Parting.{knows_all}
@@ -85,13 +86,36 @@ module _ {J : Type 0} where
       let w = knows_all head plan s id v k last.1.1 all away in
       let home : get_elem? slots 0 ≡ some w.state = last.4 0 w.state (ap (λ l. get_elem? l 0) w.home) in
       let same : w.state ≡ q = some-injective w.state q (sym home ∙ at) in
-      subst (IsLeft head plan.queues v) same record { past = w.past; few = w.few; stands = w.stands; balanced = w.balanced }
+      subst (IsLeft head plan.queues v) same record { past = w.past; few = w.few; stands = w.stands; balanced = w.balanced; seen = w.seen; heard = w.heard; accepted = w.accepted }
+
+seens_of-append : (es fs : List EndSeen) → seens_of (es ++ fs) ≡ seens_of es ++ seens_of fs
+seens_of-append [] fs = refl
+seens_of-append (e ∷ es) fs = ap (λ (l : List (List Deed)). e.seen ∷ l) (seens_of-append es fs)
+
+all_since-front : (xs ys : List (List Deed)) (past : List Deed) → AllSince (xs ++ ys) past → AllSince xs past
+all_since-front [] ys past all = tt
+all_since-front (x ∷ xs) ys past all = (all.0, all_since-front xs ys past all.1)
+
+-- what was heard goes back to what both kinds of ends saw
+pub all_saw : (es fs : List EndSeen) (ls heard : List (List Deed)) (past : List Deed) → heard ≡ seens_of es ++ (seens_of fs ++ ls) → AllSince heard past → AllSince (seens_of (es ++ fs)) past
+all_saw es fs ls heard past is all =
+    all_since-front (seens_of (es ++ fs)) ls past (subst (λ (l : List (List Deed)). AllSince l past) (is ∙ (sym (append_assoc (seens_of es) (seens_of fs) ls) ∙ ap (λ (l : List (List Deed)). l ++ ls) (sym (seens_of-append es fs)))) all)
 
 -- the records of the ends, one after another
 pub records-end : (e : EndSeen) (left done : List EndSeen) → (left ++ e ∷ []) ++ done ≡ left ++ e ∷ done
 records-end e left done = append_assoc left (e ∷ []) done
 
+-- what holds of each item holds of each of the first ones
+pub all_front : {X : Type 0} (P : X → Type 0) (xs ys : List X) → All P (xs ++ ys) → All P xs
+all_front P [] ys all k d l = absurd (omega (arith, l))
+all_front P (x ∷ xs) ys all zero d l = all 0 d (omega arith)
+all_front P (x ∷ xs) ys all (suc k) d l = all_front P xs ys (λ j e m. all (suc j) e (omega (arith, m))) k d (omega (arith, l))
+
 -- what holds of each item holds of one in the middle
 pub all_middle : {X : Type 0} (P : X → Type 0) (left : List X) (e : X) (done : List X) → All P ((left ++ e ∷ []) ++ done) → P e
 all_middle P [] e done all = all 0 e (omega arith)
 all_middle P (x ∷ xs) e done all = all_middle P xs e done (λ k d l. all (suc k) d (omega (arith, l)))
+
+pub all_last : {X : Type 0} (P : X → Type 0) (xs : List X) (x : X) → All P (xs ++ x ∷ []) → P x
+all_last P [] x all = all 0 x (omega arith)
+all_last P (y ∷ ys) x all = all_last P ys x (λ k d l. all (suc k) d (omega (arith, l)))

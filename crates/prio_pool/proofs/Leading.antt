@@ -1,5 +1,5 @@
 -- One job more at the end of a list that leads from a world to another.
-use Rattle.std.proofs.Common.{◌≡◌, List, [], ◌∷◌, ◌++◌, refl, sym, subst}
+use Rattle.std.proofs.Common.{List, [], ◌∷◌, ◌++◌, refl, sym, subst}
 use Rattle.fan_base.specs.declared.number.JobId.{JobId}
 use Rattle.fan_base.specs.declared.number.Mark.{Mark}
 use Rattle.job_trait.specs.Runs.{Ran, Through, Leads}

@@ -1,12 +1,12 @@
 -- What a turn at the lock did, for each kind of deed.
-use Rattle.std.proofs.Common.{◌≡◌, ℕ, ◌+◌, ◌<◌, List, [], ◌∷◌, ◌++◌, length, map, set, refl, sym, ap, ◌∙◌, subst, get_or-set_same}
+use Rattle.std.proofs.Common.{◌≡◌, ◌≢◌, ℕ, ◌+◌, ◌<◌, List, [], ◌∷◌, ◌++◌, length, map, set, refl, sym, ap, ◌∙◌, subst, get_or-set_same}
 use mathlib.Core.Option.{none}
 use mathlib.Core.List.{map-append}
 use Rattle.atomic_table.specs.Table.{Me, step, rest, Allows}
 use Rattle.job_trait.specs.declared.job.Head.{Head}
 use Rattle.prio_pool.specs.declared.row.Row.{Row}
 use Rattle.prio_pool.specs.declared.row.Ending.{Ending}
-use Rattle.prio_pool.specs.declared.row.Ending.TheVariants.{Stops}
+use Rattle.prio_pool.specs.declared.row.Ending.TheVariants.{Open, Stops}
 use Rattle.prio_pool.specs.declared.row.Deed.{Deed}
 use Rattle.prio_pool.specs.declared.row.Deed.TheVariants.{Accepts, Takes, Begins, Looks}
 use Rattle.prio_pool.specs.declared.row.Turn.TheVariants.{Away, Inside}
@@ -17,8 +17,8 @@ use Rattle.prio_pool.specs.declared.row.Plan.{Plan}
 use Rattle.prio_pool.specs.declared.lane.Task.{Task}
 use Rattle.prio_pool.specs.Tasks.{Queued}
 use Rattle.prio_pool.specs.Lanes.{lane_at, row_of, TakesFirst}
-use Rattle.prio_pool.specs.History.{waiting_in, ending_of}
-use Rattle.prio_pool.specs.Rule.{Stands, Agrees, Kept, Enters, at_turn, left, leaves, last_of, first_of, worker_of, IsOwnDeed, accept_deed, take_deed, begin_deed, look_deed}
+use Rattle.prio_pool.specs.History.{waiting_in, ending_of, past_of}
+use Rattle.prio_pool.specs.Rule.{Stands, Agrees, Kept, Enters, at_turn, left, leaves, last_of, first_of, worker_of, adder_of, IsOwnDeed, accept_deed, take_deed, begin_deed, look_deed}
 use Rattle.prio_pool.specs.Passing.{Did}
 use Rattle.prio_pool.proofs.Deeds.{own_agrees}
 use Rattle.prio_pool.proofs.Standing.{last_of-append, stands_looks, stands_begins, stands_accepts, stands_takes, takes_first}
@@ -93,6 +93,10 @@ module _ {J : Type 0} (head : J → Head) (v : View) (n : ℕ) (me : Me (Queued 
     pub taken : Stands head v.queues (Takes (worker_of v.role) (row_of head t) ∷ e.past) q
     taken = stands_takes head v.queues (worker_of v.role) e.past e.state t q e.stands from_state
 
+    pub took_open : (later : Me (Queued J) View) → x.ending ≢ Stops → later ≡ (left (take_deed (with_slot q)) me.0, []) → ending_of (past_of later.0.seen) ≢ Stops
+    took_open later going place stopped =
+        going (ap (λ (y : Queued J). y.ending) was ∙ (e.stands.ending ∙ (sym (ap (λ (m : Me (Queued J) View). ending_of (past_of m.0.seen)) place ∙ ap (λ (m : Me (Queued J) View). ending_of m.0.seen) e.place) ∙ stopped)))
+
     pub takes_it : take_deed (inside q) ≡ Takes (worker_of v.role) (row_of head t)
     takes_it = ap (λ (l : List Row). Takes (worker_of v.role) (first_of l)) (takes_first head v.queues e.past e.state t q e.stands from_state)
 
@@ -113,15 +117,18 @@ module _ {J : Type 0} (head : J → Head) (v : View) (n : ℕ) (me : Me (Queued 
       (has_left q look_deed Looks later refl (looked q x same was) tt place, ap ending_of seen ∙ (sym e.stands.ending ∙ (ap (λ (y : Queued J). y.ending) (sym was) ∙ is)))
 
   -- a begin
-  module _ (ending : Ending) (x q : Queued J) (was : x ≡ e.state) (is : q ≡ record { lanes = x.lanes; ending = ending; touched = x.touched }) where
+  module _ (ending : Ending) (x q : Queued J) (was : x ≡ e.state) (is : q ≡ record { lanes = x.lanes; ending = ending; touched = x.touched }) (real : ending ≢ Open) where
     pub begun : Stands head v.queues (Begins ending ∷ e.past) q
-    begun = subst (Stands head v.queues (Begins ending ∷ e.past)) (sym (is ∙ ap (λ (y : Queued J). record { lanes = y.lanes; ending = ending; touched = y.touched }) was)) (stands_begins head v.queues e.past e.state ending e.stands)
+    begun = subst (Stands head v.queues (Begins ending ∷ e.past)) (sym (is ∙ ap (λ (y : Queued J). record { lanes = y.lanes; ending = ending; touched = y.touched }) was)) (stands_begins head v.queues e.past e.state ending real e.stands)
 
     pub begins_it : begin_deed (inside q) ≡ Begins ending
     begins_it = ap (λ (y : Queued J). Begins y.ending) is
 
 pub own_take : (r : Role) (row : Row) → r ≡ Worker (worker_of r) → IsOwnDeed (Takes (worker_of r) row) r
 own_take r row is = subst (λ (q : Role). IsOwnDeed (Takes (worker_of r) row) q) (sym is) refl
+
+pub own_begin : (r : Role) (e : Ending) → r ≡ Adder (adder_of r) → IsOwnDeed (Begins e) r
+own_begin r e is = subst (λ (q : Role). IsOwnDeed (Begins e) q) (sym is) tt
 
 pub own_accept : (r : Role) (row : Row) → r ≡ Adder row.ticket.adder → IsOwnDeed (Accepts row) r
 own_accept r row is = subst (λ (q : Role). IsOwnDeed (Accepts row) q) (sym is) refl

@@ -8,8 +8,12 @@ pub mod Parting
 pub mod Leaving
 pub mod Adding
 pub mod Records
+pub mod Heeding
+pub mod Ascending
+pub mod Queues
 pub mod Gathers
 pub mod Accounts
+pub mod Accounting
 pub mod Endings
 pub mod Making
 pub mod Leading

@@ -15,12 +15,12 @@ use Rattle.prio_pool.specs.declared.row.Ending.TheVariants.{Open}
 use Rattle.prio_pool.specs.declared.row.Turn.{Turn}
 use Rattle.prio_pool.specs.declared.row.Turn.TheVariants.{Away, Waiting, Inside}
 use Rattle.prio_pool.specs.declared.row.Role.{Role}
-use Rattle.prio_pool.specs.declared.row.Role.TheVariants.{Making, Adder, Worker, Joined, Nobody}
+use Rattle.prio_pool.specs.declared.row.Role.TheVariants.{Making, Adder, Ender, Worker, Joined, Nobody}
 use Rattle.prio_pool.specs.declared.row.View.{View}
 use Rattle.prio_pool.specs.declared.row.Plan.{Plan}
 use Rattle.prio_pool.specs.Tasks.{Queued}
 use Rattle.prio_pool.specs.Lanes.{weigh_all}
-use Rattle.prio_pool.specs.History.{accepted_of, taken_of, Since, weigh}
+use Rattle.prio_pool.specs.History.{accepted_of, taken_of, Since, AllSince, weigh}
 use Rattle.prio_pool.specs.Rule.{Stands, Agrees, Fits, AreOtherTurns, AreOtherRoles, AreApart, parts_of, adds_weight, taken_weight, total, IsInside, LiesIn, Kept, first_view, adder_made, new_adder, worker_made, new_worker, one_less, one_part, together, nobody}
 use Rattle.prio_pool.proofs.Totals.{total-set, total-snoc, total_at, total_one, weigh-append}
 use Rattle.prio_pool.proofs.Seats.{each_set, pairs_set, each_snoc, pairs_snoc}
@@ -38,6 +38,7 @@ adder_apart : (a w : ℕ) (r : Role) → AreOtherRoles (Making a w) r → AreOth
     → (AreOtherRoles (Making (a + 1) w) r × AreOtherRoles r (Making (a + 1) w)) × (AreOtherRoles (Adder a) r × AreOtherRoles r (Adder a))
 adder_apart a w (Making b x) one other = absurd one
 adder_apart a w (Adder b) one other = ((omega (arith, one), omega (arith, one)), ((λ e. omega (arith, one, e)), (λ e. omega (arith, one, e))))
+adder_apart a w (Ender b) one other = ((omega (arith, one), omega (arith, one)), ((λ e. omega (arith, one, e)), (λ e. omega (arith, one, e))))
 adder_apart a w (Worker b) one other = ((one, one), (tt, tt))
 adder_apart a w Joined one other = ((tt, tt), (tt, tt))
 adder_apart a w Nobody one other = ((tt, tt), (tt, tt))
@@ -46,12 +47,14 @@ worker_apart : (a w : ℕ) (r : Role) → AreOtherRoles (Making a w) r → AreOt
     → (AreOtherRoles (Making a (w + 1)) r × AreOtherRoles r (Making a (w + 1))) × (AreOtherRoles (Worker w) r × AreOtherRoles r (Worker w))
 worker_apart a w (Making b x) one other = absurd one
 worker_apart a w (Adder b) one other = ((one, one), (tt, tt))
+worker_apart a w (Ender b) one other = ((one, one), (tt, tt))
 worker_apart a w (Worker b) one other = ((omega (arith, one), omega (arith, one)), ((λ e. omega (arith, one, e)), (λ e. omega (arith, one, e))))
 worker_apart a w Joined one other = ((tt, tt), (tt, tt))
 worker_apart a w Nobody one other = ((tt, tt), (tt, tt))
 
 from_joined : (r : Role) → AreOtherRoles r Joined × AreOtherRoles r Nobody
 from_joined (Making a w) = (tt, tt)
+from_joined (Ender a) = (tt, tt)
 from_joined (Adder a) = (tt, tt)
 from_joined (Worker w) = (tt, tt)
 from_joined Joined = (tt, tt)
@@ -98,7 +101,7 @@ module _ {J : Type 0} (head : J → Head) (plan : Plan) where
     order = omega arith;
     bound = omega arith;
     slot = inl (record { lanes = replicate plan.queues []; ending = Open; touched = 0 }, refl, stands_first head plan.queues, each_one (λ u. ¬ (IsInside u.turn)) (first_view plan) (λ e. e));
-    each = each_one (Fits plan.queues 0 []) (first_view plan) record { queues = λ _. refl; turn = tt; past = ([], refl); role = (refl, refl, (λ b le. refl), (λ b le. refl)); idle = λ _. (refl, refl, refl) };
+    each = each_one (Fits plan.queues 0 []) (first_view plan) record { queues = λ _. refl; turn = tt; past = ([], refl); role = (refl, refl, (λ b le. refl), (λ b le. refl)); idle = λ _. (refl, refl, refl); heard = tt };
     pairs = λ i j v w apart there here. absurd (apart (only_one (first_view plan) i v there ∙ sym (only_one (first_view plan) j w here)));
     parts = omega arith;
     accepted = λ h. refl;
@@ -138,8 +141,8 @@ module _ {J : Type 0} (head : J → Head) (plan : Plan) where
         slot = slot_more k.past s.homes (set s.views id l) r (λ e. e) (slot_stays head plan k.past s.homes s.views id v l at still still k.slot);
         each = each_snoc (Fits plan.queues k.drawn k.past) (set s.views id l) r
             (each_set (λ _. Unit {0}) (Fits plan.queues k.drawn k.past) s.views id l (λ j u _ there. k.each j u there)
-            record { queues = λ _. x.queues live; turn = x.turn; past = x.past; role = subst (λ (p : List Row × List Row). Agrees k.past (f v.role) p.0 p.1) (λ i. (sym no_adds i, sym no_taken i)) role.0; idle = λ _. (no_adds, no_taken, out) })
-            record { queues = λ _. x.queues live; turn = tt; past = x.past; role = role.1; idle = λ _. (refl, refl, refl) };
+            record { queues = λ _. x.queues live; turn = x.turn; past = x.past; role = subst (λ (p : List Row × List Row). Agrees k.past (f v.role) p.0 p.1) (λ i. (sym no_adds i, sym no_taken i)) role.0; idle = λ _. (no_adds, no_taken, out); heard = x.heard })
+            record { queues = λ _. x.queues live; turn = tt; past = x.past; role = role.1; idle = λ _. (refl, refl, refl); heard = tt };
         pairs = pairs_snoc AreApart (set s.views id l) r
             (pairs_set AreApart s.views id l (λ i j u w d _ _ there here. k.pairs i j u w d there here)
             (λ j u other there. let one = k.pairs id j v u (λ e. other (sym e)) at there in let two = k.pairs j id u v other there at in let rs = apart u.role one.roles two.roles in
@@ -182,7 +185,7 @@ module _ {J : Type 0} (head : J → Head) (plan : Plan) where
       let still' : ¬ (IsInside w.turn) = subst (λ (t : Turn). ¬ (IsInside t)) (sym out') (λ e. e) in
       let one = set s.views id b in
       let one_each : (j : ℕ) (u : View) → get_elem? one j ≡ some u → Fits plan.queues k.drawn k.past u =
-      each_set (λ _. Unit {0}) (Fits plan.queues k.drawn k.past) s.views id b (λ j u _ at'. k.each j u at') record { queues = λ _. x.queues live; turn = tt; past = x.past; role = tt; idle = λ e. absurd (omega (arith, e, live)) }
+      each_set (λ _. Unit {0}) (Fits plan.queues k.drawn k.past) s.views id b (λ j u _ at'. k.each j u at') record { queues = λ _. x.queues live; turn = tt; past = x.past; role = tt; idle = λ e. absurd (omega (arith, e, live)); heard = (y.past, x.heard) }
       in
       let one_pairs : (i j : ℕ) (u z : View) → i ≢ j → get_elem? one i ≡ some u → get_elem? one j ≡ some z → AreApart u z =
       pairs_set AreApart s.views id b (λ i j u z d _ _ at' here'. k.pairs i j u z d at' here')
@@ -199,7 +202,7 @@ module _ {J : Type 0} (head : J → Head) (plan : Plan) where
         bound = k.bound;
         slot = slot_stays head plan k.past s.homes one other w nobody there still' (λ e. e) (slot_stays head plan k.past s.homes s.views id v b at still (λ e. e) k.slot);
         each = each_set (λ _. Unit {0}) (Fits plan.queues k.drawn k.past) one other nobody (λ j u _ at'. one_each j u at')
-            record { queues = λ e. absurd (omega (arith, e)); turn = tt; past = (k.past, sym (append-nil k.past)); role = (refl, refl); idle = λ _. (refl, refl, refl) };
+            record { queues = λ e. absurd (omega (arith, e)); turn = tt; past = (k.past, sym (append-nil k.past)); role = (refl, refl); idle = λ _. (refl, refl, refl); heard = tt };
         pairs = pairs_set AreApart one other nobody (λ i j u z d _ _ at' here'. one_pairs i j u z d at' here')
             (λ j u _ at'. let ts = away u.turn in (record { turns = ts.0; roles = tt }, record { turns = ts.1; roles = (from_joined u.role).1 }));
         parts = omega arith;
@@ -226,6 +229,8 @@ module _ {J : Type 0} (head : J → Head) (plan : Plan) where
     pub stands : Stands head plan.queues past state
     pub balanced : (h : Row → ℕ) → weigh h v.adds ≡ weigh h v.taken + weigh_all head h state.lanes
     pub seen : Since v.seen past
+    pub heard : AllSince v.heard past
+    pub accepted : (h : Row → ℕ) → weigh h v.adds ≡ weigh h (accepted_of past)
 
   pub knows_all : (s : St) (id : ℕ) (v : View) → Rule s → get_elem? s.views id ≡ some v → v.parts ≡ plan.passes → v.turn ≡ Away → Whole v s
   knows_all s id v k at all out =
@@ -238,7 +243,7 @@ module _ {J : Type 0} (head : J → Head) (plan : Plan) where
       in
       ⊎_elim
       (λ (h : (q : Queued J) × (s.homes ≡ some q ∷ []) × Stands head plan.queues k.past q × ((i : ℕ) (u : View) → get_elem? s.views i ≡ some u → ¬ (IsInside u.turn))).
-      record { past = k.past; few = (let b = weigh_accepted_of k.past in let c = a (λ _. 1) in let d = k.order in let e = k.bound in omega arith); state = h.0; home = h.1; stands = h.2; balanced = λ f. a f ∙ (h.2.balanced f ∙ ap (λ (n : ℕ). n + weigh_all head f h.0.lanes) (sym (t f))); seen = (k.each id v at).past })
+      record { past = k.past; few = (let b = weigh_accepted_of k.past in let c = a (λ _. 1) in let d = k.order in let e = k.bound in omega arith); state = h.0; home = h.1; stands = h.2; balanced = λ f. a f ∙ (h.2.balanced f ∙ ap (λ (n : ℕ). n + weigh_all head f h.0.lanes) (sym (t f))); seen = (k.each id v at).past; heard = (k.each id v at).heard; accepted = a })
       (λ (o : (s.homes ≡ none ∷ []) × ((i : ℕ) × (u : View) × (get_elem? s.views i ≡ some u) × IsInside u.turn)).
       let i = o.1.0 in let u = o.1.1 in let there = o.1.2 in let ins = o.1.3 in
       absurd (dite (ℕ_discrete i id)

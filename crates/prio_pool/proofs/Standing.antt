@@ -1,5 +1,5 @@
 -- The queues after each kind of deed are what the longer history leaves.
-use Rattle.std.proofs.Common.{◌≡◌, ℕ, zero, suc, ◌+◌, ◌<◌, List, [], ◌∷◌, ◌++◌, map, length, drop, eqb, set, refl, sym, ap, ◌∙◌, subst, arith, eq-eqb, ne_eqb, length-set, get_or-set_other, get_or-set_same}
+use Rattle.std.proofs.Common.{◌≡◌, ◌≢◌, ℕ, zero, suc, ◌+◌, ◌<◌, List, [], ◌∷◌, ◌++◌, map, length, drop, eqb, set, refl, sym, ap, ◌∙◌, subst, arith, eq-eqb, ne_eqb, length-set, get_or-set_other, get_or-set_same}
 use Rattle.std.specs.Prelude.{cond, replicate}
 use mathlib.Core.Logic.{dite}
 use mathlib.Core.List.{map-append}
@@ -79,8 +79,8 @@ module _ {J : Type 0} (head : J → Head) where
   pub stands_looks : (n : ℕ) (past : List Deed) (q : Queued J) → Stands head n past q → Stands head n (Looks ∷ past) q
   stands_looks n past q s = record { lawful = s.lawful; count = s.count; lanes = s.lanes; ending = s.ending; balanced = s.balanced }
 
-  pub stands_begins : (n : ℕ) (past : List Deed) (q : Queued J) (e : Ending) → Stands head n past q → Stands head n (Begins e ∷ past) record { lanes = q.lanes; ending = e; touched = q.touched }
-  stands_begins n past q e s = record { lawful = s.lawful; count = s.count; lanes = s.lanes; ending = refl; balanced = s.balanced }
+  pub stands_begins : (n : ℕ) (past : List Deed) (q : Queued J) (e : Ending) → e ≢ Open → Stands head n past q → Stands head n (Begins e ∷ past) record { lanes = q.lanes; ending = e; touched = q.touched }
+  stands_begins n past q e real s = record { lawful = (real, s.lawful); count = s.count; lanes = s.lanes; ending = refl; balanced = s.balanced }
 
   pub stands_accepts : (n : ℕ) (past : List Deed) (q : Queued J) (t : Task J) → Stands head n past q → t.queue < n → t.ticket.index ≡ length (accepted_by t.ticket.adder past)
       → Stands head n (Accepts (row_of head t) ∷ past) record { lanes = set q.lanes t.queue (lane_at q.lanes t.queue ++ t ∷ []); ending = q.ending; touched = t.queue }

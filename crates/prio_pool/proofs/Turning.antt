@@ -20,7 +20,7 @@ use Rattle.prio_pool.specs.History.{accepted_of, taken_of, weigh}
 use Rattle.prio_pool.specs.Rule.{bounds, Stands, InTurn, Fits, AreOtherTurns, AreApart, parts_of, adds_weight, taken_weight, IsInside, LiesIn, Kept, at_turn, number_of, left, IsOwnDeed, draws, looks, leaves}
 use Rattle.prio_pool.proofs.Totals.{total-set, total_at, weigh-append}
 use Rattle.prio_pool.proofs.Seats.{set_at, each_set, pairs_set}
-use Rattle.prio_pool.proofs.Deeds.{others_fit, own_agrees, weigh_accepted, weigh_taken}
+use Rattle.prio_pool.proofs.Deeds.{others_fit, heard_more, own_agrees, role_apart, apart_role, weigh_accepted, weigh_taken}
 
 -- a seat keeps its place in the turns when more numbers are drawn
 more_in_turn : (drawn drawn' : ℕ) (now seen : List Deed) (turn : Turn) → drawn ≤ drawn' → InTurn drawn now seen turn → InTurn drawn' now seen turn
@@ -29,7 +29,7 @@ more_in_turn drawn drawn' now seen (Waiting n) le was = (was.0, omega (arith, wa
 more_in_turn drawn drawn' now seen (Inside n) le was = (was.0, omega (arith, was.1, le), was.2)
 
 more_drawn : (count drawn drawn' : ℕ) (now : List Deed) (u : View) → drawn ≤ drawn' → Fits count drawn now u → Fits count drawn' now u
-more_drawn count drawn drawn' now u le f = record { queues = f.queues; turn = more_in_turn drawn drawn' now u.seen u.turn le f.turn; past = f.past; role = f.role; idle = f.idle }
+more_drawn count drawn drawn' now u le f = record { queues = f.queues; turn = more_in_turn drawn drawn' now u.seen u.turn le f.turn; past = f.past; role = f.role; idle = f.idle; heard = f.heard }
 
 -- a number that wasn't drawn is no other seat's
 new_number : (drawn : ℕ) (now seen : List Deed) (turn : Turn) → InTurn drawn now seen turn → AreOtherTurns (Waiting drawn) turn × AreOtherTurns turn (Waiting drawn)
@@ -144,7 +144,7 @@ module _ {J : Type 0} (head : J → Head) (plan : Plan) where
             (moved s k id v w at k.past (n + 1) (set s.words 0 (n + 1)) s.homes (ap (λ (ws : List ℕ). set ws 0 (n + 1)) k.words) (omega arith) (omega arith)
             (slot_stays k.past s.homes s.views id v w at (subst (λ t. ¬ (IsInside t)) (sym away) (λ e. e)) (λ e. e) k.slot)
             (λ u _ g. more_drawn plan.queues k.drawn (n + 1) k.past u (omega arith) g)
-            record { queues = f.queues; turn = (omega arith, omega arith); past = f.past; role = f.role; idle = λ none_left. absurd (omega (arith, none_left, live)) }
+            record { queues = f.queues; turn = (omega arith, omega arith); past = f.past; role = f.role; idle = λ none_left. absurd (omega (arith, none_left, live)); heard = f.heard }
             (λ u g a b. let new = subst (λ m. AreOtherTurns (Waiting m) u.turn × AreOtherTurns u.turn (Waiting m)) d (new_number k.drawn k.past u.seen u.turn g.turn) in
             (record { turns = new.0; roles = a.roles }, record { turns = new.1; roles = b.roles }))
             refl (λ h. refl) (λ h. refl)),
@@ -177,7 +177,7 @@ module _ {J : Type 0} (head : J → Head) (plan : Plan) where
         moved s k id v w at k.past k.drawn (set s.words 1 x) (set s.homes 0 none) (same_word s k 1 (omega arith)) k.order k.bound
             (inr (ap (λ (hs : List (Option (Queued J))). set hs 0 none) h.1, (id, w, set_at s.views id v w at, tt)))
             (λ u _ g. g)
-            record { queues = f.queues; turn = (served ∙ sym number, omega (arith, mine.1, number), refl); past = ([], refl); role = f.role; idle = λ none_left. absurd (omega (arith, none_left, live)) }
+            record { queues = f.queues; turn = (served ∙ sym number, omega (arith, mine.1, number), refl); past = ([], refl); role = f.role; idle = λ none_left. absurd (omega (arith, none_left, live)); heard = f.heard }
             (λ u g a b. let in_now = subst (λ m. AreOtherTurns (Inside m) u.turn × AreOtherTurns u.turn (Inside m)) (sym number) (goes_inside n u.turn (subst (λ t. AreOtherTurns t u.turn) waits a.turns) (subst (AreOtherTurns u.turn) waits b.turns)) in
             (record { turns = in_now.0; roles = a.roles }, record { turns = in_now.1; roles = b.roles }))
             refl (λ e. refl) (λ e. refl),
@@ -220,8 +220,8 @@ module _ {J : Type 0} (head : J → Head) (plan : Plan) where
             (ap (λ (ws : List ℕ). set ws 1 (n + 1)) k.words ∙ ap (λ (m : ℕ). k.drawn ∷ m ∷ []) (sym later)) (omega (arith, mine.1, later)) k.bound
             (inl (q, ap (λ (hs : List (Option (Queued J))). set hs 0 (some q)) homes, stands', nobody))
             (λ u apart g. others_fit plan.queues n k.drawn d k.past v u served inside own apart g)
-            record { queues = f.queues; turn = tt; past = ([], ap (λ (l : List Deed). d ∷ l) (sym mine.2)); role = own_agrees d v.role k.past v.adds v.taken own f.role; idle = λ none_left. absurd (omega (arith, none_left, live)) }
-            (λ u g a b. (record { turns = tt; roles = a.roles }, record { turns = is_away u.turn; roles = b.roles }))
+            record { queues = f.queues; turn = tt; past = ([], ap (λ (l : List Deed). d ∷ l) (sym mine.2)); role = own_agrees d v.role k.past v.adds v.taken own f.role; idle = λ none_left. absurd (omega (arith, none_left, live)); heard = heard_more d v.heard k.past f.heard }
+            (λ u g a b. (record { turns = tt; roles = role_apart d v.role u.role a.roles }, record { turns = is_away u.turn; roles = apart_role d v.role u.role b.roles }))
             refl (λ h. weigh_accepted d k.past v.adds h) (λ h. weigh_taken d k.past v.taken h),
         refl,
       )

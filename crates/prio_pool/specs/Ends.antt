@@ -1,6 +1,7 @@
 -- What is said of the ends of workers and helpers.
+use Rattle.std.specs.Prelude.{ℕ}
 use Rattle.prio_pool.specs.History.{IsLawful, ending_of, taken_by}
-use Rattle.prio_pool.specs.Record.{AreRunsOf}
+use Rattle.prio_pool.specs.Record.{AreRunsOf, Ascend, tickets_in}
 use Rattle.prio_pool.specs.Seen.{EndSeen}
 use Rattle.prio_pool.specs.Turned.{MayEnd}
 
@@ -12,3 +13,7 @@ pub record IsFaithful (e : EndSeen) : Type 0 where
 -- a join had begun and no task waited in any queue, or a stop had begun
 pub record HadToEnd (e : EndSeen) : Type 0 where
   pub ended : MayEnd (ending_of e.seen) e.seen
+
+-- in each queue the tickets of each adder ascend
+pub record TicketsAscend (e : EndSeen) : Type 0 where
+  pub ascend : (q : ℕ) → Ascend (tickets_in q e.records)

@@ -8,7 +8,7 @@ use Rattle.prio_pool.specs.declared.row.Turn.TheVariants.{Away}
 use Rattle.prio_pool.specs.declared.row.View.{View}
 use Rattle.prio_pool.specs.Tasks.{Queued}
 use Rattle.prio_pool.specs.Lanes.{weigh_all}
-use Rattle.prio_pool.specs.History.{weigh}
+use Rattle.prio_pool.specs.History.{accepted_of, Since, AllSince, weigh}
 use Rattle.prio_pool.specs.Record.{Record, AreRunsOf}
 use Rattle.prio_pool.specs.Seen.{PassSeen, EndSeen, numbered}
 use Rattle.prio_pool.specs.Rule.{Stands}
@@ -22,6 +22,11 @@ passes_weight h (p ∷ ps) = weigh h (numbered p.number 0 p.adds) + passes_weigh
 abbrev pub records_of : List EndSeen → List Record
 records_of [] = []
 records_of (e ∷ es) = e.records ++ records_of es
+
+-- the histories that these ends saw last
+abbrev pub seens_of : List EndSeen → List (List Deed)
+seens_of [] = []
+seens_of (e ∷ es) = e.seen ∷ seens_of es
 
 -- a seat away from the lock has so many parts, knows all tasks of these passes, and these are the records of what it took
 pub record IsGathered {J : Type 0} (parts : ℕ) (passes : List PassSeen) (records : List Record) (me : Me (Queued J) View) : Type 0 where
@@ -51,3 +56,6 @@ pub record IsLeft {J : Type 0} (head : J → Head) (queues : ℕ) (v : View) (q 
   pub few : weigh (λ _. 1) v.adds ≤ 4611686018427387904
   pub stands : Stands head queues past q
   pub balanced : (h : Row → ℕ) → weigh h v.adds ≡ weigh h v.taken + weigh_all head h q.lanes
+  pub seen : Since v.seen past
+  pub heard : AllSince v.heard past
+  pub accepted : (h : Row → ℕ) → weigh h v.adds ≡ weigh h (accepted_of past)

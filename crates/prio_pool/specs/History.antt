@@ -1,8 +1,8 @@
 -- The history of a pool, the newest deed first, and what it says of each adder, worker and queue.
-use Rattle.std.specs.Prelude.{◌≡◌, ℕ, ◌+◌, ◌<◌, List, [], ◌∷◌, ◌++◌, length, drop, ◌==◌, cond}
+use Rattle.std.specs.Prelude.{◌≡◌, ◌≢◌, ℕ, zero, suc, ◌+◌, ◌<◌, List, [], ◌∷◌, ◌++◌, length, drop, ◌==◌, cond}
 use Rattle.prio_pool.specs.declared.row.Row.{Row}
 use Rattle.prio_pool.specs.declared.row.Ending.{Ending}
-use Rattle.prio_pool.specs.declared.row.Ending.TheVariants.{Open}
+use Rattle.prio_pool.specs.declared.row.Ending.TheVariants.{Open, Stops}
 use Rattle.prio_pool.specs.declared.row.Deed.{Deed}
 use Rattle.prio_pool.specs.declared.row.Deed.TheVariants.{Accepts, Takes, Begins, Looks}
 
@@ -59,12 +59,35 @@ abbrev pub IsLawful : ℕ → List Deed → Type 0
 IsLawful queues [] = Unit {0}
 IsLawful queues (Accepts r ∷ past) = (r.ticket.index ≡ length (accepted_by r.ticket.adder past)) × (r.queue < queues) × IsLawful queues past
 IsLawful queues (Takes w r ∷ past) = ((rest : List Row) × (waiting_in r.queue past ≡ r ∷ rest)) × ((q : ℕ) → r.queue < q → waiting_in q past ≡ []) × IsLawful queues past
-IsLawful queues (Begins e ∷ past) = IsLawful queues past
+IsLawful queues (Begins e ∷ past) = (e ≢ Open) × IsLawful queues past
 IsLawful queues (Looks ∷ past) = IsLawful queues past
+
+-- the history before its newest deed
+abbrev pub past_of : List Deed → List Deed
+past_of [] = []
+past_of (d ∷ past) = past
+
+-- this worker took no task after a stop had begun
+abbrev pub HeedsStop : ℕ → List Deed → Type 0
+HeedsStop n [] = Unit {0}
+HeedsStop n (Accepts r ∷ past) = HeedsStop n past
+HeedsStop n (Takes w r ∷ past) = (w ≡ n → ending_of past ≢ Stops) × HeedsStop n past
+HeedsStop n (Begins e ∷ past) = HeedsStop n past
+HeedsStop n (Looks ∷ past) = HeedsStop n past
 
 -- the history goes on from what was seen
 abbrev pub Since : List Deed → List Deed → Type 0
 Since seen now = (later : List Deed) × (now ≡ later ++ seen)
+
+-- it goes on from each of these
+abbrev pub AllSince : List (List Deed) → List Deed → Type 0
+AllSince [] now = Unit {0}
+AllSince (seen ∷ more) now = Since seen now × AllSince more now
+
+-- the tasks that wait in so many queues from the queue k on, from the highest queue to the lowest, each in order of acceptance
+abbrev pub waiting_from : ℕ → ℕ → List Deed → List Row
+waiting_from k zero past = []
+waiting_from k (suc n) past = waiting_from (k + 1) n past ++ waiting_in k past
 
 -- added up over the tasks
 abbrev pub weigh : (Row → ℕ) → List Row → ℕ

@@ -1,6 +1,7 @@
 pub mod Priority
 pub mod History
 pub mod Record
+pub mod Queues
 pub mod Tasks
 pub mod Lanes
 pub mod Looks
@@ -20,3 +21,4 @@ pub mod Ran
 pub mod Ended
 pub mod Made
 pub mod Making
+pub mod RunBack

@@ -1,5 +1,5 @@
 -- A pool as it is made.
-use Rattle.std.specs.Prelude.{◌≡◌, ℕ, ◌<◌, List, [], length, slice_index_or, All}
+use Rattle.std.specs.Prelude.{◌≡◌, ℕ, ◌+◌, ◌<◌, List, [], length, slice_index_or, All}
 use Rattle.fan_base.specs.declared.number.ExecId.{ExecId}
 use Rattle.keep_alive.specs.Seen.{TokenSeen, OwnerSeen}
 use Rattle.prio_pool.specs.Seen.{PoolId, PoolSeen, PassSeen, WorkerSeen, EndSeen}
@@ -9,11 +9,15 @@ pub record AreNewPasses (pool : PoolId) (count : ℕ) (passes : List PassSeen) :
   pub count_is : length passes ≡ count
   pub each : (k : ℕ) (d : PassSeen) → k < length passes → slice_index_or passes k d ≡ record { pool = pool; number = k; adds = [] }
 
+-- the passes of this pool's workers have the numbers 0, 1, 2, and so on
 pub record AreNewWorkers (pool : PoolId) (count : ℕ) (passes : List WorkerSeen) : Type 0 where
+  pub each : (k : ℕ) (d : WorkerSeen) → k < length passes → slice_index_or passes k d ≡ record { pool = pool; number = k }
   pub count_is : length passes ≡ count
   pub of_pool : All (λ p. p.pool ≡ pool) passes
 
-pub record AreNewHelpers (pool : PoolId) (count : ℕ) (passes : List EndSeen) : Type 0 where
+-- the passes of this pool's helpers have the numbers from the first on, no records, and have seen nothing
+pub record AreNewHelpers (pool : PoolId) (first count : ℕ) (passes : List EndSeen) : Type 0 where
+  pub each : (k : ℕ) (d : EndSeen) → k < length passes → slice_index_or passes k d ≡ record { pool = pool; number = first + k; records = []; seen = [] }
   pub count_is : length passes ≡ count
   pub of_pool : All (λ p. p.pool ≡ pool) passes
   pub idle : All (λ p. p.records ≡ []) passes
@@ -29,4 +33,4 @@ pub record IsNewPool (exec : ExecId) (priorities adders workers helpers room : �
   pub keep_is : keep ≡ record { count = pool.count; room = room }
   pub passes_are : AreNewPasses pool.id adders passes
   pub works_are : AreNewWorkers pool.id workers works
-  pub helps_are : AreNewHelpers pool.id helpers helps
+  pub helps_are : AreNewHelpers pool.id workers helpers helps

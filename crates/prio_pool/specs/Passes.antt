@@ -1,7 +1,7 @@
 -- What a seat stands for in a pass.
 use Rattle.std.specs.Prelude.{◌≡◌, ℕ, ◌≤◌, List, [], ◌∷◌, map, length}
 use Rattle.atomic_table.specs.Table.{Me}
-use Rattle.prio_pool.specs.declared.row.Role.TheVariants.{Adder, Worker}
+use Rattle.prio_pool.specs.declared.row.Role.TheVariants.{Adder, Ender, Worker}
 use Rattle.prio_pool.specs.declared.row.Turn.TheVariants.{Away}
 use Rattle.prio_pool.specs.declared.row.Deed.{Deed}
 use Rattle.prio_pool.specs.declared.row.View.{View}
@@ -32,6 +32,15 @@ pub record IsAdder (number count : ℕ) (v : View) : Type 0 where
   pub adds : v.adds ≡ numbered number 0 (map add_of v.adds)
   pub count_is : count ≡ length v.adds
   pub few : length v.adds ≤ 4294967295
+  pub taken : v.taken ≡ []
+
+-- the view of an adder with this number, which added so many tasks, and has set the mark of an end
+pub record IsEnder (number count : ℕ) (v : View) : Type 0 where
+  pub parts : v.parts ≡ 1
+  pub role : v.role ≡ Ender number
+  pub turn : v.turn ≡ Away
+  pub adds : v.adds ≡ numbered number 0 (map add_of v.adds)
+  pub count_is : count ≡ length v.adds
   pub taken : v.taken ≡ []
 
 -- the view of a worker with this number, whose records are of the runs of the tasks that it took

@@ -7,9 +7,9 @@ use Rattle.job_trait.specs.Runs.{Leads}
 use Rattle.prio_pool.specs.declared.row.Ticket.{Ticket}
 use Rattle.prio_pool.specs.declared.row.Row.{Row}
 use Rattle.prio_pool.specs.declared.lane.Task.{Task}
-use Rattle.prio_pool.specs.Lanes.{weigh_all}
+use Rattle.prio_pool.specs.Lanes.{row_of, weigh_all}
 use Rattle.prio_pool.specs.History.{weigh}
-use Rattle.prio_pool.specs.Record.{Record, AreRunsOf, ran_of}
+use Rattle.prio_pool.specs.Record.{Record, IsRunOf, AreRunsOf, ran_of}
 use Rattle.prio_pool.specs.Seen.{PassSeen, EndSeen, add_of}
 use Rattle.prio_pool.specs.Gathering.{records_of}
 
@@ -56,17 +56,34 @@ pub record AreAllAdds (passes : List PassSeen) (rows : List Row) : Type 0 where
   pub once : (k : ℕ) (pass : PassSeen) (index : ℕ) → slice_get passes k ≡ Some pass → index < length pass.adds → rows_with pass.number index rows ≡ 1
   pub many : length rows ≡ adds_total passes
 
--- the records are of the runs of all tasks that the passes added
-pub record AllRan (passes : List PassSeen) (records : List Record) : Type 0 where
-  pub rows : List Row
-  pub runs : AreRunsOf rows records
-  pub all : AreAllAdds passes rows
+-- how many of the records have this ticket
+abbrev pub records_with : ℕ → ℕ → List Record → ℕ
+records_with adder index [] = 0
+records_with adder index (r ∷ rs) = is_ticket adder index r.ticket + records_with adder index rs
 
--- the records and the tasks that are handed back are all that the passes added
+-- how many of the tasks that are handed back have this ticket
+abbrev pub backs_with : {J : Type 0} → ℕ → ℕ → List (Back J) → ℕ
+backs_with adder index [] = 0
+backs_with adder index (b ∷ bs) = is_ticket adder index b.ticket + backs_with adder index bs
+
+-- the record is of the run of a task that the passes added
+pub record IsRunOfAdd (passes : List PassSeen) (r : Record) : Type 0 where
+  pub row : Row
+  pub add : IsAddOf passes row
+  pub run : IsRunOf row r
+
+-- all tasks that the passes added ran: each record is of such a run, each ticket has one record, and there are as many records as adds
+pub record AllRan (passes : List PassSeen) (records : List Record) : Type 0 where
+  pub each : (k : ℕ) (r : Record) → slice_get records k ≡ Some r → IsRunOfAdd passes r
+  pub once : (k : ℕ) (pass : PassSeen) (index : ℕ) → slice_get passes k ≡ Some pass → index < length pass.adds → records_with pass.number index records ≡ 1
+  pub many : length records ≡ adds_total passes
+
+-- all tasks that the passes added ran or are handed back: each ticket has one record or is handed back once, and records and tasks handed back are as many as adds
 pub record AllRanOrBack {J : Type 0} (head : J → Head) (passes : List PassSeen) (records : List Record) (back : List (Back J)) : Type 0 where
-  pub rows : List Row
-  pub runs : AreRunsOf rows records
-  pub all : AreAllAdds passes (rows ++ map (back_row head) back)
+  pub each : (k : ℕ) (r : Record) → slice_get records k ≡ Some r → IsRunOfAdd passes r
+  pub each_back : (k : ℕ) (b : Back J) → slice_get back k ≡ Some b → IsAddOf passes (back_row head b)
+  pub once : (k : ℕ) (pass : PassSeen) (index : ℕ) → slice_get passes k ≡ Some pass → index < length pass.adds → records_with pass.number index records + backs_with pass.number index back ≡ 1
+  pub many : length records + length back ≡ adds_total passes
 
 -- the records are those of the ends and of the helpers' ends, and then some more, whose jobs led in this order from the world w to the world v
 pub record RanTheRest {W : Type 0} (runs : JobId → W → Mark → W → Type 0) (ends helped : List EndSeen) (records : List Record) (w v : W) : Type 0 where
@@ -74,9 +91,10 @@ pub record RanTheRest {W : Type 0} (runs : JobId → W → Mark → W → Type 0
   pub list : records ≡ (records_of ends ++ records_of helped) ++ more
   pub led : Leads runs w (ran_of more) v
 
--- the jobs of the records led from the world w to the world v, and the records are of runs of all tasks of these queues
+-- the jobs of the records led from the world w to the world v, and the records are of runs of all tasks of these queues, from the highest to the lowest
 pub record Drained {J W : Type 0} (head : J → Head) (runs : JobId → W → Mark → W → Type 0) (lanes : List (List (Task J))) (records : List Record) (w v : W) : Type 0 where
   pub rows : List Row
   pub runs_of : AreRunsOf rows records
   pub all : (h : Row → ℕ) → weigh h rows ≡ weigh_all head h lanes
+  pub order : rows ≡ map (row_of head) (all_tasks lanes)
   pub led : Leads runs w (ran_of records) v

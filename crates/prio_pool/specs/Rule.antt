@@ -10,12 +10,12 @@ use Rattle.prio_pool.specs.declared.row.Deed.TheVariants.{Accepts, Takes, Begins
 use Rattle.prio_pool.specs.declared.row.Turn.{Turn}
 use Rattle.prio_pool.specs.declared.row.Turn.TheVariants.{Away, Waiting, Inside}
 use Rattle.prio_pool.specs.declared.row.Role.{Role}
-use Rattle.prio_pool.specs.declared.row.Role.TheVariants.{Making, Adder, Worker, Joined, Nobody}
+use Rattle.prio_pool.specs.declared.row.Role.TheVariants.{Making, Adder, Ender, Worker, Joined, Nobody}
 use Rattle.prio_pool.specs.declared.row.View.{View}
 use Rattle.prio_pool.specs.declared.row.Plan.{Plan}
 use Rattle.prio_pool.specs.Tasks.{Queued}
 use Rattle.prio_pool.specs.Lanes.{lane_at, row_of, weigh_all}
-use Rattle.prio_pool.specs.History.{accepted_of, taken_of, accepted_by, taken_by, waiting_in, ending_of, IsLawful, Since, weigh}
+use Rattle.prio_pool.specs.History.{accepted_of, taken_of, accepted_by, taken_by, waiting_in, ending_of, IsLawful, Since, AllSince, weigh}
 
 -- The queues are what the history leaves: what was accepted was taken or waits, and each queue has its tasks in order of acceptance.
 pub record Stands {J : Type 0} (head : J → Head) (queues : ℕ) (past : List Deed) (q : Queued J) : Type 0 where
@@ -35,6 +35,7 @@ InTurn drawn past seen (Inside n) = (length past ≡ n) × (n < drawn) × (seen 
 abbrev pub Agrees : List Deed → Role → List Row → List Row → Type 0
 Agrees past (Making a w) adds taken = (adds ≡ []) × (taken ≡ []) × ((b : ℕ) → a ≤ b → accepted_by b past ≡ []) × ((b : ℕ) → w ≤ b → taken_by b past ≡ [])
 Agrees past (Adder a) adds taken = (adds ≡ accepted_by a past) × (taken ≡ [])
+Agrees past (Ender a) adds taken = (adds ≡ accepted_by a past) × (taken ≡ [])
 Agrees past (Worker w) adds taken = (adds ≡ []) × (taken ≡ taken_by w past)
 Agrees past Joined adds taken = Unit {0}
 Agrees past Nobody adds taken = (adds ≡ []) × (taken ≡ [])
@@ -49,6 +50,7 @@ pub record Fits (count drawn : ℕ) (now : List Deed) (v : View) : Type 0 where
   pub past : Since v.seen now
   pub role : Agrees now v.role v.adds v.taken
   pub idle : IsIdle v
+  pub heard : AllSince v.heard now
 
 -- the numbers of two seats at the lock
 abbrev pub AreOtherTurns : Turn → Turn → Type 0
@@ -64,16 +66,25 @@ AreOtherTurns (Inside n) (Inside m) = n ≢ m
 abbrev pub AreOtherRoles : Role → Role → Type 0
 AreOtherRoles (Making a w) (Making b x) = ⊥
 AreOtherRoles (Making a w) (Adder b) = b < a
+AreOtherRoles (Making a w) (Ender b) = b < a
 AreOtherRoles (Making a w) (Worker b) = b < w
 AreOtherRoles (Making a w) Joined = Unit {0}
 AreOtherRoles (Making a w) Nobody = Unit {0}
 AreOtherRoles (Adder a) (Making b x) = a < b
 AreOtherRoles (Adder a) (Adder b) = a ≢ b
+AreOtherRoles (Adder a) (Ender b) = a ≢ b
 AreOtherRoles (Adder a) (Worker b) = Unit {0}
 AreOtherRoles (Adder a) Joined = Unit {0}
 AreOtherRoles (Adder a) Nobody = Unit {0}
+AreOtherRoles (Ender a) (Making b x) = a < b
+AreOtherRoles (Ender a) (Adder b) = a ≢ b
+AreOtherRoles (Ender a) (Ender b) = a ≢ b
+AreOtherRoles (Ender a) (Worker b) = Unit {0}
+AreOtherRoles (Ender a) Joined = Unit {0}
+AreOtherRoles (Ender a) Nobody = Unit {0}
 AreOtherRoles (Worker w) (Making b x) = w < x
 AreOtherRoles (Worker w) (Adder b) = Unit {0}
+AreOtherRoles (Worker w) (Ender b) = Unit {0}
 AreOtherRoles (Worker w) (Worker b) = w ≢ b
 AreOtherRoles (Worker w) Joined = Unit {0}
 AreOtherRoles (Worker w) Nobody = Unit {0}
@@ -124,7 +135,7 @@ pub record Kept {J : Type 0} (head : J → Head) (plan : Plan) (s : State (Queue
 
 -- a view at another turn
 abbrev pub at_turn : View → Turn → List Deed → View
-at_turn v turn seen = record { parts = v.parts; queues = v.queues; role = v.role; turn = turn; seen = seen; adds = v.adds; taken = v.taken }
+at_turn v turn seen = record { parts = v.parts; queues = v.queues; role = v.role; turn = turn; seen = seen; adds = v.adds; taken = v.taken; heard = v.heard }
 
 abbrev pub number_of : Turn → ℕ
 number_of Away = 0
@@ -143,23 +154,42 @@ taken_after (Takes w r) rows = rows ++ r ∷ []
 taken_after (Begins e) rows = rows
 taken_after Looks rows = rows
 
+-- an adder that begins an end is no adder any more
+abbrev pub role_after : Deed → Role → Role
+role_after (Accepts r) role = role
+role_after (Takes w r) role = role
+role_after (Begins e) (Making a w) = Making a w
+role_after (Begins e) (Adder a) = Ender a
+role_after (Begins e) (Ender a) = Ender a
+role_after (Begins e) (Worker w) = Worker w
+role_after (Begins e) Joined = Joined
+role_after (Begins e) Nobody = Nobody
+role_after Looks role = role
+
 -- the view of a seat that leaves the lock after a deed
 abbrev pub left : Deed → View → View
-left d v = record { parts = v.parts; queues = v.queues; role = v.role; turn = Away; seen = d ∷ v.seen; adds = adds_after d v.adds; taken = taken_after d v.taken }
+left d v = record { parts = v.parts; queues = v.queues; role = role_after d v.role; turn = Away; seen = d ∷ v.seen; adds = adds_after d v.adds; taken = taken_after d v.taken; heard = v.heard }
 
--- an adder accepts tasks of its own number, a worker takes them under its own
+-- an adder accepts tasks of its own number, a worker takes them under its own, and only an adder begins an end
 abbrev pub IsOwnDeed : Deed → Role → Type 0
 IsOwnDeed (Accepts r) (Making a w) = ⊥
 IsOwnDeed (Accepts r) (Adder a) = r.ticket.adder ≡ a
+IsOwnDeed (Accepts r) (Ender a) = ⊥
 IsOwnDeed (Accepts r) (Worker w) = ⊥
 IsOwnDeed (Accepts r) Joined = ⊥
 IsOwnDeed (Accepts r) Nobody = ⊥
 IsOwnDeed (Takes w r) (Making a x) = ⊥
 IsOwnDeed (Takes w r) (Adder a) = ⊥
+IsOwnDeed (Takes w r) (Ender a) = ⊥
 IsOwnDeed (Takes w r) (Worker x) = w ≡ x
 IsOwnDeed (Takes w r) Joined = ⊥
 IsOwnDeed (Takes w r) Nobody = ⊥
-IsOwnDeed (Begins e) role = Unit {0}
+IsOwnDeed (Begins e) (Making a w) = ⊥
+IsOwnDeed (Begins e) (Adder a) = Unit {0}
+IsOwnDeed (Begins e) (Ender a) = ⊥
+IsOwnDeed (Begins e) (Worker w) = ⊥
+IsOwnDeed (Begins e) Joined = ⊥
+IsOwnDeed (Begins e) Nobody = ⊥
 IsOwnDeed Looks role = Unit {0}
 
 -- the last and the first of some tasks; of none, no task
@@ -178,9 +208,18 @@ first_of (r ∷ rs) = r
 abbrev pub worker_of : Role → ℕ
 worker_of (Making a w) = 0
 worker_of (Adder a) = 0
+worker_of (Ender a) = 0
 worker_of (Worker w) = w
 worker_of Joined = 0
 worker_of Nobody = 0
+
+abbrev pub adder_of : Role → ℕ
+adder_of (Making a w) = 0
+adder_of (Adder a) = a
+adder_of (Ender a) = a
+adder_of (Worker w) = 0
+adder_of Joined = 0
+adder_of Nobody = 0
 
 module _ {J : Type 0} where
   -- the number was drawn, or another seat drew it
@@ -228,12 +267,13 @@ module _ {J : Type 0} where
 
 -- the first view has all parts, and makes the passes
 abbrev pub first_view : Plan → View
-first_view plan = record { parts = plan.passes; queues = plan.queues; role = Making 0 0; turn = Away; seen = []; adds = []; taken = [] }
+first_view plan = record { parts = plan.passes; queues = plan.queues; role = Making 0 0; turn = Away; seen = []; adds = []; taken = []; heard = [] }
 
 -- how the first view gives an adder or a worker its view
 abbrev pub adder_made : Role → Role
 adder_made (Making a w) = Making (a + 1) w
 adder_made (Adder a) = Adder a
+adder_made (Ender a) = Ender a
 adder_made (Worker w) = Worker w
 adder_made Joined = Joined
 adder_made Nobody = Nobody
@@ -241,6 +281,7 @@ adder_made Nobody = Nobody
 abbrev pub new_adder : Role → Role
 new_adder (Making a w) = Adder a
 new_adder (Adder a) = Nobody
+new_adder (Ender a) = Nobody
 new_adder (Worker w) = Nobody
 new_adder Joined = Nobody
 new_adder Nobody = Nobody
@@ -248,6 +289,7 @@ new_adder Nobody = Nobody
 abbrev pub worker_made : Role → Role
 worker_made (Making a w) = Making a (w + 1)
 worker_made (Adder a) = Adder a
+worker_made (Ender a) = Ender a
 worker_made (Worker w) = Worker w
 worker_made Joined = Joined
 worker_made Nobody = Nobody
@@ -255,19 +297,20 @@ worker_made Nobody = Nobody
 abbrev pub new_worker : Role → Role
 new_worker (Making a w) = Worker w
 new_worker (Adder a) = Nobody
+new_worker (Ender a) = Nobody
 new_worker (Worker w) = Nobody
 new_worker Joined = Nobody
 new_worker Nobody = Nobody
 
 abbrev pub one_less : (Role → Role) → View → View
-one_less f v = record { parts = v.parts - 1; queues = v.queues; role = f v.role; turn = v.turn; seen = v.seen; adds = v.adds; taken = v.taken }
+one_less f v = record { parts = v.parts - 1; queues = v.queues; role = f v.role; turn = v.turn; seen = v.seen; adds = v.adds; taken = v.taken; heard = v.heard }
 
 abbrev pub one_part : (Role → Role) → View → View
-one_part f v = record { parts = 1; queues = v.queues; role = f v.role; turn = Away; seen = v.seen; adds = []; taken = [] }
+one_part f v = record { parts = 1; queues = v.queues; role = f v.role; turn = Away; seen = v.seen; adds = []; taken = []; heard = [] }
 
 -- two seats put together, and what is left of the second
 abbrev pub together : View → View → View
-together v w = record { parts = v.parts + w.parts; queues = v.queues; role = Joined; turn = Away; seen = v.seen; adds = v.adds ++ w.adds; taken = v.taken ++ w.taken }
+together v w = record { parts = v.parts + w.parts; queues = v.queues; role = Joined; turn = Away; seen = v.seen; adds = v.adds ++ w.adds; taken = v.taken ++ w.taken; heard = w.seen ∷ v.heard }
 
 abbrev pub nobody : View
-nobody = record { parts = 0; queues = 0; role = Nobody; turn = Away; seen = []; adds = []; taken = [] }
+nobody = record { parts = 0; queues = 0; role = Nobody; turn = Away; seen = []; adds = []; taken = []; heard = [] }

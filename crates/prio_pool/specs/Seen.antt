@@ -44,10 +44,17 @@ pub record PoolSeen : Type 0 where
   pub workers : ℕ
   pub helpers : ℕ
 
--- a pool that is ending: which it is, and the passes of its adders
+-- the pass that marked its pool as ending, and the history with the mark, the newest deed first
+pub record MarkSeen : Type 0 where
+  pub pass : PassSeen
+  pub seen : List Deed
+
+-- a pool whose end has begun: which it is, the count of its keep-alives, the passes of its adders, and the history with the mark, the newest deed first
 pub record EndingSeen : Type 0 where
   pub pool : PoolId
+  pub count : TableId
   pub passes : List PassSeen
+  pub seen : List Deed
 
 abbrev pub add_of : Row → Add
 add_of r = record { queue = r.queue; head = r.head }

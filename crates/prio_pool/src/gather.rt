@@ -3,11 +3,11 @@ ghost use Rattle.std.specs.Prelude.{◌≡◌, ◌+◌, ◌<◌, ℕ, [], ◌∷
 ghost use Rattle.prio_pool.specs.declared.row.Turn.TheVariants.{Away};
 ghost use Rattle.prio_pool.specs.Passing.{IsAt};
 ghost use Rattle.prio_pool.specs.Passes.{IsEnd};
-ghost use Rattle.prio_pool.specs.Gathering.{IsGathered, IsLeft, HasGathered, GathersMore, GathersPass, records_of};
+ghost use Rattle.prio_pool.specs.Gathering.{IsGathered, IsLeft, HasGathered, GathersMore, GathersPass, records_of, seens_of};
 
 use crate::lanes::Lanes;
 use crate::lock::{Seat, Table};
-use crate::passes::{HelperEnd, PoolPass, WorkerEnd};
+use crate::passes::{HelperEnd, Marker, PoolPass, WorkerEnd};
 use crate::record::{RunRecord, append};
 use crate::row::{Plan, View};
 use crate::rule::{Bounds, PoolRule, Together};
@@ -15,6 +15,20 @@ use job_trait::Headed;
 use std::alloc::Global;
 use std::collections::LinkedList;
 use std::mem;
+
+/// The seat of the pass that marked the pool as ending.
+pub fn marker_seat<J>(marker: Marker) -> Seat<J>
+    ensures table { result.table_id ≡ marker.pass.pool.table }
+    ensures gathered { IsGathered 1 (marker.pass ∷ []) [] result.me }
+    ensures seen { result.me.0.seen ≡ marker.seen }
+{
+    let Marker {
+        badge,
+        number: _,
+        count: _,
+    } = marker;
+    badge.into_seat()
+}
 
 /// The seat of a pass.
 pub fn pass_seat<J>(pass: PoolPass) -> Seat<J>
@@ -35,6 +49,7 @@ pub fn add_pass<J: Headed>(table: &Table<J>, seat: &mut Seat<J>, pass: PoolPass)
     requires pass { pass.pool.table ≡ table.now.table_id }
     requires gathered { HasGathered [] seat.old.me }
     ensures table { seat.new.table_id ≡ seat.old.table_id }
+    ensures seen { seat.new.me.0.seen ≡ seat.old.me.0.seen }
     ensures gathered { GathersPass pass seat.old.me seat.new.me }
 {
     let other = pass_seat(pass);
@@ -55,6 +70,8 @@ pub fn add_end<J: Headed>(
     requires gathered { HasGathered records.old seat.old.me }
     ensures table { seat.new.table_id ≡ seat.old.table_id }
     ensures records { records.new ≡ first ++ records.old }
+    ensures seen { seat.new.me.0.seen ≡ seat.old.me.0.seen }
+    ensures heard { seat.new.me.0.heard ≡ other.me.0.seen ∷ seat.old.me.0.heard }
     ensures gathered { GathersMore 1 records.old seat.old.me records.new seat.new.me }
 {
     table.join_seat::<Together>(seat, other);
@@ -63,18 +80,20 @@ pub fn add_end<J: Headed>(
     append(records, last);
 }
 
-/// All passes together.
-pub fn gather_passes<J: Headed>(table: &Table<J>, mut passes: Vec<PoolPass>) -> Seat<J>
+/// All passes together, that which marked the pool as ending as the last.
+pub fn gather_passes<J: Headed>(
+    table: &Table<J>,
+    mut passes: Vec<PoolPass>,
+    marker: Marker,
+) -> Seat<J>
     requires table { table.now.table_id.words ≡ 2 }
-    requires some { 0 < length passes.items }
+    requires marker { marker.pass.pool.table ≡ table.now.table_id }
     requires passes { All (λ p. p.pool.table ≡ table.now.table_id) passes.items }
     ensures table { result.table_id ≡ table.now.table_id }
-    ensures gathered { IsGathered (length passes.items) passes.items [] result.me }
+    ensures gathered { IsGathered (length passes.items + 1) (passes.items ++ marker.pass ∷ []) [] result.me }
+    ensures seen { result.me.0.seen ≡ marker.seen }
 {
-    let Some(last) = passes.pop() else {
-        unreachable!()
-    };
-    let mut seat = pass_seat(last);
+    let mut seat = marker_seat(marker);
     while let Some(pass) = passes.pop() {
         add_pass(table, &mut seat, pass);
     }
@@ -94,6 +113,8 @@ pub fn gather_workers<J: Headed>(
     requires gathered { HasGathered records.old seat.old.me }
     ensures table { seat.new.table_id ≡ seat.old.table_id }
     ensures records { records.new ≡ records_of ends.items ++ records.old }
+    ensures seen { seat.new.me.0.seen ≡ seat.old.me.0.seen }
+    ensures heard { seat.new.me.0.heard ≡ seens_of ends.items ++ seat.old.me.0.heard }
     ensures gathered { GathersMore (length ends.items) records.old seat.old.me records.new seat.new.me }
 {
     while let Some(end) = ends.pop() {
@@ -117,6 +138,8 @@ pub fn gather_helpers<J: Headed>(
     requires gathered { HasGathered records.old seat.old.me }
     ensures table { seat.new.table_id ≡ seat.old.table_id }
     ensures records { records.new ≡ records_of ends.items ++ records.old }
+    ensures seen { seat.new.me.0.seen ≡ seat.old.me.0.seen }
+    ensures heard { seat.new.me.0.heard ≡ seens_of ends.items ++ seat.old.me.0.heard }
     ensures gathered { GathersMore (length ends.items) records.old seat.old.me records.new seat.new.me }
 {
     while let Some(end) = ends.pop() {

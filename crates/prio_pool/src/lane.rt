@@ -1,5 +1,5 @@
 // A task, and one queue of tasks.
-ghost use Rattle.std.specs.Prelude.{◌≡◌, [], ◌∷◌, ◌++◌, OnOk, IfErr, MatchOption};
+ghost use Rattle.std.specs.Prelude.{◌≡◌, [], ◌∷◌, ◌++◌, length, OnOk, IfErr, MatchOption};
 ghost use Rattle.fan_base.specs.declared.refusal.Refused.TheVariants.{Memory as GivenBack};
 
 use crate::record::Place;
@@ -57,6 +57,13 @@ impl<J> Lane<J> {
         ensures { MatchOption result ((self.old ≡ []) × (self.new ≡ [])) (λ task. self.old ≡ task ∷ self.new) }
     {
         self.tasks.pop_front()
+    }
+
+    /// How many tasks wait.
+    pub fn len(&self) -> usize
+        ensures { result ≡ length self.now }
+    {
+        self.tasks.len()
     }
 
     /// Ends a queue in which no task waits.

@@ -3,6 +3,7 @@ ghost use Rattle.std.specs.Prelude.{◌≡◌, ◌+◌, ◌<◌, ◌≤◌, ℕ,
 ghost use Rattle.fan_base.specs.declared.refusal.Refused.TheVariants.{Memory as GivenBack};
 ghost use Rattle.prio_pool.specs.declared.row.Ending.TheVariants.{Open};
 ghost use Rattle.prio_pool.specs.Lanes.{lane_at, TakesFirst};
+ghost use Rattle.prio_pool.specs.Returning.{all_tasks};
 ghost use Rattle.prio_pool.specs.Looks.{TakesOrLooks};
 
 use crate::lane::{Lane, Task};
@@ -114,6 +115,18 @@ impl<J> Lanes<J> {
             Some(task) => Taken::Found(task),
             None => Taken::Nothing(ending),
         }
+    }
+
+    /// How many tasks wait in all queues.
+    pub fn len(&self) -> usize
+        requires { length (all_tasks self.now.lanes) ≤ 4611686018427387904 }
+        ensures { result ≡ length (all_tasks self.now.lanes) }
+    {
+        let mut total = 0;
+        for queue in &self.queues {
+            total += queue.len();
+        }
+        total
     }
 
     /// Ends queues in which no task waits.

@@ -1,11 +1,12 @@
 // The pool's lock: who comes draws a number, and goes in when it is served. Each turn leaves one deed in the history.
-ghost use Rattle.std.specs.Prelude.{◌≡◌, ◌+◌, ◌<◌, ℕ, [], ◌∷◌, length, IfErr, OnOk, MatchResult};
+ghost use Rattle.std.specs.Prelude.{◌≡◌, ◌≢◌, ◌+◌, ◌<◌, ℕ, [], ◌∷◌, length, IfErr, OnOk, MatchResult};
 ghost use Rattle.fan_base.specs.declared.refusal.Refused.TheVariants.{Memory as GivenBack};
 ghost use Rattle.prio_pool.specs.declared.row.Deed.TheVariants.{Accepts, Begins, Looks};
+ghost use Rattle.prio_pool.specs.declared.row.Ending.TheVariants.{Open};
 ghost use Rattle.prio_pool.specs.declared.row.Role.TheVariants.{Adder, Worker};
 ghost use Rattle.prio_pool.specs.declared.row.Turn.TheVariants.{Away, Waiting};
 ghost use Rattle.prio_pool.specs.Lanes.{row_of};
-ghost use Rattle.prio_pool.specs.Rule.{at_turn, worker_of, Enters};
+ghost use Rattle.prio_pool.specs.Rule.{at_turn, worker_of, adder_of, Enters};
 ghost use Rattle.prio_pool.specs.Passing.{IsReady, IsAt, Did, DidTake};
 
 use crate::lane::Task;
@@ -113,6 +114,8 @@ pub fn accept<J: Headed, R: Wait>(
 pub fn begin<J: Headed, R: Wait>(rt: &R, table: &Table<J>, seat: &mut Seat<J>, ending: Ending)
     requires at { IsAt table.now seat.old }
     requires ready { IsReady seat.old }
+    requires own { seat.old.me.0.role ≡ Adder (adder_of seat.old.me.0.role) }
+    requires real { ending ≢ Open }
     ensures same { (seat.new.table_id ≡ seat.old.table_id) × (seat.new.id ≡ seat.old.id) }
     ensures did { Did seat.old.me.0 (Begins ending) seat.new.me }
 {

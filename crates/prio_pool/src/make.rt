@@ -2,7 +2,7 @@
 ghost use Rattle.std.specs.Prelude.{◌≡◌, ◌+◌, ◌-◌, ◌<◌, ◌≤◌, ℕ, [], ◌∷◌, length, vec_len, vec_capacity, IfOk};
 ghost use Rattle.prio_pool.specs.declared.row.Turn.TheVariants.{Away};
 ghost use Rattle.prio_pool.specs.declared.row.Role.TheVariants.{Making};
-ghost use Rattle.prio_pool.specs.Rule.{first_view};
+ghost use Rattle.prio_pool.specs.Rule.{first_view, worker_of};
 ghost use Rattle.prio_pool.specs.Passing.{IsAt};
 ghost use Rattle.prio_pool.specs.Passes.{IsEnd};
 ghost use Rattle.prio_pool.specs.Making.{IsMaker};
@@ -158,6 +158,7 @@ fn next_worker<J: Headed>(
     ensures table { seat.new.table_id ≡ seat.old.table_id }
     ensures maker { IsMaker queues adders (number + 1) (parts - 1) seat.new.me }
     ensures seat { (result.table_id ≡ table.now.table_id) × (result.me.0.queues ≡ queues) × (result.me.0.taken ≡ []) }
+    ensures number { (worker_of result.me.0.role ≡ number) × (result.me.0.seen ≡ []) }
     ensures end { IsEnd [] result.me }
 {
     table.split_seat::<NextWorker>(seat)
@@ -223,7 +224,7 @@ fn make_helpers<J: Headed>(
     requires room { (list.old.items ≡ []) × (vec_capacity list.old ≡ count) × (count ≤ plan.3) × (plan.2 + count < 1000) }
     requires maker { IsMaker plan.0 plan.1 plan.2 plan.3 seat.old.me }
     ensures table { seat.new.table_id ≡ seat.old.table_id }
-    ensures passes { AreNewHelpers (record { table = table.now.table_id; queues = plan.0 }) count list.new.items }
+    ensures passes { AreNewHelpers (record { table = table.now.table_id; queues = plan.0 }) plan.2 count list.new.items }
 {
     let (queues, adders, workers, parts) = plan;
     for number in 0..count {

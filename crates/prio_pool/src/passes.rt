@@ -1,5 +1,8 @@
 // The passes of a pool. Each holds a seat at the pool's lock.
-ghost use Rattle.std.specs.Prelude.{◌≡◌, ◌<◌, [], ◌∷◌, ◌++◌, length, OnOk, IfErr};
+ghost use Rattle.std.specs.Prelude.{◌≡◌, ◌≢◌, ◌<◌, List, [], ◌∷◌, ◌++◌, length, OnOk, IfErr};
+ghost use Rattle.prio_pool.specs.declared.row.Ending.TheVariants.{Open};
+ghost use Rattle.prio_pool.specs.declared.row.Deed.TheVariants.{Begins};
+ghost use Rattle.prio_pool.specs.declared.row.Deed.{Deed};
 ghost use Rattle.fan_base.specs.declared.refusal.Refused.TheVariants.{Memory as GivenBack};
 
 use crate::lane::Task;
@@ -11,12 +14,14 @@ use atomic_table::Badge;
 use crossbeam_utils::sync::Parker;
 use fan_base::Refused;
 use job_trait::Headed;
+use keep_alive::Joined;
 use std::collections::LinkedList;
 use std::marker::Model;
 use std::mem;
 use std::sync::Wait;
 
-/// The right to add tasks. Contracts see its pool, its number, and the list of its adds. It is spent by the end of the pool.
+/// The right to add tasks. Contracts see its pool, its number, and the list of its adds. It is spent by
+/// [`crate::Pool::begin_join`] or [`crate::Pool::begin_stop`].
 pub struct PoolPass {
     pub(crate) badge: Badge<View>,
     pub(crate) number: u32,
@@ -112,6 +117,26 @@ impl<J> Model for HelperEnd<J> {
     ghost invariant = { λ p. IsEnd p.records p.seat.me };
 }
 
+/// The pass that marked its pool as ending. It is spent by the end of the pool.
+pub struct Marker {
+    pub(crate) badge: Badge<View>,
+    pub(crate) number: u32,
+    pub(crate) count: u64,
+}
+
+impl Model for Marker {
+    ghost use Rattle.std.specs.Prelude.{◌≡◌, [], ◌∷◌};
+    ghost use Rattle.prio_pool.specs.declared.row.View.{View};
+    ghost use Rattle.prio_pool.specs.Seen.{MarkSeen};
+    ghost use Rattle.prio_pool.specs.Passes.{queues_in, adds_in, seen_in, IsEnder};
+
+    ghost Value = { MarkSeen };
+
+    ghost view = { λ p. record { pass = record { pool = record { table = p.badge.table_id; queues = queues_in p.badge.views }; number = p.number; adds = adds_in p.badge.views }; seen = seen_in p.badge.views } };
+
+    ghost invariant = { λ p. (v : View) × (p.badge.views ≡ v ∷ []) × IsEnder p.number p.count v };
+}
+
 impl<J> HelperPass<J> {
     /// Ends the helper.
     pub fn end(self) -> HelperEnd<J>
@@ -167,14 +192,31 @@ impl PoolPass {
         }
     }
 
-    // Marks the pool as ending.
-    pub(crate) fn begin<J: Headed, R: Wait>(&mut self, rt: &R, table: &Table<J>, ending: Ending)
-        requires { (self.old.pool.table ≡ table.now.table_id) × (table.now.table_id.words ≡ 2) }
-        ensures { self.new ≡ self.old }
+    // Marks the pool, whose keep-alives are joined, as ending.
+    pub(crate) fn begin<J: Headed, R: Wait>(
+        self,
+        rt: &R,
+        table: &Table<J>,
+        joined: &Joined,
+        ending: Ending,
+    ) -> Marker
+        requires table { (self.pool.table ≡ table.now.table_id) × (table.now.table_id.words ≡ 2) }
+        requires real { ending ≢ Open }
+        ensures pass { result.pass ≡ self }
+        ensures mark { (past : List Deed) × (result.seen ≡ Begins ending ∷ past) }
     {
-        let badge = mem::replace(&mut self.badge, Badge::blank());
+        let _ = joined;
+        let PoolPass {
+            badge,
+            number,
+            count,
+        } = self;
         let mut seat: Seat<J> = badge.into_seat();
         lock::begin(rt, table, &mut seat, ending);
-        self.badge = seat.into_badge();
+        Marker {
+            badge: seat.into_badge(),
+            number,
+            count,
+        }
     }
 }

@@ -1,18 +1,22 @@
 // The pool: its adders, workers and helpers.
-ghost use Rattle.std.specs.Prelude.{◌≡◌, ◌+◌, ◌<◌, ◌≤◌, ℕ, [], ◌∷◌, ◌++◌, length, IfOk, IfErr};
+ghost use Rattle.std.specs.Prelude.{◌≡◌, ◌≢◌, ◌+◌, ◌<◌, ◌≤◌, ℕ, List, [], ◌∷◌, ◌++◌, length, IfOk, IfErr};
 ghost use Rattle.fan_base.specs.declared.refusal.Refused.TheVariants.{Memory as GivenBack};
 ghost use Rattle.job_trait.specs.Runs.{Leads};
 ghost use Rattle.prio_pool.specs.Priority.{queue_of};
 ghost use Rattle.prio_pool.specs.Record.{ran_of};
 ghost use Rattle.prio_pool.specs.Passes.{GoesOn};
-ghost use Rattle.prio_pool.specs.Ends.{IsFaithful, HadToEnd};
+ghost use Rattle.prio_pool.specs.Ends.{IsFaithful, HadToEnd, TicketsAscend};
+ghost use Rattle.prio_pool.specs.History.{HeedsStop};
 ghost use Rattle.prio_pool.specs.Helps.{HelpDid};
-ghost use Rattle.prio_pool.specs.Passed.{AreAllPasses};
+ghost use Rattle.prio_pool.specs.declared.row.Ending.TheVariants.{Open, Joins, Stops};
+ghost use Rattle.prio_pool.specs.declared.row.Deed.TheVariants.{Begins};
+ghost use Rattle.prio_pool.specs.declared.row.Deed.{Deed};
+ghost use Rattle.prio_pool.specs.Passed.{AreAllPasses, HasBegun};
 ghost use Rattle.prio_pool.specs.Given.{GivesJob};
 
 use crate::lane::Task;
 use crate::lanes::Lanes;
-use crate::passes::{HelperPass, PoolPass, WorkerEnd, WorkerPass};
+use crate::passes::{HelperPass, Marker, PoolPass, WorkerEnd, WorkerPass};
 use crate::priority::queue_for;
 use crate::record::{Place, RunRecord};
 use crate::row::{Ending, Plan, Ticket, View};
@@ -22,7 +26,7 @@ use atomic_table::Table;
 use crossbeam_utils::sync::Unparker;
 use fan_base::{ExecId, Gate, Mark, Refused};
 use job_trait::{Headed, Job};
-use keep_alive::{KeepAlive, KeepOwner};
+use keep_alive::{Joined, KeepAlive, KeepOwner};
 use std::alloc::Global;
 use std::collections::LinkedList;
 use std::marker::Model;
@@ -30,7 +34,7 @@ use std::snapshot::Snapshot;
 use std::sync::Wait;
 
 /// A pool of workers over queues of different priorities. Contracts see which pool it is, the count of its
-/// keep-alives, its executor, and how many passes of each kind it has. It is spent by [`Pool::join`].
+/// keep-alives, its executor, and how many passes of each kind it has. It is spent by [`Pool::join`] or [`Pool::stop`].
 pub struct Pool<J: Headed> {
     pub(crate) table: Table<Lanes<J>, View, Plan, PoolRule<J>, Global>,
     pub(crate) alloc: Global,
@@ -63,18 +67,37 @@ pub enum Helped {
     Empty,
 }
 
-/// A pool that is to be joined. It keeps the passes of all adders, so that no task can be added. Contracts see these.
+/// A pool that is to be joined. It keeps the passes of all adders, so that no task can be added. Contracts see these, which
+/// pool it is, the count of its keep-alives, and the history with the mark.
 pub struct Joining {
     pub(crate) passes: Vec<PoolPass>,
+    pub(crate) marker: Marker,
+    pub(crate) joined: Joined,
 }
 
 impl Model for Joining {
-    ghost use Rattle.std.specs.Prelude.{List};
-    ghost use Rattle.prio_pool.specs.Seen.{PassSeen};
+    ghost use Rattle.std.specs.Prelude.{◌++◌, ◌∷◌, []};
+    ghost use Rattle.prio_pool.specs.Seen.{EndingSeen};
 
-    ghost Value = { List PassSeen };
+    ghost Value = { EndingSeen };
 
-    ghost view = { λ j. j.passes.items };
+    ghost view = { λ j. record { pool = j.marker.pass.pool; count = j.joined.count; passes = j.passes.items ++ j.marker.pass ∷ []; seen = j.marker.seen } };
+}
+
+/// A pool that is to be stopped. It keeps the passes of all adders, so that no task can be added. Contracts see the same of it.
+pub struct Stopping {
+    pub(crate) passes: Vec<PoolPass>,
+    pub(crate) marker: Marker,
+    pub(crate) joined: Joined,
+}
+
+impl Model for Stopping {
+    ghost use Rattle.std.specs.Prelude.{◌++◌, ◌∷◌, []};
+    ghost use Rattle.prio_pool.specs.Seen.{EndingSeen};
+
+    ghost Value = { EndingSeen };
+
+    ghost view = { λ j. record { pool = j.marker.pass.pool; count = j.joined.count; passes = j.passes.items ++ j.marker.pass ∷ []; seen = j.marker.seen } };
 }
 
 impl<J: Headed> Pool<J> {
@@ -127,6 +150,7 @@ impl<J: Headed> Pool<J> {
 
     /// Works for the pool: takes the first task of the highest queue that has one, runs it between the two calls of the
     /// gate, and goes on, until the pool is stopped, or is joined and no task waits. It sleeps while no task waits.
+    #[tactic(auto, using(crate::proofs::Ascending::tickets_ascend))]
     pub fn work<W, G: Gate, R: Wait>(
         &self,
         rt: &R,
@@ -141,6 +165,8 @@ impl<J: Headed> Pool<J> {
         ensures ran { Leads J.runs world.old (ran_of result.records) world.new }
         ensures faithful { IsFaithful result }
         ensures ended { HadToEnd result }
+        ensures ascend { TicketsAscend result }
+        ensures heeds { HeedsStop result.number result.seen }
     {
         let WorkerPass { mut seat, parker } = pass;
         let mut records = LinkedList::new(self.alloc);
@@ -167,6 +193,7 @@ impl<J: Headed> Pool<J> {
     }
 
     /// Takes the first task of the highest queue that has one, and runs it between the two calls of the gate.
+    #[tactic(auto, using(crate::proofs::Ascending::tickets_ascend))]
     pub fn help<W, G: Gate, R: Wait>(
         &self,
         rt: &R,
@@ -181,6 +208,7 @@ impl<J: Headed> Pool<J> {
         ensures helped { HelpDid J.runs result pass.old world.old pass.new world.new }
         ensures goes_on { GoesOn pass.old.seen pass.new.seen }
         ensures faithful { IsFaithful pass.new }
+        ensures ascend { TicketsAscend pass.new }
     {
         let table = &self.table.shared;
         match turn(
@@ -199,18 +227,33 @@ impl<J: Headed> Pool<J> {
     }
 
     // Waits for the keep-alives, and marks the pool as ending.
-    fn begin<R: Wait>(&self, rt: &R, owner: KeepOwner, passes: &mut Vec<PoolPass>, ending: Ending)
+    fn begin<R: Wait>(
+        &self,
+        rt: &R,
+        owner: KeepOwner,
+        passes: &mut Vec<PoolPass>,
+        ending: Ending,
+    ) -> (Marker, Joined)
         requires owner { owner.count ≡ self.now.count }
         requires passes { AreAllPasses self.now.id self.now.adders passes.old.items }
-        ensures { passes.new.items ≡ passes.old.items }
+        requires real { ending ≢ Open }
+        ensures passes { passes.old.items ≡ passes.new.items ++ result.0.pass ∷ [] }
+        ensures pool { result.0.pass.pool ≡ self.now.id }
+        ensures mark { (past : List Deed) × (result.0.seen ≡ Begins ending ∷ past) }
+        ensures count { result.1.count ≡ self.now.count }
     {
         let table = &self.table.shared;
-        owner.join(rt);
-        passes[0].begin(rt, table, ending);
+        let joined = owner.join(rt);
+        let Some(last) = passes.pop() else {
+            unreachable!()
+        };
+        let marker = last.begin(rt, table, &joined, ending);
         self.wake();
+        (marker, joined)
     }
 
-    /// Waits until each keep-alive of the pool is released, and begins to join it: its workers end once no task waits.
+    /// Waits until each keep-alive of the pool is released, and begins to join it: its workers end once no task waits. A
+    /// keep-alive that is never released keeps it waiting.
     pub fn begin_join<R: Wait>(
         &self,
         rt: &R,
@@ -219,10 +262,34 @@ impl<J: Headed> Pool<J> {
     ) -> Joining
         requires owner { owner.count ≡ self.now.count }
         requires passes { AreAllPasses self.now.id self.now.adders passes.items }
-        ensures { result ≡ passes.items }
+        ensures begun { HasBegun Joins self.now passes.items result }
     {
-        self.begin(rt, owner, &mut passes, Ending::Joins);
-        Joining { passes }
+        let (marker, joined) = self.begin(rt, owner, &mut passes, Ending::Joins);
+        Joining {
+            passes,
+            marker,
+            joined,
+        }
+    }
+
+    /// Waits until each keep-alive of the pool is released, and begins to stop it: its workers take no further task. A
+    /// keep-alive that is never released keeps it waiting.
+    pub fn begin_stop<R: Wait>(
+        &self,
+        rt: &R,
+        owner: KeepOwner,
+        mut passes: Vec<PoolPass>,
+    ) -> Stopping
+        requires owner { owner.count ≡ self.now.count }
+        requires passes { AreAllPasses self.now.id self.now.adders passes.items }
+        ensures begun { HasBegun Stops self.now passes.items result }
+    {
+        let (marker, joined) = self.begin(rt, owner, &mut passes, Ending::Stops);
+        Stopping {
+            passes,
+            marker,
+            joined,
+        }
     }
 }
 

@@ -51,6 +51,8 @@ pub enum Role {
     Making(u64, u64),
     /// The adder with this number.
     Adder(u64),
+    /// The adder with this number, which has set the mark of an end.
+    Ender(u64),
     /// The worker or helper with this number.
     Worker(u64),
     /// Several, put together.
@@ -73,6 +75,8 @@ pub struct View {
     pub adds: LinkedList<Row>,
     /// The tasks that it took, in order.
     pub taken: LinkedList<Row>,
+    /// The histories that those saw last who were put together with it.
+    pub heard: LinkedList<LinkedList<Deed>>,
 }
 
 /// How many passes there are, and how many queues.

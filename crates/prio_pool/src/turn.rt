@@ -1,8 +1,9 @@
 // One turn of a worker or helper.
-ghost use Rattle.std.specs.Prelude.{◌≡◌};
+ghost use Rattle.std.specs.Prelude.{◌≡◌, true};
 ghost use Rattle.prio_pool.specs.Rule.{worker_of};
 ghost use Rattle.prio_pool.specs.Passing.{IsAt};
 ghost use Rattle.prio_pool.specs.Passes.{IsEnd, GoesOn};
+ghost use Rattle.prio_pool.specs.History.{HeedsStop};
 ghost use Rattle.prio_pool.specs.Turned.{TurnDid};
 
 use crate::lanes::Taken;
@@ -41,6 +42,7 @@ pub fn turn<J: Job<W>, W, G: Gate, R: Wait>(
     ensures same { (seat.new.table_id ≡ seat.old.table_id) × (seat.new.me.0.queues ≡ seat.old.me.0.queues) × (worker_of seat.new.me.0.role ≡ worker_of seat.old.me.0.role) }
     ensures end { IsEnd records.new seat.new.me }
     ensures goes_on { GoesOn seat.old.me.0.seen seat.new.me.0.seen }
+    ensures heeds { heeds_stop ≡ true → HeedsStop (worker_of seat.old.me.0.role) seat.old.me.0.seen → HeedsStop (worker_of seat.old.me.0.role) seat.new.me.0.seen }
     ensures turned { TurnDid J.runs heeds_stop result records.old world.old records.new world.new seat.new.me.0.seen }
 {
     match lock::take(rt, table, seat, heeds_stop) {

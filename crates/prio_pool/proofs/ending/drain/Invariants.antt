@@ -1,7 +1,8 @@
-use Rattle.std.proofs.Common.{◌≡◌, ◌+◌, ℕ, List}
+use Rattle.std.proofs.Common.{◌≡◌, ◌+◌, ◌++◌, ℕ, List, map}
 use Rattle.job_trait.specs.Runs.{Leads}
 use Rattle.prio_pool.specs.declared.row.Row.{Row}
-use Rattle.prio_pool.specs.Lanes.{weigh_all}
+use Rattle.prio_pool.specs.Lanes.{row_of, weigh_all}
+use Rattle.prio_pool.specs.Returning.{all_tasks}
 use Rattle.prio_pool.specs.History.{weigh}
 use Rattle.prio_pool.specs.Record.{AreRunsOf, ran_of}
 use Rattle.prio_pool.proofs.ending.drain.Given as goal
@@ -11,6 +12,7 @@ invariant-loop-task g l = record {
   rows : List Row;
   runs : AreRunsOf rows l.records;
   all : (h : Row → ℕ) → weigh h rows + weigh_all g.J.Headed.head h l.lanes.lanes ≡ weigh_all g.J.Headed.head h l.initial.lanes.lanes;
+  order : rows ++ map (row_of g.J.Headed.head) (all_tasks l.lanes.lanes) ≡ map (row_of g.J.Headed.head) (all_tasks l.initial.lanes.lanes);
   led : Leads g.J.Job.runs l.initial.world (ran_of l.records) l.world;
 }
 

@@ -2,7 +2,7 @@ use Rattle.std.proofs.Common.{rules, refl}
 use Rattle.prio_pool.specs.declared.row.Deed.TheVariants.{Takes, Looks}
 use Rattle.prio_pool.specs.Lanes.{row_of}
 use Rattle.prio_pool.specs.Rule.{worker_of, take_deed, look_deed}
-use Rattle.prio_pool.proofs.Leaving.{same_state, may_leave, has_left, looked, looked_over, looked_stopped, taken, takes_it, own_take}
+use Rattle.prio_pool.proofs.Leaving.{same_state, may_leave, has_left, looked, looked_over, looked_stopped, taken, took_open, takes_it, own_take}
 use Rattle.prio_pool.proofs.lock.take.Goals as goal
 
 pub store-requires : goal.store-requires
@@ -18,8 +18,8 @@ store-requires g c =
     let was = same_state head v n me e x _ c.slot_mut.ensures.value in (
       search rules,
       search rules,
-      may_leave head v n me e c.args.table.now.key c.args.table.now.table_id.slots c.enter-number.new.seat.id q take_deed (Takes (worker_of v.role) (row_of head t)) (takes_it head v n me e t x q was c.in-Found.ensures) c.requires.ready.2
-          (taken head v n me e t x q was c.in-Found.ensures)
+      may_leave head v n me e c.args.table.now.key c.args.table.now.table_id.slots c.enter-number.new.seat.id q take_deed (Takes (worker_of v.role) (row_of head t)) (takes_it head v n me e t x q was c.in-Found.ensures.0) c.requires.ready.2
+          (taken head v n me e t x q was c.in-Found.ensures.0)
           (own_take v.role (row_of head t) c.requires.own),
     )
 
@@ -57,10 +57,12 @@ returns-in-Found-clause-did g c =
     let t = c.in-Found.task in
     let x = c.slot_mut.result.now in
     let q = c.take-answer.new.self in
-    let was = same_state head v n me e x _ c.slot_mut.ensures.value in
-    has_left head v n me e q take_deed (Takes (worker_of v.role) (row_of head t)) c.store.new.seat.me (takes_it head v n me e t x q was c.in-Found.ensures) (taken head v n me e t x q was c.in-Found.ensures)
-    (own_take v.role (row_of head t) c.requires.own)
-    c.store.ensures.2
+    let was = same_state head v n me e x _ c.slot_mut.ensures.value in (
+      has_left head v n me e q take_deed (Takes (worker_of v.role) (row_of head t)) c.store.new.seat.me (takes_it head v n me e t x q was c.in-Found.ensures.0) (taken head v n me e t x q was c.in-Found.ensures.0)
+          (own_take v.role (row_of head t) c.requires.own)
+          c.store.ensures.2,
+      (λ h. took_open head v n me e t x q was c.in-Found.ensures.0 c.store.new.seat.me (c.in-Found.ensures.1 h) c.store.ensures.2),
+    )
 
 pub returns-in-Nothing-clause-did : goal.returns-in-Nothing-clause-did
 returns-in-Nothing-clause-did g c =

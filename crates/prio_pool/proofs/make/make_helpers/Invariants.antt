@@ -9,5 +9,5 @@ invariant-loop-number g l = record {
   table : l.seat.table_id ≡ l.initial.seat.table_id;
   maker : IsMaker l.queues l.adders (l.workers + l.number) (l.parts - l.number) l.seat.me;
   capacity : vec_capacity l.list ≡ l.count;
-  passes : AreNewHelpers (record { table = l.initial.seat.table_id; queues = l.queues }) l.number l.list.items;
+  passes : AreNewHelpers (record { table = l.initial.seat.table_id; queues = l.queues }) l.workers l.number l.list.items;
 }
