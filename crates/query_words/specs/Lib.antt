@@ -1,0 +1,5 @@
+pub mod Numbers
+pub mod Options
+pub mod Grammar
+pub mod Steps
+pub mod Laws
