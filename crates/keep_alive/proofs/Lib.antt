@@ -1,2 +1,2 @@
 pub mod Totals
-pub mod Steps
+pub mod EachStep

@@ -1,4 +1,6 @@
-pub mod Acts
-pub mod Count
+pub mod History
+pub mod Views
+pub mod Rule
+pub mod Steps
 pub mod Seen
 pub mod Answers

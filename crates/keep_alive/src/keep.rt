@@ -1,30 +1,30 @@
 // The owner of a count, its tokens, and what their ends answer.
-ghost use Rattle.std.specs.Prelude.{◌≡◌, ◌+◌, ◌-◌, ◌<◌, IfOk, OnErr};
+ghost use Rattle.std.specs.Prelude.{◌≡◌, ◌+◌, ◌-◌, ◌<◌, ◌≤◌, IfOk, OnErr};
 ghost use Rattle.keep_alive.specs.Answers.{receipt_of, SaysWhatWasFound};
 
-use crate::count::{
-    Copies, Counting, Holding, Leaves, Meets, Never, Offers, Parts, Releases, Watches,
-};
+use crate::rule::CountRule;
+use crate::steps::{Copies, Leaves, Meets, Never, Offers, Parts, Releases, Watches};
+use crate::view::View;
 use atomic_table::{Seat, Table};
 use fan_base::Memory;
 use std::alloc::{AllocError, Global};
 use std::marker::Model;
 use std::sync::{Arc, Wait};
 
-type Counter = Arc<Table<u32, Holding, u32, Counting, Global>>;
+type Counter = Arc<Table<u32, View, u32, CountRule, Global>>;
 
-type Place = Seat<u32, Holding>;
+type CountSeat = Seat<u32, View>;
 
 /// The owner's 1 of a count. It is spent by [`KeepOwner::join`]. Contracts see which count it is of.
 pub struct KeepOwner {
     counter: Counter,
-    seat: Place,
+    seat: CountSeat,
 }
 
 impl Model for KeepOwner {
     ghost use Rattle.std.specs.Prelude.{◌≡◌, []};
     ghost use Rattle.std.specs.Arc.{arc_value};
-    ghost use Rattle.keep_alive.specs.declared.count.Holding.TheVariants.{Owner};
+    ghost use Rattle.keep_alive.specs.declared.view.View.TheVariants.{Owner};
     ghost use Rattle.keep_alive.specs.Seen.{OwnerSeen};
 
     ghost Value = { OwnerSeen };
@@ -35,36 +35,38 @@ impl Model for KeepOwner {
 }
 
 /// A counted token: while it is held, the count is above 0. It is spent by [`KeepAlive::release`]. Contracts see
-/// which count it is of, and its room: how many tokens can still be made from it, and from those that it makes.
+/// which count it is of, its room, that is how many tokens can still be made from it and from those that it makes,
+/// and the room that the count's first token had.
 pub struct KeepAlive {
     counter: Counter,
-    seat: Place,
+    seat: CountSeat,
     room: u32,
 }
 
 impl Model for KeepAlive {
     ghost use Rattle.std.specs.Prelude.{◌≡◌, []};
     ghost use Rattle.std.specs.Arc.{arc_value};
-    ghost use Rattle.keep_alive.specs.declared.count.Holding.TheVariants.{Token};
+    ghost use Rattle.keep_alive.specs.declared.view.View.TheVariants.{Token};
+    ghost use Rattle.keep_alive.specs.Views.{whole_of};
     ghost use Rattle.keep_alive.specs.Seen.{TokenSeen};
 
     ghost Value = { TokenSeen };
 
-    ghost view = { λ k. record { count = k.seat.table_id; room = k.room } };
+    ghost view = { λ k. record { count = k.seat.table_id; room = k.room; first_room = whole_of k.seat.me.0 } };
 
-    ghost invariant = { λ k. (k.seat.table_id ≡ (arc_value k.counter).shared.table_id) × ((arc_value k.counter).shared.table_id.words ≡ 1) × (k.seat.me ≡ (Token k.room, [])) };
+    ghost invariant = { λ k. (k.seat.table_id ≡ (arc_value k.counter).shared.table_id) × ((arc_value k.counter).shared.table_id.words ≡ 1) × (k.seat.me ≡ (Token k.room (whole_of k.seat.me.0), [])) };
 }
 
 /// What a release found. Contracts see which count it was, and the number found.
 #[derive(Drop)]
 pub struct Receipt {
-    seat: Place,
+    seat: CountSeat,
     found: u64,
 }
 
 impl Model for Receipt {
     ghost use Rattle.std.specs.Prelude.{◌≡◌, []};
-    ghost use Rattle.keep_alive.specs.declared.count.Holding.TheVariants.{Released};
+    ghost use Rattle.keep_alive.specs.declared.view.View.TheVariants.{Released};
     ghost use Rattle.keep_alive.specs.Seen.{ReceiptSeen};
 
     ghost Value = { ReceiptSeen };
@@ -89,13 +91,13 @@ pub enum Released {
 #[derive(Drop)]
 pub struct Joined {
     counter: Counter,
-    seat: Place,
+    seat: CountSeat,
 }
 
 impl Model for Joined {
     ghost use Rattle.std.specs.Prelude.{◌≡◌, []};
     ghost use Rattle.std.specs.Arc.{arc_value};
-    ghost use Rattle.keep_alive.specs.declared.count.Holding.TheVariants.{Closed};
+    ghost use Rattle.keep_alive.specs.declared.view.View.TheVariants.{Closed};
     ghost use Rattle.keep_alive.specs.Seen.{OwnerSeen};
 
     ghost Value = { OwnerSeen };
@@ -106,10 +108,11 @@ impl Model for Joined {
 }
 
 impl KeepOwner {
-    /// A new count, which is 2: the owner's 1, and a token from which `room` more can be made. `Memory` where
-    /// there is none for the count.
+    /// A new count, which is 2: the owner's 1, and the first token, from which `room` more can be made. `Memory`
+    /// where there is none for the count. That nothing else is counted, the clause `within` of
+    /// [`KeepAlive::release`] says: the first token, while none was made from it, finds at most 2.
     pub fn new(alloc: Global, room: u32) -> Result<(KeepOwner, KeepAlive), Memory>
-        ensures { IfOk result (λ pair. (pair.0.count ≡ pair.1.count) × (pair.1.room ≡ room)) }
+        ensures { IfOk result (λ pair. pair.1 ≡ record { count = pair.0.count; room = room; first_room = room }) }
     {
         let (table, mut seat) = Table::of_words(alloc, &[2], &room)?;
         let token = table.shared.split_seat::<Parts>(&mut seat);
@@ -153,8 +156,8 @@ impl KeepAlive {
     /// count keeps its tokens far below that.
     pub fn copy(&mut self, room: u32) -> Result<KeepAlive, Memory>
         requires { room < self.old.room }
-        ensures copy { IfOk result (λ copy. copy ≡ record { count = self.old.count; room = room }) }
-        ensures kept { IfOk result (λ _. self.new ≡ record { count = self.old.count; room = self.old.room - (room + 1) }) }
+        ensures copy { IfOk result (λ copy. copy ≡ record self.old { room = room }) }
+        ensures kept { IfOk result (λ _. self.new ≡ record self.old { room = self.old.room - (room + 1) }) }
         ensures refused { OnErr result (self.new ≡ self.old) }
     {
         let counter = Arc::try_clone(&self.counter)?;
@@ -170,10 +173,13 @@ impl KeepAlive {
         })
     }
 
-    /// Takes the token's 1 off the count.
+    /// Takes the token's 1 off the count. The count that it finds is 1 for the owner that hasn't left, 1 for this
+    /// token, and 1 for each other token that is held. Of those there are at most as many as the room that the first
+    /// token had and this one has no more.
     pub fn release(self) -> Released
         ensures count { (receipt_of result).count ≡ self.count }
         ensures found { SaysWhatWasFound result }
+        ensures within { (receipt_of result).found + self.room ≤ 2 + self.first_room }
     {
         let KeepAlive {
             counter,

@@ -29,13 +29,15 @@ fn a_token_and_its_copy_are_released(rt: HostRuntime) -> Result<(), Fail> {
     Ok(())
 }
 
-// While the owner is there, no release is the last.
-fn release_before_the_owner(owner: KeepOwner, keep: KeepAlive) -> KeepOwner
-    requires { keep.count ≡ owner.count }
-    ensures { result.count ≡ owner.count }
+// While the owner is there, the release of a first token that wasn't copied finds 2: a count begins at 2.
+fn release_before_the_owner(owner: KeepOwner, keep: KeepAlive) -> (KeepOwner, Receipt)
+    requires count { keep.count ≡ owner.count }
+    requires first { keep.room ≡ keep.first_room }
+    ensures owner { result.0.count ≡ owner.count }
+    ensures found { result.1.found ≡ 2 }
 {
     match keep.release() {
-        Released::More(_) => owner,
+        Released::More(receipt) => (owner, receipt),
         Released::Last(receipt) => {
             last_is_after_the_owner(receipt, owner);
             unreachable!()
@@ -46,7 +48,7 @@ fn release_before_the_owner(owner: KeepOwner, keep: KeepAlive) -> KeepOwner
 #[test]
 fn no_release_is_the_last_before_the_owner_leaves(rt: HostRuntime) -> Result<(), Fail> {
     let (owner, keep) = KeepOwner::new(rt.alloc(), 0)?;
-    let owner = release_before_the_owner(owner, keep);
+    let (owner, _) = release_before_the_owner(owner, keep);
     owner.join(&rt);
     Ok(())
 }

@@ -30,7 +30,7 @@ pub record IsNewPool (exec : ExecId) (priorities adders workers helpers room : �
   pub workers_are : pool.workers ≡ workers
   pub helpers_are : pool.helpers ≡ helpers
   pub owner_is : owner.count ≡ pool.count
-  pub keep_is : keep ≡ record { count = pool.count; room = room }
+  pub keep_is : keep ≡ record { count = pool.count; room = room; first_room = room }
   pub passes_are : AreNewPasses pool.id adders passes
   pub works_are : AreNewWorkers pool.id workers works
   pub helps_are : AreNewHelpers pool.id workers helpers helps

@@ -257,7 +257,7 @@ fn assemble<J: Headed>(
     requires size { (0 < size.queues) × (size.queues ≤ 256) × (0 < size.adders) × (size.adders ≤ 64) × (size.workers ≤ 64) × (size.helpers ≤ 64) }
     requires state { (state.0.shared.table_id.words ≡ 2) × (state.0.shared.table_id.slots ≡ 1) × (state.0.shared.key ≡ record { passes = size.adders + size.workers + size.helpers; queues = size.queues }) × (state.1.table_id ≡ state.0.shared.table_id) }
     requires maker { IsMaker size.queues 0 0 (size.adders + size.workers + size.helpers) state.1.me }
-    requires keeping { keeping.0.count ≡ keeping.1.count }
+    requires keeping { (keeping.0.count ≡ keeping.1.count) × (keeping.1.first_room ≡ keeping.1.room) }
     requires parking { vec_len parking.0 ≡ size.workers }
     requires empty { (rooms.adders.items ≡ []) × (rooms.workers.items ≡ []) × (rooms.helpers.items ≡ []) }
     requires room { (vec_capacity rooms.adders ≡ size.adders) × (vec_capacity rooms.workers ≡ size.workers) × (vec_capacity rooms.helpers ≡ size.helpers) }

@@ -1,9 +1,9 @@
 use Rattle.std.proofs.Common.{ℕ, rules, sym, ap, ◌∙◌, subst}
 use Rattle.atomic_table.specs.Table.{Me, Allows, Joins}
-use Rattle.keep_alive.specs.declared.count.Holding.{Holding}
-use Rattle.keep_alive.specs.declared.count.Holding.TheVariants.{Released, Clash, Spent}
-use Rattle.keep_alive.specs.Count.{Counted}
-use Rattle.keep_alive.proofs.Steps.{owner_after_last, never}
+use Rattle.keep_alive.specs.declared.view.View.{View}
+use Rattle.keep_alive.specs.declared.view.View.TheVariants.{Released, Clash, Spent}
+use Rattle.keep_alive.specs.Rule.{CountHolds}
+use Rattle.keep_alive.proofs.EachStep.{owner_after_last, never}
 use Rattle.keep_alive.proofs.keep.last_is_after_the_owner.Goals as goal
 
 pub join_seat-requires : goal.join_seat-requires
@@ -15,8 +15,8 @@ join_seat-requires c =
       search rules,
       search rules,
       search rules,
-      subst (λ (v : Holding × Holding). Joins Counted id v.0 other v.1 Clash Spent)
-          (λ i. (sym (ap (λ (me : Me ℕ Holding). me.0) c.owner.invariant.2) i, sym (ap (λ (me : Me ℕ Holding). me.0) c.receipt.invariant ∙ ap (λ (n : ℕ). Released n) (one ∙ c.requires.1)) i))
+      subst (λ (v : View × View). Joins CountHolds id v.0 other v.1 Clash Spent)
+          (λ i. (sym (ap (λ (me : Me ℕ View). me.0) c.owner.invariant.2) i, sym (ap (λ (me : Me ℕ View). me.0) c.receipt.invariant ∙ ap (λ (n : ℕ). Released n) (one ∙ c.requires.1)) i))
           (owner_after_last id other),
     )
 
@@ -26,5 +26,5 @@ load-requires c =
     let slots = c.deref-2.result.now.shared.table_id.slots in (
       search rules,
       search rules,
-      subst (λ (me : Me ℕ Holding). Allows Counted slots id me 0 (λ x. x) (λ _ _. ⊥)) (sym (c.join_seat.ensures.2 ∙ ap (λ (l : _). (Clash, l)) (ap (λ (me : Me ℕ Holding). me.1) c.owner.invariant.2))) (never slots id),
+      subst (λ (me : Me ℕ View). Allows CountHolds slots id me 0 (λ x. x) (λ _ _. ⊥)) (sym (c.join_seat.ensures.2 ∙ ap (λ (l : _). (Clash, l)) (ap (λ (me : Me ℕ View). me.1) c.owner.invariant.2))) (never slots id),
     )

@@ -1,9 +1,10 @@
 use Rattle.std.proofs.Common.{ℕ, rules, sym, ap, ◌∙◌, subst}
 use Rattle.atomic_table.specs.Table.{Me, Allows, Joins}
-use Rattle.keep_alive.specs.declared.count.Holding.{Holding}
-use Rattle.keep_alive.specs.declared.count.Holding.TheVariants.{Clash, Spent}
-use Rattle.keep_alive.specs.Count.{Counted}
-use Rattle.keep_alive.proofs.Steps.{meeting, never}
+use Rattle.keep_alive.specs.declared.view.View.{View}
+use Rattle.keep_alive.specs.declared.view.View.TheVariants.{Clash, Spent}
+use Rattle.keep_alive.specs.Views.{whole_of}
+use Rattle.keep_alive.specs.Rule.{CountHolds}
+use Rattle.keep_alive.proofs.EachStep.{meeting, never}
 use Rattle.keep_alive.proofs.keep.nothing_is_held.Goals as goal
 
 pub join_seat-requires : goal.join_seat-requires
@@ -14,9 +15,9 @@ join_seat-requires c =
       search rules,
       search rules,
       search rules,
-      subst (λ (v : Holding × Holding). Joins Counted id v.0 other v.1 Clash Spent)
-          (λ i. (sym (ap (λ (me : Me ℕ Holding). me.0) c.joined.invariant.2) i, sym (ap (λ (me : Me ℕ Holding). me.0) c.keep.invariant.2) i))
-          (meeting id other c.keep.inside.room),
+      subst (λ (v : View × View). Joins CountHolds id v.0 other v.1 Clash Spent)
+          (λ i. (sym (ap (λ (me : Me ℕ View). me.0) c.joined.invariant.2) i, sym (ap (λ (me : Me ℕ View). me.0) c.keep.invariant.2) i))
+          (meeting id other c.keep.inside.room (whole_of c.keep.inside.seat.me.0)),
     )
 
 pub load-requires : goal.load-requires
@@ -25,5 +26,5 @@ load-requires c =
     let slots = c.deref-2.result.now.shared.table_id.slots in (
       search rules,
       search rules,
-      subst (λ (me : Me ℕ Holding). Allows Counted slots id me 0 (λ x. x) (λ _ _. ⊥)) (sym (c.join_seat.ensures.2 ∙ ap (λ (l : _). (Clash, l)) (ap (λ (me : Me ℕ Holding). me.1) c.joined.invariant.2))) (never slots id),
+      subst (λ (me : Me ℕ View). Allows CountHolds slots id me 0 (λ x. x) (λ _ _. ⊥)) (sym (c.join_seat.ensures.2 ∙ ap (λ (l : _). (Clash, l)) (ap (λ (me : Me ℕ View). me.1) c.joined.invariant.2))) (never slots id),
     )

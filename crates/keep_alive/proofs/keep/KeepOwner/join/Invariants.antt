@@ -1,5 +1,5 @@
 use Rattle.std.proofs.Common.{◌≡◌, []}
-use Rattle.keep_alive.specs.declared.count.Holding.TheVariants.{Left}
+use Rattle.keep_alive.specs.declared.view.View.TheVariants.{Left}
 use Rattle.keep_alive.proofs.keep.KeepOwner.join.Given as goal
 
 abbrev pub invariant-loop : goal.invariant-loop
