@@ -1,10 +1,12 @@
 -- What follows of jobs that ran one after another.
-use Rattle.std.proofs.Common.{◌≡◌, List, [], ◌∷◌, ◌++◌, refl, subst, sym}
+use Rattle.std.proofs.Common.{◌≡◌, List, [], ◌∷◌, ◌++◌, map, refl, subst, sym}
+use Rattle.std.proofs.lemmas.List.Elements.{All-nil, All-cons}
 use Rattle.fan_base.specs.declared.number.JobId.{JobId}
 use Rattle.fan_base.specs.declared.number.Mark.{Mark}
 use Rattle.job_trait.specs.declared.job.Head.{Head}
-use Rattle.job_trait.specs.Marks.{IsMarkOf}
-use Rattle.job_trait.specs.Runs.{Ran, Through, Leads, AreMarksOf, RunsAll}
+use Rattle.fan_base.specs.declared.number.Mark.TheVariants.{Done, Memory}
+use Rattle.job_trait.specs.Marks.{IsMarkOf, IsDone}
+use Rattle.job_trait.specs.Runs.{Ran, Through, Leads, AreMarksOf, RunsAll, done_of, IsKnownBackwards, HeldThroughout}
 
 module _ {W : Type 0} (runs : JobId → W → Mark → W → Type 0) where
   -- no job changes nothing
@@ -88,3 +90,34 @@ module _ {W : Type 0} (runs : JobId → W → Mark → W → Type 0) where
   pub runs_more : (w m v : W) (hs : List Head) (h : Head) (mark : Mark) → RunsAll runs hs w m → IsMarkOf h.number mark → runs h.id m mark v → RunsAll runs (hs ++ h ∷ []) w v
   runs_more w m v hs h mark first may ran =
       runs-append w m v hs (h ∷ []) first (runs_one m v h mark may ran)
+
+module _ {W : Type 0} (runs : JobId → W → Mark → W → Type 0) (Fact : W → Type 0) (Other : JobId → Mark → Type 0) where
+  through_tells : IsKnownBackwards runs Fact Other → (w v : W) (xs : List Ran) → Through runs w xs v → Fact v → HeldThroughout runs Fact Other w xs
+  through_tells each w v [] all here = record { first = subst Fact (sym all) here; marks = All-nil (λ r. Other r.0 r.1) }
+  through_tells each w v (x ∷ xs) all here =
+      let rest = through_tells each all.0 v xs all.2 here in
+      let one = each x.0 w x.1 all.0 all.1 rest.first in
+      record { first = one.0; marks = All-cons (λ r. Other r.0 r.1) x xs one.1 rest.marks }
+
+  -- a fact of the last world tells backwards
+  pub leads_tells : IsKnownBackwards runs Fact Other → (w v : W) (xs : List Ran) → Leads runs w xs v → Fact v → HeldThroughout runs Fact Other w xs
+  leads_tells each w v xs leads here = through_tells each w v xs leads.through here
+
+module _ {W : Type 0} (runs : JobId → W → Mark → W → Type 0) (Fact : W → Type 0) where
+  done_as : (h : Head) (r : Ran) → r.0 ≡ h.id → IsMarkOf h.number r.1 → IsDone r.1 → r ≡ done_of h
+  done_as h (id, Done x) same mark done = λ i. (same i, Done (mark i))
+  done_as h (id, Memory) same mark done = absurd done
+
+  through_done : IsKnownBackwards runs Fact (λ _ mark. IsDone mark) → (w v : W) (hs : List Head) (xs : List Ran) → AreMarksOf hs xs → Through runs w xs v → Fact v → Fact w × (xs ≡ map done_of hs)
+  through_done each w v [] [] marks all here = (subst Fact (sym all) here, refl)
+  through_done each w v [] (x ∷ xs) marks all here = absurd marks
+  through_done each w v (h ∷ hs) [] marks all here = absurd marks
+  through_done each w v (h ∷ hs) (x ∷ xs) marks all here =
+      let rest = through_done each all.0 v hs xs marks.2 all.2 here in
+      let one = each x.0 w x.1 all.0 all.1 rest.0 in
+      let same = done_as h x marks.0 marks.1 one.1 in
+      (one.0, λ i. same i ∷ rest.1 i)
+
+  -- each of these jobs was done
+  pub runs_done : IsKnownBackwards runs Fact (λ _ mark. IsDone mark) → (w v : W) (hs : List Head) → RunsAll runs hs w v → Fact v → Leads runs w (map done_of hs) v
+  runs_done each w v hs ran here = subst (λ (l : List Ran). Leads runs w l v) (through_done each w v hs ran.list ran.marks ran.leads.through here).1 ran.leads

@@ -7,3 +7,8 @@ use Rattle.fan_base.specs.declared.number.Mark.TheVariants.{Done, Memory}
 abbrev pub IsMarkOf : ℕ → Mark → Type 0
 IsMarkOf number (Done x) = x ≡ number
 IsMarkOf number Memory = Unit {0}
+
+-- the run found the memory that it wanted
+abbrev pub IsDone : Mark → Type 0
+IsDone (Done _) = Unit {0}
+IsDone Memory = ⊥

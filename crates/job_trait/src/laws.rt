@@ -4,7 +4,7 @@ ghost use Rattle.fan_base.specs.declared.number.JobId.{JobId};
 ghost use Rattle.fan_base.specs.declared.number.Mark.{Mark};
 ghost use Rattle.job_trait.specs.declared.job.Head.{Head};
 ghost use Rattle.job_trait.specs.Marks.{IsMarkOf};
-ghost use Rattle.job_trait.specs.Runs.{Ran, Leads, RunsAll};
+ghost use Rattle.job_trait.specs.Runs.{Ran, Leads, RunsAll, TellsBackwards, TellsAllDone};
 
 use crate::job::Job;
 use std::marker::PhantomData;
@@ -33,6 +33,11 @@ pub trait WorldFact<W> {
 /// What a world was and what it is now.
 pub trait WorldRelation<W> {
     ghost relates: { W → W → Type 0 };
+}
+
+/// A fact about a job's id and the mark that a run of it had.
+pub trait RunFact {
+    ghost holds: { JobId → Mark → Type 0 };
 }
 
 /// Where no job ran, nothing changed.
@@ -71,4 +76,17 @@ pub fn related_by_each_run<W, M: Meaning<W>, F: WorldRelation<W>>()
     ensures { ((w : W) → F.relates w w) → ((w m v : W) → F.relates w m → F.relates m v → F.relates w v)
         → ((id : JobId) (w : W) (mark : Mark) (v : W) → M.runs id w mark v → F.relates w v)
         → (w v : W) (list : List Ran) → Leads M.runs w list v → F.relates w v }
+{}
+
+/// From the last world back to the marks: where a run after which the fact holds began where it held too, and had a
+/// mark with the other fact, then a list of runs after which it holds began where it held, and each of its marks has
+/// the other fact. Say, a world notes that a run found no memory, and keeps the note: where there is none at the end,
+/// no run found none.
+pub fn known_back_to_front<W, M: Meaning<W>, F: WorldFact<W>, R: RunFact>()
+    ensures { TellsBackwards M.runs F.holds R.holds }
+{}
+
+/// The same for the fact that a run was done: then these jobs led from world to world each done with its own number.
+pub fn all_jobs_were_done<W, M: Meaning<W>, F: WorldFact<W>>()
+    ensures { TellsAllDone M.runs F.holds }
 {}

@@ -1,6 +1,7 @@
 // A job that notes its id in a world, through both executors, and what callers know of the world after that.
-ghost use Rattle.std.specs.Prelude.{◌≡◌, ◌⊎◌, ◌≤◌, [], ◌∷◌, ◌++◌, map, length};
-ghost use Rattle.job_trait.specs.Runs.{RunsAll};
+ghost use Rattle.std.specs.Prelude.{◌≡◌, ◌⊎◌, ◌≤◌, [], ◌∷◌, ◌++◌, map, length, false};
+ghost use Rattle.job_trait.specs.Marks.{IsDone};
+ghost use Rattle.job_trait.specs.Runs.{Leads, RunsAll, IsKnownBackwards, done_of};
 
 use super::*;
 use fan_base::{ExecId, JobId, Mark, Refused};
@@ -220,5 +221,86 @@ fn a_job_that_may_not_be_dropped_is_run_or_handed_back(rt: HostRuntime) -> Resul
     assert_eq!(rt; (first, second, third), (0, 0, 0));
     assert_eq!(rt; (ran, back, drained), (1, 8, 1));
     assert_eq!(rt; world.as_slice(), [5, 6, 9].as_slice());
+    Ok(())
+}
+
+// What a run wrote, and whether one of them found no memory.
+#[derive(Drop)]
+struct Log {
+    items: Vec<u64>,
+    refused: bool,
+}
+
+// It writes its id.
+#[derive(Drop)]
+struct Write(Head);
+
+impl Headed for Write {
+    ghost head = { λ write. write.0 };
+
+    fn id(&self) -> JobId {
+        self.0.id
+    }
+
+    fn exec(&self) -> ExecId {
+        self.0.exec
+    }
+}
+
+impl Job<Log> for Write {
+    ghost runs = { λ id before mark after. after.refused ≡ false → (before.refused ≡ false) × IsDone mark };
+
+    fn run<R: Wait>(self, _rt: &R, log: &mut Log) -> Mark {
+        match log.items.push(self.0.id.0) {
+            Ok(()) => Mark::Done(self.0.number),
+            Err(_) => {
+                log.refused = true;
+                Mark::Memory
+            }
+        }
+    }
+}
+
+struct NoneRefused;
+
+impl WorldFact<Log> for NoneRefused {
+    ghost holds = { λ log. log.refused ≡ false };
+}
+
+// Where the last world has the fact, each job that ran was done.
+fn drain_done<W, J: Job<W>, F: WorldFact<W>, R: Wait>(
+    rt: &R,
+    executor: &mut ManualExecutor<J>,
+    world: &mut W,
+)
+    requires { IsKnownBackwards J.runs F.holds (λ _ mark. IsDone mark) }
+    ensures { F.holds world.new → Leads J.runs world.old (map done_of (map J.head executor.old.jobs)) world.new }
+{
+    executor.drain(rt, world);
+    all_jobs_were_done::<W, OfJob<J>, F>();
+}
+
+fn make_write(id: u64) -> Write
+    ensures { result.0.exec.0 ≡ 7 }
+{
+    Write(Head {
+        id: JobId(id),
+        exec: ExecId(7),
+        number: id,
+    })
+}
+
+#[test]
+fn a_flag_that_is_down_at_the_end_was_never_up(rt: HostRuntime) -> Result<(), Fail> {
+    let alloc: Global = rt.alloc();
+    let mut log = Log {
+        items: Vec::new(alloc),
+        refused: false,
+    };
+    let mut executor = ManualExecutor::new(alloc, ExecId(7));
+    let taken = executor.add(&rt, make_write(5)).is_ok();
+    drain_done::<Log, Write, NoneRefused, HostRuntime>(&rt, &mut executor, &mut log);
+    assert!(rt; taken && !log.refused);
+    assert_eq!(rt; log.items.as_slice(), [5].as_slice());
     Ok(())
 }
