@@ -1,0 +1,9 @@
+pub mod Tickets
+pub mod History
+pub mod Orders
+pub mod Tasks
+pub mod Records
+pub mod Seen
+pub mod Passes
+pub mod Accounts
+pub mod Endings

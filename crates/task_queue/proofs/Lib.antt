@@ -1,0 +1,11 @@
+pub mod Seats
+pub mod Sums
+pub mod Known
+pub mod Making
+pub mod Pushing
+pub mod Popping
+pub mod Gathering
+pub mod Calls
+pub mod Settling
+pub mod Marking
+pub mod Crossings

@@ -1,0 +1,7 @@
+pub mod Views
+pub mod Rule
+pub mod Steps
+pub mod Seen
+pub mod Passes
+pub mod Settled
+pub mod Marks

@@ -1,0 +1,36 @@
+//! One queue of a pool, each task of which leaves it once and in order, and the mark that a pool's end sets.
+//!
+//! The pool is that of Folly's `CPUThreadPoolExecutor`, whose `PriorityUnboundedBlockingQueue` has one unbounded queue a
+//! priority. This crate has one such queue, over the toolchain's lock-free `SegQueue` under a rule, and one word that says which
+//! end has begun. There is no lock.
+//!
+//! ```text
+//!   Maker --- next_adder --> Adder  -- push --> [ t t t ] -- take --> Taker
+//!      \----- next_taker --> Taker                                     |
+//!   Adder, Adder, .. Taker, Taker  -- gather, put_adder, put_taker --> Gathered -- settle --> what is left
+//! ```
+//!
+//! - A pass has no bytes. Contracts see what it pushed or popped, which only its own steps on the queue change.
+//! - Between any two steps there is one lawful history (`PoolHistory` of `pool_model`): each adder's pushes are what it accepted
+//!   by that adder, each taker's pops what it has taken by that taker, and what waits is what the queue holds.
+//! - `settle` asks for all passes, and hands out what is left, in order, with the one whole history (`Settled`).
+//! - A pop that finds nothing gives evidence of it (`EmptyLook`), which nothing else makes.
+//! - While no end has begun the adders have all parts of the mark. `begin` needs them all and spends them, so whoever found an
+//!   end meets no adder any more (`no_part_is_left`).
+#![tactic(auto)]
+
+mod look;
+mod mark;
+mod passes;
+mod queue;
+mod rule;
+mod steps;
+#[cfg(test)]
+mod tests;
+mod view;
+
+pub use look::EmptyLook;
+pub use mark::{EndMark, OpenSeat, Watch};
+pub use passes::{Adder, Gathered, Maker, Taker};
+pub use queue::{Look, TaskQueue};
+pub use rule::Queued;

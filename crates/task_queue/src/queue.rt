@@ -1,0 +1,169 @@
+// The queue and its calls.
+ghost use Rattle.std.specs.Prelude.{◌≡◌, ◌+◌, ◌-◌, ◌<◌, ◌≤◌, [], ◌∷◌, ◌++◌, length, map, All, IfOk, OnOk, IfErr};
+ghost use Rattle.crossbeam_queue.specs.SegTies.{IsSegPassOf};
+ghost use Rattle.task_queue.specs.Views.{entry_of, share, gathered};
+ghost use Rattle.task_queue.specs.Settled.{Settled, Drained, LookTold};
+
+use crate::look::{EmptyLook, pop};
+use crate::passes::{Adder, Gathered, Maker, Taker};
+use crate::rule::{Line, Pass, Queued};
+use crate::steps::{Count, Gather, MakeAdder, MakeTaker, Push, PutAdder, PutTaker};
+use fan_base::{Memory, Parcel, Parcels, Refused};
+use job_trait::Headed;
+use std::alloc::Global;
+use std::marker::Model;
+use std::sync::Wait;
+
+/// One queue of a pool. Contracts see which queue it is.
+pub struct TaskQueue<J: Headed> {
+    line: Line<J>,
+    alloc: Global,
+}
+
+impl<J: Headed> Model for TaskQueue<J> {
+    ghost use Rattle.std.specs.declared.alloc.Global.{Global};
+    ghost use Rattle.crossbeam_queue.specs.SegTies.{SegId};
+
+    ghost Value = { SegId Global };
+
+    ghost view = { λ q. q.line };
+}
+
+impl<J: Headed> Drop for TaskQueue<J> {
+    fn drop(self) {
+        let TaskQueue { line, alloc: _ } = self;
+        line.destroy();
+    }
+}
+
+/// What a look at a queue found: the task in front, or no task at a step of the call.
+#[derive(Drop)]
+pub enum Look<J> {
+    Found(Queued<J>),
+    Empty(EmptyLook<J>),
+}
+
+impl<J: Headed> TaskQueue<J> {
+    /// An empty queue for so many passes, and the right to make them.
+    pub fn new(alloc: Global, passes: u32) -> Result<(TaskQueue<J>, Maker<J>), Memory>
+        ensures { IfOk result (λ r. r.1 ≡ record { queue = r.0; passes = passes; left = passes; adders = 0; takers = 0 }) }
+    {
+        let (line, mut pass) = Line::with_rule(alloc)?;
+        for _ in 0..passes {
+            let _ = line.another::<Count>(&mut pass);
+        }
+        Ok((TaskQueue { line, alloc }, Maker { pass }))
+    }
+
+    /// The pass of the next adder, which has pushed nothing.
+    pub fn next_adder(&self, maker: &mut Maker<J>) -> Adder<J>
+        requires queue { maker.old.queue ≡ self.now }
+        requires left { 0 < maker.old.left }
+        requires few { maker.old.adders < 64 }
+        ensures maker { maker.new ≡ record maker.old { left = maker.old.left - 1; adders = maker.old.adders + 1 } }
+        ensures adder { result ≡ record { queue = self.now; passes = maker.old.passes; number = maker.old.adders; pushed = [] } }
+    {
+        Adder {
+            pass: self.line.another::<MakeAdder>(&mut maker.pass),
+        }
+    }
+
+    /// The pass of the next taker, which has popped nothing.
+    pub fn next_taker(&self, maker: &mut Maker<J>) -> Taker<J>
+        requires queue { maker.old.queue ≡ self.now }
+        requires left { 0 < maker.old.left }
+        ensures maker { maker.new ≡ record maker.old { left = maker.old.left - 1; takers = maker.old.takers + 1 } }
+        ensures taker { result ≡ record { queue = self.now; passes = maker.old.passes; number = maker.old.takers; popped = [] } }
+    {
+        Taker {
+            pass: self.line.another::<MakeTaker>(&mut maker.pass),
+        }
+    }
+
+    /// Pushes a task behind the others, under a ticket of the adder's number whose index is above those of all that it pushed
+    /// here. It gives the task back where there is no memory.
+    pub fn push<R: Wait>(
+        &self,
+        rt: &R,
+        adder: &mut Adder<J>,
+        task: Queued<J>,
+    ) -> Result<(), Refused<Queued<J>>>
+        requires queue { adder.old.queue ≡ self.now }
+        requires number { task.ticket.adder ≡ adder.old.number }
+        requires ascends { All (λ e. e.ticket.index < task.ticket.index) adder.old.pushed }
+        requires room { length adder.old.pushed < 4294967296 }
+        ensures ok { OnOk result (adder.new ≡ record adder.old { pushed = adder.old.pushed ++ entry_of J.head task ∷ [] }) }
+        ensures refused { IfErr result (λ back. (back ≡ Refused.Memory task) × (adder.new ≡ adder.old)) }
+    {
+        let parcel = Parcel::new(self.alloc, task)?;
+        match self.line.push_as::<Push, R>(rt, &mut adder.pass, parcel) {
+            Ok(()) => Ok(()),
+            Err(parcel) => Err(Refused::Memory(parcel.open())),
+        }
+    }
+
+    /// Takes the task in front. `Empty` comes only where the queue was empty at a step of this call.
+    pub fn take<R: Wait>(&self, rt: &R, taker: &mut Taker<J>) -> Look<J>
+        requires queue { taker.old.queue ≡ self.now }
+        ensures { LookTold J.head taker.old taker.new result }
+    {
+        match pop(&self.line, rt, &mut taker.pass) {
+            Ok(parcel) => Look::Found(parcel.open()),
+            Err(look) => Look::Empty(look),
+        }
+    }
+
+    /// Begins to put the passes of the queue together, with an adder.
+    pub fn gather(&self, adder: Adder<J>) -> Gathered<J>
+        requires queue { adder.queue ≡ self.now }
+        ensures { result ≡ record { queue = self.now; passes = adder.passes; here = 1; added = share adder.number adder.pushed ∷ []; taken = [] } }
+    {
+        let Adder { mut pass } = adder;
+        let _ = self.line.another::<Gather>(&mut pass);
+        Gathered { pass }
+    }
+
+    /// Puts an adder to the others.
+    pub fn put_adder(&self, gathered: &mut Gathered<J>, adder: Adder<J>)
+        requires queue { (gathered.old.queue ≡ self.now) × (adder.queue ≡ self.now) }
+        ensures { gathered.new ≡ record gathered.old { here = gathered.old.here + 1; added = gathered.old.added ++ share adder.number adder.pushed ∷ [] } }
+    {
+        let Adder { pass } = adder;
+        self.line.absorb::<PutAdder>(&mut gathered.pass, pass);
+    }
+
+    /// Puts a taker to the others.
+    pub fn put_taker(&self, gathered: &mut Gathered<J>, taker: Taker<J>)
+        requires queue { (gathered.old.queue ≡ self.now) × (taker.queue ≡ self.now) }
+        ensures { gathered.new ≡ record gathered.old { here = gathered.old.here + 1; taken = gathered.old.taken ++ share taker.number taker.popped ∷ [] } }
+    {
+        let Taker { pass } = taker;
+        self.line.absorb::<PutTaker>(&mut gathered.pass, pass);
+    }
+
+    /// Ends the queue, all of whose passes were put together: takes out what is left, in order.
+    pub fn settle<R: Wait>(self, rt: &R, gathered: Gathered<J>) -> Parcels<Queued<J>>
+        requires queue { gathered.queue ≡ self }
+        requires all { gathered.here ≡ gathered.passes }
+        ensures { Settled gathered (map (entry_of J.head) result) }
+    {
+        let Gathered { mut pass } = gathered;
+        drain(&self.line, rt, &mut pass)
+    }
+}
+
+// Pops all that is left, in order.
+fn drain<J: Headed, R: Wait>(line: &Line<J>, rt: &R, pass: &mut Pass<J>) -> Parcels<Queued<J>>
+    requires pass { IsSegPassOf line.now pass.old }
+    requires whole { pass.old.me.view.client ≡ gathered pass.old.me.view.client.whole pass.old.me.view.client.whole pass.old.me.view.client.added pass.old.me.view.client.taken [] }
+    ensures { Drained pass.old.me.view.client (map (entry_of J.head) result) }
+{
+    let mut parcels = Parcels::new();
+    for _ in rt.forever() {
+        match pop(line, rt, pass) {
+            Ok(parcel) => parcels.push_front(parcel),
+            Err(_) => return parcels.reversed(),
+        }
+    }
+    unreachable!()
+}
