@@ -1,10 +1,8 @@
 -- Before anybody has begun, and the first step, by which a key becomes two halves.
-use Rattle.std.proofs.Common.{◌≡◌, ◌≢◌, ℕ, zero, suc, ◌<◌, inl, inr, List, [], ◌∷◌, ◌++◌, length, refl, sym, ap, ◌∙◌, subst, None, arith, length-set}
+use Rattle.std.proofs.Common.{◌≡◌, ◌≢◌, ℕ, zero, suc, ◌<◌, inl, inr, ⊎_elim, List, [], ◌∷◌, ◌++◌, length, refl, sym, ap, ◌∙◌, subst, None, arith, length-set}
 use Rattle.std.specs.Prelude.{slice_set, replicate}
 use mathlib.Core.Option as maybe
-use mathlib.Core.Option.{some-injective, some-ne-none}
-use mathlib.Core.Logic.{dite}
-use native.Mathlib.Decide.{ℕ_discrete}
+use mathlib.Core.Option.{some-ne-none}
 use lib.ListN.{get_elem?}
 use Rattle.atomic_table.specs.Table.{Splits, opening}
 use Rattle.atomic_table.proofs.Lists.{set_here, set_else, at_longer, at_last}
@@ -14,7 +12,7 @@ use Rattle.core_word.specs.declared.view.View.{View}
 use Rattle.core_word.specs.declared.view.View.TheVariants as view
 use Rattle.core_word.specs.Rule.{Cells, IsPast, Unbegun, StandsFor}
 use Rattle.core_word.specs.Plays.{Standing, key_at, producer_ready, consumer_ready, begin_producer, begin_consumer}
-use Rattle.core_word.proofs.Owing.{within, one_view, over_others}
+use Rattle.core_word.proofs.Owing.{within, of_unbegun, of_begun, of_over, of_reopening, of_joined}
 
 before_last : {A : Type 0} (l : List A) (a : A) (k : ℕ) (b : A) → k ≢ length l → get_elem? (l ++ a ∷ []) k ≡ maybe.some b → get_elem? l k ≡ maybe.some b
 before_last [] a zero b ne e = absurd (ne refl)
@@ -37,17 +35,14 @@ module _ {T C P : Type 0} where
     other (suc k) v ne e = absurd (some-ne-none v (sym e))
 
   pub key_begins : (id u : ℕ) (s : Cells T C P) → StandsFor s → get_elem? s.views id ≡ maybe.some (view.Key u) → (b : Unbegun s) × (id ≡ b.seat) × (u ≡ b.number)
-  key_begins id u s (inl b) at = dite (ℕ_discrete id b.seat)
-      (λ e. let same = one_view s.views id b.seat _ _ at b.at e in let number : u ≡ b.number = cc in (b, e, number))
-      (λ ne. absurd (b.others id _ ne at))
-  key_begins id u s (inr (inl b)) at = dite (ℕ_discrete id b.producer)
-      (λ e. let same = one_view s.views id b.producer _ _ at b.at_p e in cc)
-      (λ np. dite (ℕ_discrete id b.consumer)
-      (λ e. let same = one_view s.views id b.consumer _ _ at b.at_c e in cc)
-      (λ nc. absurd (b.others id _ np nc at)))
-  key_begins id u s (inr (inr b)) at = dite (ℕ_discrete id b.last)
-      (λ e. let same = one_view s.views id b.last _ _ at b.at_last e in cc)
-      (λ ne. absurd (over_others s b id _ ne at))
+  key_begins id u s (inl b) at = let r = of_unbegun s id _ at (λ n past. past) b in let same = r.1 in let number : u ≡ b.number = cc in (b, r.0, number)
+  key_begins id u s (inr (inl b)) at = ⊎_elim
+      (λ (r : (id ≡ b.producer) × (view.Key u ≡ view.Producer b.number b.p)). let e = r.1 in cc)
+      (λ (r : (id ≡ b.consumer) × (view.Key u ≡ view.Consumer b.number b.c)). let e = r.1 in cc)
+      (of_begun s id _ at (λ n past. past) b)
+  key_begins id u s (inr (inr (inl b))) at = let r = of_over s id _ at (λ n past. past) b in let e = r.1 in cc
+  key_begins id u s (inr (inr (inr (inl b)))) at = let r = of_reopening s id _ at (λ n past. past) b in let e = r.1 in cc
+  key_begins id u s (inr (inr (inr (inr b)))) at = let r = of_joined s id _ at (λ n past. past) b in let e = r.1 in cc
 
   begins_two : (id u : ℕ) → Splits StandsFor id (key_at {T = T} {C = C} {P = P} u).0 (producer_ready {T = T} {C = C} {P = P} u).0 (consumer_ready {T = T} {C = C} {P = P} u).0
   begins_two id u s holds at =

@@ -110,7 +110,11 @@ module _ {T C P : Type 0} where
   ends words slots (t, inr (inl b), is, long, same) =
       let s = state_from (offer_of b.p) (claim_of b.c) in
       (s, _, sym is ∙ b.words, λ some. at_end t.homes slots s same (subst (λ hs. Kept s hs) (sym b.homes) (kept b.p b.c b.fit)))
-  ends words slots (t, inr (inr b), is, long, same) = (state_from b.offer b.claim, 0, sym is ∙ b.words, λ some. absurd (some refl))
+  ends words slots (t, inr (inr (inl b)), is, long, same) = (state_from b.offer b.claim, 0, sym is ∙ b.words, λ some. absurd (some refl))
+  ends words slots (t, inr (inr (inr (inl b))), is, long, same) = (state.Start, 0, sym is ∙ b.words, λ some. absurd (some refl))
+  ends words slots (t, inr (inr (inr (inr b))), is, long, same) =
+      let s = state_from (offer_of b.p) (claim_of b.c) in
+      (s, _, sym is ∙ b.words, λ some. at_end t.homes slots s same (subst (λ hs. Kept s hs) (sym b.homes) (kept b.p b.c b.fit)))
 
   -- the same for a state that is known by its code
   pub kept_at_close : (words : List ℕ) (slots : List (Held T C P)) → Final StandsFor words slots → (w n : ℕ) → get_elem? words 0 ≡ maybe.some w → get_elem? words 1 ≡ maybe.some n

@@ -5,3 +5,5 @@ pub mod Leaving
 pub mod Reading
 pub mod Beginning
 pub mod Ending
+pub mod Reopening
+pub mod Agreeing

@@ -1,5 +1,5 @@
 -- What a half owes for a step: for any other half that fits it, the words, the slots and the two halves after the step fit again.
-use Rattle.std.proofs.Common.{◌≡◌, ◌≢◌, ℕ, zero, suc, ◌<◌, inl, inr, List, [], ◌∷◌, length, sym, ap, ◌∙◌, subst, arith}
+use Rattle.std.proofs.Common.{◌≡◌, ◌≢◌, ℕ, zero, suc, ◌<◌, inl, inr, ⊎_elim, ◌⊎◌, List, [], ◌∷◌, length, sym, ap, ◌∙◌, subst, arith}
 use Rattle.std.specs.Prelude.{slice_set, slice_index}
 use mathlib.Core.Option as maybe
 use mathlib.Core.Option.{some-injective, some-ne-none}
@@ -16,7 +16,7 @@ use Rattle.core_word.specs.declared.view.ConsumerPhase.{ConsumerPhase}
 use Rattle.core_word.specs.declared.view.View.{View}
 use Rattle.core_word.specs.declared.view.View.TheVariants as view
 use Rattle.core_word.specs.Views.{use_of, producer_left, consumer_left, Knows}
-use Rattle.core_word.specs.Rule.{Held, Home, Cells, words_of, homes_of, IsSet, Fit, IsPast, IsFirstOf, Unbegun, Begun, Over, StandsFor}
+use Rattle.core_word.specs.Rule.{Held, Home, Cells, words_of, homes_of, IsSet, Fit, IsPast, IsFirstOf, Unbegun, Begun, Over, Reopening, Joined, StandsFor}
 use Rattle.fan_base.specs.declared.outcome.Try.{Try}
 use Rattle.core_state.specs.declared.schedule.Offer.{Offer}
 use Rattle.core_state.specs.declared.schedule.Offer.TheVariants as offered
@@ -57,18 +57,133 @@ module _ {T C P : Type 0} where
   past_later u (view.Producer n p) past = let lt = past.0 in (omega arith, past.1)
   past_later u (view.Consumer n c) past = let lt = past.0 in (omega arith, past.1)
   past_later u (view.Husk n o k) past = absurd past
+  past_later u (view.Reopening n) past = absurd past
+  past_later u (view.Joined n p c) past = absurd past
+  past_later u view.Spent past = tt
+  past_later u view.Clash past = absurd past
 
   first_past : (u : ℕ) (v : View T C P) → IsFirstOf u v → IsPast (suc u) v
   first_past u (view.Key n) left = absurd left
   first_past u (view.Producer n p) left = let same = left.0 in (omega arith, left.1)
   first_past u (view.Consumer n c) left = let same = left.0 in (omega arith, left.1)
   first_past u (view.Husk n o k) left = absurd left
+  first_past u (view.Reopening n) left = absurd left
+  first_past u (view.Joined n p c) left = absurd left
+  first_past u view.Spent left = absurd left
+  first_past u view.Clash left = absurd left
 
   -- once a use is over, every other half was the first to leave its use
   pub over_others : (s : Cells T C P) (b : Over s) (k : ℕ) (v : View T C P) → k ≢ b.last → get_elem? s.views k ≡ maybe.some v → IsPast (suc b.number) v
   over_others s b k v ne at = dite (ℕ_discrete k b.first)
       (λ e. subst (λ w. IsPast (suc b.number) w) (sym (one_view s.views k b.first v b.v at b.at_first e)) (first_past b.number b.v b.left))
       (λ nf. past_later b.number v (b.others k v ne nf at))
+
+  -- a view of a half or a key that still has a part in its home
+  abbrev pub IsLive : View T C P → Type 0
+  IsLive v = (n : ℕ) → IsPast n v → ⊥
+
+  -- a seat with such a view, beside which all others are past
+  only_one : (vs : List (View T C P)) (seat n : ℕ) (w : View T C P) → get_elem? vs seat ≡ maybe.some w
+      → ((k : ℕ) (v : View T C P) → k ≢ seat → get_elem? vs k ≡ maybe.some v → IsPast n v)
+      → (id : ℕ) (v : View T C P) → get_elem? vs id ≡ maybe.some v → IsLive v → (id ≡ seat) × (v ≡ w)
+  only_one vs seat n w at others id v here live = dite (ℕ_discrete id seat)
+      (λ e. (e, one_view vs id seat v w here at e))
+      (λ ne. absurd (live n (others id v ne here)))
+
+  module _ (s : Cells T C P) (id : ℕ) (v : View T C P) (here : get_elem? s.views id ≡ maybe.some v) (live : IsLive v) where
+    pub of_unbegun : (b : Unbegun s) → (id ≡ b.seat) × (v ≡ view.Key b.number)
+    of_unbegun b = only_one s.views b.seat b.number _ b.at b.others id v here live
+
+    pub of_over : (b : Over s) → (id ≡ b.last) × (v ≡ view.Husk b.number b.offer b.claim)
+    of_over b = only_one s.views b.last (suc b.number) _ b.at_last (over_others s b) id v here live
+
+    pub of_reopening : (b : Reopening s) → (id ≡ b.seat) × (v ≡ view.Reopening b.number)
+    of_reopening b = only_one s.views b.seat (suc b.number) _ b.at b.others id v here live
+
+    pub of_joined : (b : Joined s) → (id ≡ b.seat) × (v ≡ view.Joined b.number b.p b.c)
+    of_joined b = only_one s.views b.seat b.number _ b.at b.others id v here live
+
+    pub of_begun : (b : Begun s) → ((id ≡ b.producer) × (v ≡ view.Producer b.number b.p)) ⊎ ((id ≡ b.consumer) × (v ≡ view.Consumer b.number b.c))
+    of_begun b = dite (ℕ_discrete id b.producer)
+        (λ e. inl (e, one_view s.views id b.producer _ _ here b.at_p e))
+        (λ np. dite (ℕ_discrete id b.consumer)
+        (λ e. inr (e, one_view s.views id b.consumer _ _ here b.at_c e))
+        (λ nc. absurd (live b.number (b.others id v np nc here))))
+
+  -- what a producer that hasn't left first stands beside: the consumer of its use, and past views
+  pub record BesideProducer (s : Cells T C P) (id u : ℕ) (p : ProducerPhase T C P) : Type 0 where
+    pub consumer : ℕ
+    pub c : ConsumerPhase T C P
+    pub apart : id ≢ consumer
+    pub at_c : get_elem? s.views consumer ≡ maybe.some (view.Consumer u c)
+    pub others : (k : ℕ) (v : View T C P) → k ≢ id → k ≢ consumer → get_elem? s.views k ≡ maybe.some v → IsPast u v
+    pub words : s.words ≡ words_of p c
+    pub homes : s.homes ≡ homes_of p c
+    pub fit : Fit p c
+
+  -- the same of a consumer
+  pub record BesideConsumer (s : Cells T C P) (id u : ℕ) (c : ConsumerPhase T C P) : Type 0 where
+    pub producer : ℕ
+    pub p : ProducerPhase T C P
+    pub apart : producer ≢ id
+    pub at_p : get_elem? s.views producer ≡ maybe.some (view.Producer u p)
+    pub others : (k : ℕ) (v : View T C P) → k ≢ producer → k ≢ id → get_elem? s.views k ≡ maybe.some v → IsPast u v
+    pub words : s.words ≡ words_of p c
+    pub homes : s.homes ≡ homes_of p c
+    pub fit : Fit p c
+
+  module _ (s : Cells T C P) (id u : ℕ) where
+    module _ (p : ProducerPhase T C P) (stays : producer_left p ≢ departed.First) (here : get_elem? s.views id ≡ maybe.some (view.Producer u p)) where
+      live_producer : IsLive (view.Producer u p)
+      live_producer n past = stays past.1
+
+      of_producer : (b : Begun s) → (id ≡ b.producer) × (view.Producer u p ≡ view.Producer b.number b.p) → BesideProducer s id u p
+      of_producer b r =
+          let same = r.1 in
+          let number : u ≡ b.number = cc in
+          let phase : p ≡ b.p = cc in record {
+            consumer = b.consumer;
+            c = b.c;
+            apart = λ e. b.apart (sym r.0 ∙ e);
+            at_c = b.at_c ∙ ap (λ n. maybe.some (view.Consumer n b.c)) (sym number);
+            others = λ k v ne nc e. subst (λ n. IsPast n v) (sym number) (b.others k v (λ x. ne (x ∙ sym r.0)) nc e);
+            words = b.words ∙ ap (λ q. words_of q b.c) (sym phase);
+            homes = b.homes ∙ ap (λ q. homes_of q b.c) (sym phase);
+            fit = subst (λ q. Fit q b.c) (sym phase) b.fit;
+          }
+
+      pub beside_producer : StandsFor s → BesideProducer s id u p
+      beside_producer (inl b) = let r = of_unbegun s id _ here live_producer b in let e = r.1 in cc
+      beside_producer (inr (inl b)) = ⊎_elim (of_producer b) (λ (r : (id ≡ b.consumer) × (view.Producer u p ≡ view.Consumer b.number b.c)). let e = r.1 in cc) (of_begun s id _ here live_producer b)
+      beside_producer (inr (inr (inl b))) = let r = of_over s id _ here live_producer b in let e = r.1 in cc
+      beside_producer (inr (inr (inr (inl b)))) = let r = of_reopening s id _ here live_producer b in let e = r.1 in cc
+      beside_producer (inr (inr (inr (inr b)))) = let r = of_joined s id _ here live_producer b in let e = r.1 in cc
+
+    module _ (c : ConsumerPhase T C P) (stays : consumer_left c ≢ departed.First) (here : get_elem? s.views id ≡ maybe.some (view.Consumer u c)) where
+      live_consumer : IsLive (view.Consumer u c)
+      live_consumer n past = stays past.1
+
+      of_consumer : (b : Begun s) → (id ≡ b.consumer) × (view.Consumer u c ≡ view.Consumer b.number b.c) → BesideConsumer s id u c
+      of_consumer b r =
+          let same = r.1 in
+          let number : u ≡ b.number = cc in
+          let phase : c ≡ b.c = cc in record {
+            producer = b.producer;
+            p = b.p;
+            apart = λ e. b.apart (e ∙ r.0);
+            at_p = b.at_p ∙ ap (λ n. maybe.some (view.Producer n b.p)) (sym number);
+            others = λ k v np ne e. subst (λ n. IsPast n v) (sym number) (b.others k v np (λ x. ne (x ∙ sym r.0)) e);
+            words = b.words ∙ ap (λ q. words_of b.p q) (sym phase);
+            homes = b.homes ∙ ap (λ q. homes_of b.p q) (sym phase);
+            fit = subst (λ q. Fit b.p q) (sym phase) b.fit;
+          }
+
+      pub beside_consumer : StandsFor s → BesideConsumer s id u c
+      beside_consumer (inl b) = let r = of_unbegun s id _ here live_consumer b in let e = r.1 in cc
+      beside_consumer (inr (inl b)) = ⊎_elim (λ (r : (id ≡ b.producer) × (view.Consumer u c ≡ view.Producer b.number b.p)). let e = r.1 in cc) (of_consumer b) (of_begun s id _ here live_consumer b)
+      beside_consumer (inr (inr (inl b))) = let r = of_over s id _ here live_consumer b in let e = r.1 in cc
+      beside_consumer (inr (inr (inr (inl b)))) = let r = of_reopening s id _ here live_consumer b in let e = r.1 in cc
+      beside_consumer (inr (inr (inr (inr b)))) = let r = of_joined s id _ here live_consumer b in let e = r.1 in cc
 
   module _ (id : ℕ) (u : ℕ) (cs : List (ℕ × Held T C P)) (i : ℕ) (f : ℕ → ℕ) (then : ℕ → Standing T C P → Type 0) where
     -- a step of a table with these words, slots and views
@@ -105,43 +220,28 @@ module _ {T C P : Type 0} where
     placed ws hs vs ws' hs' e f g = subst (λ x. Steps x hs vs) (sym e) (subst (λ y. Steps ws' y vs) (sym f) g)
 
     module _ (p : ProducerPhase T C P) (stays : producer_left p ≢ departed.First) where
-      pub others_after : (vs : List (View T C P)) (consumer : ℕ) (w : View T C P)
-          → ((k : ℕ) (v : View T C P) → k ≢ id → k ≢ consumer → get_elem? vs k ≡ maybe.some v → IsPast u v)
-          → (k : ℕ) (v : View T C P) → k ≢ id → k ≢ consumer → get_elem? (slice_set vs id w) k ≡ maybe.some v → IsPast u v
-      others_after vs consumer w others k v ne nc e = others k v ne nc (sym (set_else vs id k w ne) ∙ e)
-
-      producer_begun : (s : Cells T C P) → ProducerOwes p → (b : Begun s) → get_elem? s.views id ≡ maybe.some (view.Producer u p) → slice_index s.words i < 18446744073709551616
-          → id ≡ b.producer → Steps s.words s.homes s.views
-      producer_begun s owes b at small here =
-          let same = one_view s.views id b.producer _ _ at b.at_p here in
-          let number : u ≡ b.number = cc in
-          let phase : p ≡ b.p = cc in
+      pub producer_steps : (slots : ℕ) → ProducerOwes p → Allows StandsFor slots id (view.Producer u p, cs) i f then
+      producer_steps slots owes s holds long at small =
+          let b = beside_producer s id u p stays at holds in
           let c = b.c in
-          let fit : Fit p c = subst (λ q. Fit q c) (sym phase) b.fit in
-          let words : s.words ≡ words_of p c = b.words ∙ ap (λ q. words_of q c) (sym phase) in
-          let homes : s.homes ≡ homes_of p c = b.homes ∙ ap (λ q. homes_of q c) (sym phase) in
-          let low : slice_index (words_of p c) i < 18446744073709551616 = subst (λ ws. slice_index ws i < 18446744073709551616) words small in
-          let r = owes c fit low in
-          let apart : id ≢ b.consumer = λ e. b.apart (sym here ∙ e) in
-          let away : b.consumer ≢ id = λ e. apart (sym e) in
-          let at_c : get_elem? s.views b.consumer ≡ maybe.some (view.Consumer u c) = b.at_c ∙ ap (λ n. maybe.some (view.Consumer n c)) (sym number) in
-          let past : (k : ℕ) (v : View T C P) → k ≢ id → k ≢ b.consumer → get_elem? s.views k ≡ maybe.some v → IsPast u v =
-          λ k v ne nc e. subst (λ n. IsPast n v) (sym number) (b.others k v (λ x. ne (x ∙ sym here)) nc e) in
+          let low : slice_index (words_of p c) i < 18446744073709551616 = subst (λ ws. slice_index ws i < 18446744073709551616) b.words small in
+          let r = owes c b.fit low in
           let w : View T C P = view.Producer u r.0 in
-          placed s.words s.homes s.views (words_of p c) (homes_of p c) words homes (
+          let away : b.consumer ≢ id = λ e. b.apart (sym e) in
+          placed s.words s.homes s.views (words_of p c) (homes_of p c) b.words b.homes (
             w,
             r.1,
             r.2,
             inr (inl record {
               producer = id;
               consumer = b.consumer;
-              apart = apart;
+              apart = b.apart;
               number = u;
               p = r.0;
               c = c;
               at_p = set_here s.views id w (within s.views id _ at);
-              at_c = set_else s.views id b.consumer w away ∙ at_c;
-              others = others_after s.views b.consumer w past;
+              at_c = set_else s.views id b.consumer w away ∙ b.at_c;
+              others = λ k v ne nc e. b.others k v ne nc (sym (set_else s.views id k w ne) ∙ e);
               words = r.3;
               homes = r.4;
               fit = r.5;
@@ -149,93 +249,34 @@ module _ {T C P : Type 0} where
             r.6,
           )
 
-      pub producer_is : (s : Cells T C P) (b : Begun s) → get_elem? s.views id ≡ maybe.some (view.Producer u p) → id ≡ b.producer
-      producer_is s b at = dite (ℕ_discrete id b.producer)
-          (λ e. e)
-          (λ ne. dite (ℕ_discrete id b.consumer)
-          (λ e. let same = one_view s.views id b.consumer _ _ at b.at_c e in cc)
-          (λ nc. let past = b.others id _ ne nc at in absurd (stays past.1)))
-
-      pub not_unbegun : (s : Cells T C P) → Unbegun s → get_elem? s.views id ≡ maybe.some (view.Producer u p) → ⊥
-      not_unbegun s b at = dite (ℕ_discrete id b.seat)
-          (λ e. let same = one_view s.views id b.seat _ _ at b.at e in cc)
-          (λ ne. let past = b.others id _ ne at in stays past.1)
-
-      pub not_over : (s : Cells T C P) → Over s → get_elem? s.views id ≡ maybe.some (view.Producer u p) → ⊥
-      not_over s b at = dite (ℕ_discrete id b.last)
-          (λ e. let same = one_view s.views id b.last _ _ at b.at_last e in cc)
-          (λ ne. let past = over_others s b id _ ne at in stays past.1)
-
-      pub producer_steps : (slots : ℕ) → ProducerOwes p → Allows StandsFor slots id (view.Producer u p, cs) i f then
-      producer_steps slots owes s (inl b) long at small = absurd (not_unbegun s b at)
-      producer_steps slots owes s (inr (inl b)) long at small = producer_begun s owes b at small (producer_is s b at)
-      producer_steps slots owes s (inr (inr b)) long at small = absurd (not_over s b at)
-
     module _ (c : ConsumerPhase T C P) (stays : consumer_left c ≢ departed.First) where
-      rest_after : (vs : List (View T C P)) (producer : ℕ) (w : View T C P)
-          → ((k : ℕ) (v : View T C P) → k ≢ producer → k ≢ id → get_elem? vs k ≡ maybe.some v → IsPast u v)
-          → (k : ℕ) (v : View T C P) → k ≢ producer → k ≢ id → get_elem? (slice_set vs id w) k ≡ maybe.some v → IsPast u v
-      rest_after vs producer w others k v np ne e = others k v np ne (sym (set_else vs id k w ne) ∙ e)
-
-      consumer_begun : (s : Cells T C P) → ConsumerOwes c → (b : Begun s) → get_elem? s.views id ≡ maybe.some (view.Consumer u c) → slice_index s.words i < 18446744073709551616
-          → id ≡ b.consumer → Steps s.words s.homes s.views
-      consumer_begun s owes b at small here =
-          let same = one_view s.views id b.consumer _ _ at b.at_c here in
-          let number : u ≡ b.number = cc in
-          let phase : c ≡ b.c = cc in
+      pub consumer_steps : (slots : ℕ) → ConsumerOwes c → Allows StandsFor slots id (view.Consumer u c, cs) i f then
+      consumer_steps slots owes s holds long at small =
+          let b = beside_consumer s id u c stays at holds in
           let p = b.p in
-          let fit : Fit p c = subst (λ q. Fit p q) (sym phase) b.fit in
-          let words : s.words ≡ words_of p c = b.words ∙ ap (λ q. words_of p q) (sym phase) in
-          let homes : s.homes ≡ homes_of p c = b.homes ∙ ap (λ q. homes_of p q) (sym phase) in
-          let low : slice_index (words_of p c) i < 18446744073709551616 = subst (λ ws. slice_index ws i < 18446744073709551616) words small in
-          let r = owes p fit low in
-          let apart : b.producer ≢ id = λ e. b.apart (e ∙ here) in
-          let at_p : get_elem? s.views b.producer ≡ maybe.some (view.Producer u p) = b.at_p ∙ ap (λ n. maybe.some (view.Producer n p)) (sym number) in
-          let past : (k : ℕ) (v : View T C P) → k ≢ b.producer → k ≢ id → get_elem? s.views k ≡ maybe.some v → IsPast u v =
-          λ k v np ne e. subst (λ n. IsPast n v) (sym number) (b.others k v np (λ x. ne (x ∙ sym here)) e) in
+          let low : slice_index (words_of p c) i < 18446744073709551616 = subst (λ ws. slice_index ws i < 18446744073709551616) b.words small in
+          let r = owes p b.fit low in
           let w : View T C P = view.Consumer u r.0 in
-          placed s.words s.homes s.views (words_of p c) (homes_of p c) words homes (
+          placed s.words s.homes s.views (words_of p c) (homes_of p c) b.words b.homes (
             w,
             r.1,
             r.2,
             inr (inl record {
               producer = b.producer;
               consumer = id;
-              apart = apart;
+              apart = b.apart;
               number = u;
               p = p;
               c = r.0;
-              at_p = set_else s.views id b.producer w apart ∙ at_p;
+              at_p = set_else s.views id b.producer w b.apart ∙ b.at_p;
               at_c = set_here s.views id w (within s.views id _ at);
-              others = rest_after s.views b.producer w past;
+              others = λ k v np ne e. b.others k v np ne (sym (set_else s.views id k w ne) ∙ e);
               words = r.3;
               homes = r.4;
               fit = r.5;
             }),
             r.6,
           )
-
-      pub consumer_is : (s : Cells T C P) (b : Begun s) → get_elem? s.views id ≡ maybe.some (view.Consumer u c) → id ≡ b.consumer
-      consumer_is s b at = dite (ℕ_discrete id b.consumer)
-          (λ e. e)
-          (λ ne. dite (ℕ_discrete id b.producer)
-          (λ e. let same = one_view s.views id b.producer _ _ at b.at_p e in cc)
-          (λ np. let past = b.others id _ np ne at in absurd (stays past.1)))
-
-      pub consumer_not_unbegun : (s : Cells T C P) → Unbegun s → get_elem? s.views id ≡ maybe.some (view.Consumer u c) → ⊥
-      consumer_not_unbegun s b at = dite (ℕ_discrete id b.seat)
-          (λ e. let same = one_view s.views id b.seat _ _ at b.at e in cc)
-          (λ ne. let past = b.others id _ ne at in stays past.1)
-
-      pub consumer_not_over : (s : Cells T C P) → Over s → get_elem? s.views id ≡ maybe.some (view.Consumer u c) → ⊥
-      consumer_not_over s b at = dite (ℕ_discrete id b.last)
-          (λ e. let same = one_view s.views id b.last _ _ at b.at_last e in cc)
-          (λ ne. let past = over_others s b id _ ne at in stays past.1)
-
-      pub consumer_steps : (slots : ℕ) → ConsumerOwes c → Allows StandsFor slots id (view.Consumer u c, cs) i f then
-      consumer_steps slots owes s (inl b) long at small = absurd (consumer_not_unbegun s b at)
-      consumer_steps slots owes s (inr (inl b)) long at small = consumer_begun s owes b at small (consumer_is s b at)
-      consumer_steps slots owes s (inr (inr b)) long at small = absurd (consumer_not_over s b at)
 
 module _ {T C P : Type 0} where
   -- where a seat stands, by the number of its own view

@@ -1,5 +1,5 @@
 -- The last leaver reads the state and takes all slots.
-use Rattle.std.proofs.Common.{◌≡◌, ◌≢◌, ℕ, inl, inr, List, [], refl, sym, ap, ◌∙◌, subst, Some, None}
+use Rattle.std.proofs.Common.{◌≡◌, ℕ, inl, inr, List, [], refl, sym, ap, ◌∙◌, subst, Some, None}
 use Rattle.fan_base.specs.declared.outcome.Try.{Try}
 use Rattle.core_state.specs.declared.schedule.Offer.{Offer}
 use Rattle.core_state.specs.declared.schedule.Offer.TheVariants as offered
@@ -14,17 +14,14 @@ use Rattle.core_word.specs.declared.view.ConsumerPhase.{ConsumerPhase}
 use Rattle.core_word.specs.declared.view.ConsumerPhase.TheVariants as consumer
 use Rattle.core_word.specs.Rule.{StandsFor}
 use Rattle.core_word.specs.Plays.{Standing}
-use Rattle.std.specs.Prelude.{slice_set}
-use mathlib.Core.Option as maybe
-use lib.ListN.{get_elem?}
 use Rattle.atomic_table.proofs.Lists.{set_here, set_else}
 use Rattle.core_word.specs.declared.view.View.{View}
 use Rattle.core_word.specs.declared.view.View.TheVariants as view
 use Rattle.core_word.specs.Views.{producer_left, consumer_left}
-use Rattle.core_word.specs.Rule.{Home, words_of, homes_of, Fit, LeavesFit, IsPast}
+use Rattle.core_word.specs.Rule.{Home, words_of, homes_of, Fit, LeavesFit}
 use Rattle.core_word.specs.Plays.{Standing, reads_end, IsLast}
 use Rattle.core_word.specs.declared.view.Departure.{Departure}
-use Rattle.core_word.proofs.Owing.{ReadsAll, placed, within, one_view, producer_is, not_unbegun, not_over, consumer_is, consumer_not_unbegun, consumer_not_over}
+use Rattle.core_word.proofs.Owing.{ReadsAll, placed, within, beside_producer, beside_consumer}
 
 only_first : (d : Departure) → LeavesFit departed.Last d → d ≡ departed.First
 only_first departed.No fit = absurd fit
@@ -102,90 +99,66 @@ module _ {T C P : Type 0} where
     consumer_reads (claimed.Callback c) (offered.Proxy q) (producer.Acted (offered.Proxy r) (claimed.Callback x) departed.First) fit = let e = fit.0.1.1 in cc
 
     producer_ends : (slots : ℕ) (offer : Offer (Try T) P) (got : Claim C) → Allows StandsFor slots id (view.Producer u (producer.Acted offer got departed.Last), []) 0 (λ n. n) (reads_end (view.Producer u (producer.Acted offer got departed.Last), []))
-    producer_ends slots offer got s (inl b) long at small = absurd (not_unbegun id u [] 0 (λ n. n) (reads_end (view.Producer u (producer.Acted offer got departed.Last), [])) (producer.Acted offer got departed.Last) (λ e. cc) s b at)
-    producer_ends slots offer got s (inr (inr b)) long at small = absurd (not_over id u [] 0 (λ n. n) (reads_end (view.Producer u (producer.Acted offer got departed.Last), [])) (producer.Acted offer got departed.Last) (λ e. cc) s b at)
-    producer_ends slots offer got s (inr (inl b)) long at small =
+    producer_ends slots offer got s holds long at small =
         let p : ProducerPhase T C P = producer.Acted offer got departed.Last in
-        let here : id ≡ b.producer = producer_is id u [] 0 (λ n. n) (reads_end (view.Producer u p, [])) p (λ e. cc) s b at in
-        let same = one_view s.views id b.producer _ _ at b.at_p here in
-        let number : u ≡ b.number = cc in
-        let phase : p ≡ b.p = cc in
+        let b = beside_producer s id u p (λ e. cc) at holds in
         let c = b.c in
-        let fit : Fit p c = subst (λ q. Fit q c) (sym phase) b.fit in
-        let words : s.words ≡ words_of p c = b.words ∙ ap (λ q. words_of q c) (sym phase) in
-        let homes : s.homes ≡ homes_of p c = b.homes ∙ ap (λ q. homes_of q c) (sym phase) in
-        let at_c : get_elem? s.views b.consumer ≡ maybe.some (view.Consumer u c) = b.at_c ∙ ap (λ n. maybe.some (view.Consumer n c)) (sym number) in
-        let apart : id ≢ b.consumer = λ e. b.apart (sym here ∙ e) in
-        let r = producer_reads offer got c fit in
+        let r = producer_reads offer got c b.fit in
         let w : View T C P = view.Husk u r.0 r.1 in
-        let first : consumer_left c ≡ departed.First = only_first (consumer_left c) fit.1 in
-        let other : (k : ℕ) (v : View T C P) → k ≢ id → k ≢ b.consumer → get_elem? (slice_set s.views id w) k ≡ maybe.some v → IsPast u v =
-        λ k v ne nc e. subst (λ n. IsPast n v) (sym number) (b.others k v (λ x. ne (x ∙ sym here)) nc (sym (set_else s.views id k w ne) ∙ e)) in
-        placed id u [] 0 (λ n. n) (reads_end (view.Producer u p, [])) s.words s.homes s.views (words_of p c) (homes_of p c) words homes (
+        let first : consumer_left c ≡ departed.First = only_first (consumer_left c) b.fit.1 in
+        placed id u [] 0 (λ n. n) (reads_end (view.Producer u p, [])) s.words s.homes s.views (words_of p c) (homes_of p c) b.words b.homes (
           w,
           r.2,
           r.3,
-          inr (inr record {
+          inr (inr (inl record {
             last = id;
             first = b.consumer;
-            apart = apart;
+            apart = b.apart;
             number = u;
             offer = r.0;
             claim = r.1;
             set = r.6;
             at_last = set_here s.views id w (within s.views id _ at);
             v = view.Consumer u c;
-            at_first = set_else s.views id b.consumer w (λ e. apart (sym e)) ∙ at_c;
+            at_first = set_else s.views id b.consumer w (λ e. b.apart (sym e)) ∙ b.at_c;
             left = (refl, first);
             knows = r.7;
-            others = other;
+            others = λ k v ne nc e. b.others k v ne nc (sym (set_else s.views id k w ne) ∙ e);
             words = r.4;
             homes = r.5;
-          }),
+          })),
           r.8,
         )
 
     consumer_ends : (slots : ℕ) (claim : Claim C) (got : Offer (Try T) P) → Allows StandsFor slots id (view.Consumer u (consumer.Acted claim got departed.Last), []) 0 (λ n. n) (reads_end (view.Consumer u (consumer.Acted claim got departed.Last), []))
-    consumer_ends slots claim got s (inl b) long at small = absurd (consumer_not_unbegun id u [] 0 (λ n. n) (reads_end (view.Consumer u (consumer.Acted claim got departed.Last), [])) (consumer.Acted claim got departed.Last) (λ e. cc) s b at)
-    consumer_ends slots claim got s (inr (inr b)) long at small = absurd (consumer_not_over id u [] 0 (λ n. n) (reads_end (view.Consumer u (consumer.Acted claim got departed.Last), [])) (consumer.Acted claim got departed.Last) (λ e. cc) s b at)
-    consumer_ends slots claim got s (inr (inl b)) long at small =
+    consumer_ends slots claim got s holds long at small =
         let c : ConsumerPhase T C P = consumer.Acted claim got departed.Last in
-        let here : id ≡ b.consumer = consumer_is id u [] 0 (λ n. n) (reads_end (view.Consumer u c, [])) c (λ e. cc) s b at in
-        let same = one_view s.views id b.consumer _ _ at b.at_c here in
-        let number : u ≡ b.number = cc in
-        let phase : c ≡ b.c = cc in
+        let b = beside_consumer s id u c (λ e. cc) at holds in
         let p = b.p in
-        let fit : Fit p c = subst (λ q. Fit p q) (sym phase) b.fit in
-        let words : s.words ≡ words_of p c = b.words ∙ ap (λ q. words_of p q) (sym phase) in
-        let homes : s.homes ≡ homes_of p c = b.homes ∙ ap (λ q. homes_of p q) (sym phase) in
-        let at_p : get_elem? s.views b.producer ≡ maybe.some (view.Producer u p) = b.at_p ∙ ap (λ n. maybe.some (view.Producer n p)) (sym number) in
-        let apart : id ≢ b.producer = λ e. b.apart (sym e ∙ here) in
-        let r = consumer_reads claim got p fit in
+        let r = consumer_reads claim got p b.fit in
         let w : View T C P = view.Husk u r.0 r.1 in
-        let first : producer_left p ≡ departed.First = first_only (producer_left p) fit.1 in
-        let other : (k : ℕ) (v : View T C P) → k ≢ id → k ≢ b.producer → get_elem? (slice_set s.views id w) k ≡ maybe.some v → IsPast u v =
-        λ k v ne np e. subst (λ n. IsPast n v) (sym number) (b.others k v np (λ x. ne (x ∙ sym here)) (sym (set_else s.views id k w ne) ∙ e)) in
-        placed id u [] 0 (λ n. n) (reads_end (view.Consumer u c, [])) s.words s.homes s.views (words_of p c) (homes_of p c) words homes (
+        let first : producer_left p ≡ departed.First = first_only (producer_left p) b.fit.1 in
+        placed id u [] 0 (λ n. n) (reads_end (view.Consumer u c, [])) s.words s.homes s.views (words_of p c) (homes_of p c) b.words b.homes (
           w,
           r.2,
           r.3,
-          inr (inr record {
+          inr (inr (inl record {
             last = id;
             first = b.producer;
-            apart = apart;
+            apart = λ e. b.apart (sym e);
             number = u;
             offer = r.0;
             claim = r.1;
             set = r.6;
             at_last = set_here s.views id w (within s.views id _ at);
             v = view.Producer u p;
-            at_first = set_else s.views id b.producer w (λ e. apart (sym e)) ∙ at_p;
+            at_first = set_else s.views id b.producer w b.apart ∙ b.at_p;
             left = (refl, first);
             knows = r.7;
-            others = other;
+            others = λ k v ne np e. b.others k v np ne (sym (set_else s.views id k w ne) ∙ e);
             words = r.4;
             homes = r.5;
-          }),
+          })),
           r.8,
         )
 

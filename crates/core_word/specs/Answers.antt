@@ -1,5 +1,5 @@
 -- What the calls on halves answer.
-use Rattle.std.specs.Prelude.{◌≡◌, ℕ}
+use Rattle.std.specs.Prelude.{◌≡◌, ◌⊎◌, ℕ}
 use Rattle.fan_base.specs.declared.outcome.Try.{Try}
 use Rattle.core_state.specs.declared.table.State.{State}
 use Rattle.core_state.specs.declared.table.State.TheVariants as state
@@ -33,6 +33,11 @@ abbrev pub MeetsAt : {T C P : Type 0} → State → Offer (Try T) P → ℕ → 
 MeetsAt found got number callback met.Waiting = (found ≡ state.Start) × (got ≡ offered.Nothing)
 MeetsAt found got number callback (met.Fire fire) = (found ≡ state.OnlyResult) × (fire.no ≡ number) × (fire.callback ≡ callback) × (got ≡ offered.Result fire.outcome)
 MeetsAt found got number callback (met.Forward forward) = (found ≡ state.Proxy) × (forward.no ≡ number) × (forward.callback ≡ callback) × (got ≡ offered.Proxy forward.proxy)
+
+-- What both halves of one use say of each other. Where the consumer set a callback, one half alone got the other's act: the producer the callback, or the consumer what the producer set. Where it set none, neither got anything.
+abbrev pub HaveAgreed : {T C P : Type 0} → Offer (Try T) P → Claim C → Claim C → Offer (Try T) P → Type 0
+HaveAgreed offer callback_got claimed.Nothing offer_got = (callback_got ≡ claimed.Nothing) × (offer_got ≡ offered.Nothing)
+HaveAgreed offer callback_got (claimed.Callback c) offer_got = ((callback_got ≡ claimed.Callback c) × (offer_got ≡ offered.Nothing)) ⊎ ((callback_got ≡ claimed.Nothing) × (offer_got ≡ offer))
 
 module _ {T C P : Type 0} where
   -- a fact for each answer of a leave

@@ -6,6 +6,7 @@ pub record Counts : Type 0 where
   pub handed : ℕ
   pub forwarded : ℕ
   pub freed : ℕ
+  pub reopened : ℕ
 
 -- a sum of two numbers, up to the last of u64
 abbrev pub added : ℕ → ℕ → ℕ

@@ -1,5 +1,5 @@
 -- What each step on a home's table tells its caller, and where a seat then stands: its view, and the slots that it has with what they hold.
-use Rattle.std.specs.Prelude.{◌≡◌, ◌≢◌, ◌⊎◌, ℕ, List, [], ◌∷◌, Option, Some, None}
+use Rattle.std.specs.Prelude.{◌≡◌, ◌≢◌, ◌⊎◌, ℕ, suc, List, [], ◌∷◌, Option, Some, None}
 use Rattle.fan_base.specs.declared.outcome.Try.{Try}
 use Rattle.core_state.specs.declared.table.State.{State}
 use Rattle.core_state.specs.declared.table.State.TheVariants as state
@@ -17,6 +17,7 @@ use Rattle.core_word.specs.declared.view.Departure.{Departure}
 use Rattle.core_word.specs.declared.view.Departure.TheVariants as departed
 use Rattle.core_word.specs.declared.view.Own.{Own}
 use Rattle.core_word.specs.declared.view.Own.TheVariants as own
+use Rattle.core_word.specs.declared.view.ProducerPhase.{ProducerPhase}
 use Rattle.core_word.specs.declared.view.ProducerPhase.TheVariants as producer
 use Rattle.core_word.specs.declared.view.ConsumerPhase.TheVariants as consumer
 use Rattle.core_word.specs.declared.view.View.{View}
@@ -24,7 +25,7 @@ use Rattle.core_word.specs.declared.view.View.TheVariants as view
 use Rattle.core_word.specs.declared.left.Leftover.{Leftover}
 use Rattle.core_word.specs.declared.left.Leftover.TheVariants as leftover
 use Rattle.core_word.specs.Views.{use_of, offer_of, claim_got, claim_of, offer_got, Knows}
-use Rattle.core_word.specs.Rule.{Held, IsSet}
+use Rattle.core_word.specs.Rule.{Held, IsSet, Fit}
 
 -- where a seat stands
 abbrev pub Standing : Type 0 → Type 0 → Type 0 → Type 0
@@ -142,6 +143,10 @@ module _ {T C P : Type 0} where
   leaving left (view.Producer number p) = view.Producer number (producer.Acted (offer_of p) (claim_got p) left)
   leaving left (view.Consumer number c) = view.Consumer number (consumer.Acted (claim_of c) (offer_got c) left)
   leaving left (view.Husk number offer claim) = view.Husk number offer claim
+  leaving left (view.Reopening number) = view.Reopening number
+  leaving left (view.Joined number p c) = view.Joined number p c
+  leaving left view.Spent = view.Spent
+  leaving left view.Clash = view.Clash
 
   -- A half leaves, and gives its slots home. It is the last where it found one half attached.
   abbrev pub leaves : Standing T C P → ℕ → Standing T C P → Type 0
@@ -170,12 +175,20 @@ module _ {T C P : Type 0} where
   begin_producer (view.Producer number p) = view.Producer number p
   begin_producer (view.Consumer number c) = view.Consumer number c
   begin_producer (view.Husk number offer claim) = view.Husk number offer claim
+  begin_producer (view.Reopening number) = view.Reopening number
+  begin_producer (view.Joined number p c) = view.Joined number p c
+  begin_producer view.Spent = view.Spent
+  begin_producer view.Clash = view.Clash
 
   abbrev pub begin_consumer : View T C P → View T C P
   begin_consumer (view.Key number) = view.Consumer number consumer.Ready
   begin_consumer (view.Producer number p) = view.Producer number p
   begin_consumer (view.Consumer number c) = view.Consumer number c
   begin_consumer (view.Husk number offer claim) = view.Husk number offer claim
+  begin_consumer (view.Reopening number) = view.Reopening number
+  begin_consumer (view.Joined number p c) = view.Joined number p c
+  begin_consumer view.Spent = view.Spent
+  begin_consumer view.Clash = view.Clash
 
   -- a half that may leave: a producer that has acted, or a consumer that has acted or gives up
   abbrev pub IsLeaving : Standing T C P → Type 0
@@ -192,6 +205,53 @@ module _ {T C P : Type 0} where
   -- a last leaver that has emptied all slots
   abbrev pub husk_at : ℕ → Offer (Try T) P → Claim C → Standing T C P
   husk_at number offer claim = (view.Husk number offer claim, (0, None) ∷ (2, None) ∷ (1, None) ∷ [])
+
+  -- a last leaver that has set the state back
+  abbrev pub reopening_at : ℕ → Standing T C P
+  reopening_at number = (view.Reopening number, (0, None) ∷ (2, None) ∷ (1, None) ∷ [])
+
+  -- The last leaver sets the state back to Start. It keeps all slots.
+  abbrev pub sets_back : Standing T C P → ℕ → Standing T C P → Type 0
+  sets_back before found after = after ≡ (view.Reopening (use_of before.0), before.1)
+
+  -- It attaches both halves of the next use and gives all slots home, empty. So it is the key of that use.
+  abbrev pub reopens : Standing T C P → ℕ → Standing T C P → Type 0
+  reopens before found after = after ≡ key_at (suc (use_of before.0))
+
+  -- a producer's seat with a consumer's put into it
+  abbrev pub with_consumer : ℕ → ProducerPhase T C P → View T C P → View T C P
+  with_consumer number p (view.Key n) = view.Clash
+  with_consumer number p (view.Producer n q) = view.Clash
+  with_consumer number p (view.Consumer n c) = view.Joined number p c
+  with_consumer number p (view.Husk n offer claim) = view.Clash
+  with_consumer number p (view.Reopening n) = view.Clash
+  with_consumer number p (view.Joined n q c) = view.Clash
+  with_consumer number p view.Spent = view.Clash
+  with_consumer number p view.Clash = view.Clash
+
+  abbrev pub both_halves : View T C P → View T C P → View T C P
+  both_halves (view.Key n) v = view.Clash
+  both_halves (view.Producer n p) v = with_consumer n p v
+  both_halves (view.Consumer n c) v = view.Clash
+  both_halves (view.Husk n offer claim) v = view.Clash
+  both_halves (view.Reopening n) v = view.Clash
+  both_halves (view.Joined n p c) v = view.Clash
+  both_halves view.Spent v = view.Clash
+  both_halves view.Clash v = view.Clash
+
+  -- A look of a seat that has both halves: they fit.
+  abbrev pub HalvesFit : View T C P → Type 0
+  HalvesFit (view.Key n) = ⊥
+  HalvesFit (view.Producer n p) = ⊥
+  HalvesFit (view.Consumer n c) = ⊥
+  HalvesFit (view.Husk n offer claim) = ⊥
+  HalvesFit (view.Reopening n) = ⊥
+  HalvesFit (view.Joined n p c) = Fit p c
+  HalvesFit view.Spent = ⊥
+  HalvesFit view.Clash = ⊥
+
+  abbrev pub compares : Standing T C P → ℕ → Standing T C P → Type 0
+  compares before found after = HalvesFit before.0
 
   -- a seat of this home stands so
   pub record Sits (home : TableId) (seat : Seat (Held T C P) (View T C P)) (standing : Standing T C P) : Type 0 where

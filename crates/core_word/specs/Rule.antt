@@ -1,5 +1,5 @@
 -- The core rule: what the words, the slots at home and the views of a home's table stand for between any two steps.
-use Rattle.std.specs.Prelude.{◌≡◌, ◌≢◌, ℕ, ◌+◌, ◌<◌, ◌⊎◌, Bool, true, false, ◌||◌, List, [], ◌∷◌, Option, Some, None}
+use Rattle.std.specs.Prelude.{◌≡◌, ◌≢◌, ℕ, suc, ◌+◌, ◌<◌, ◌⊎◌, Bool, true, false, ◌||◌, List, [], ◌∷◌, Option, Some, None}
 use mathlib.Core.Option as maybe
 use lib.ListN.{get_elem?}
 use Rattle.fan_base.specs.declared.outcome.Try.{Try}
@@ -132,12 +132,16 @@ module _ {T C P : Type 0} where
   abbrev pub Fit : ProducerPhase T C P → ConsumerPhase T C P → Type 0
   Fit p c = ActsFit p c × LeavesFit (producer_left p) (consumer_left c)
 
-  -- a view of a use below this number: the half was the first to leave it
+  -- A view of a use below this number: the half was the first to leave it. Or a seat that was put into another.
   abbrev pub IsPast : ℕ → View T C P → Type 0
   IsPast number (view.Key n) = ⊥
   IsPast number (view.Producer n p) = (n < number) × (producer_left p ≡ departed.First)
   IsPast number (view.Consumer n c) = (n < number) × (consumer_left c ≡ departed.First)
   IsPast number (view.Husk n offer claim) = ⊥
+  IsPast number (view.Reopening n) = ⊥
+  IsPast number (view.Joined n p c) = ⊥
+  IsPast number view.Spent = Unit {0}
+  IsPast number view.Clash = ⊥
 
   -- the view of the half that was the first to leave this use
   abbrev pub IsFirstOf : ℕ → View T C P → Type 0
@@ -145,6 +149,10 @@ module _ {T C P : Type 0} where
   IsFirstOf number (view.Producer n p) = (n ≡ number) × (producer_left p ≡ departed.First)
   IsFirstOf number (view.Consumer n c) = (n ≡ number) × (consumer_left c ≡ departed.First)
   IsFirstOf number (view.Husk n offer claim) = ⊥
+  IsFirstOf number (view.Reopening n) = ⊥
+  IsFirstOf number (view.Joined n p c) = ⊥
+  IsFirstOf number view.Spent = ⊥
+  IsFirstOf number view.Clash = ⊥
 
   -- Nobody has begun the greatest use: one seat has its key. All slots are at home and empty.
   pub record Unbegun (s : Cells T C P) : Type 0 where
@@ -188,5 +196,26 @@ module _ {T C P : Type 0} where
     pub words : s.words ≡ code_of (state_from offer claim) ∷ 0 ∷ []
     pub homes : s.homes ≡ maybe.none ∷ maybe.none ∷ maybe.none ∷ []
 
+  -- The last leaver has set the state back to Start, and attaches nobody yet. It has all slots.
+  pub record Reopening (s : Cells T C P) : Type 0 where
+    pub seat : ℕ
+    pub number : ℕ
+    pub at : get_elem? s.views seat ≡ maybe.some (view.Reopening number)
+    pub others : (k : ℕ) (v : View T C P) → k ≢ seat → get_elem? s.views k ≡ maybe.some v → IsPast (suc number) v
+    pub words : s.words ≡ code_of state.Start ∷ 0 ∷ []
+    pub homes : s.homes ≡ maybe.none ∷ maybe.none ∷ maybe.none ∷ []
+
+  -- One seat has both halves of the greatest use. It stands so for the law over both alone: such a home is used no more.
+  pub record Joined (s : Cells T C P) : Type 0 where
+    pub seat : ℕ
+    pub number : ℕ
+    pub p : ProducerPhase T C P
+    pub c : ConsumerPhase T C P
+    pub at : get_elem? s.views seat ≡ maybe.some (view.Joined number p c)
+    pub others : (k : ℕ) (v : View T C P) → k ≢ seat → get_elem? s.views k ≡ maybe.some v → IsPast number v
+    pub words : s.words ≡ words_of p c
+    pub homes : s.homes ≡ homes_of p c
+    pub fit : Fit p c
+
   abbrev pub StandsFor : Cells T C P → Type 0
-  StandsFor s = Unbegun s ⊎ (Begun s ⊎ Over s)
+  StandsFor s = Unbegun s ⊎ (Begun s ⊎ (Over s ⊎ (Reopening s ⊎ Joined s)))

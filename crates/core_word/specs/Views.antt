@@ -145,12 +145,20 @@ module _ {T C P : Type 0} where
   use_of (view.Producer number phase) = number
   use_of (view.Consumer number phase) = number
   use_of (view.Husk number offer claim) = number
+  use_of (view.Reopening number) = number
+  use_of (view.Joined number p c) = number
+  use_of view.Spent = 0
+  use_of view.Clash = 0
 
   abbrev pub attached_found : View T C P → ℕ
   attached_found (view.Key number) = 0
   attached_found (view.Producer number p) = found_attached (producer_left p)
   attached_found (view.Consumer number c) = found_attached (consumer_left c)
   attached_found (view.Husk number offer claim) = 1
+  attached_found (view.Reopening number) = 0
+  attached_found (view.Joined number p c) = 0
+  attached_found view.Spent = 0
+  attached_found view.Clash = 0
 
   -- the view of this half, which was the first to leave
   abbrev pub IsFirstLeave : Half → View T C P → Type 0
@@ -158,10 +166,18 @@ module _ {T C P : Type 0} where
   IsFirstLeave half.Producer (view.Producer number p) = producer_left p ≡ departed.First
   IsFirstLeave half.Producer (view.Consumer number c) = ⊥
   IsFirstLeave half.Producer (view.Husk number offer claim) = ⊥
+  IsFirstLeave half.Producer (view.Reopening number) = ⊥
+  IsFirstLeave half.Producer (view.Joined number p c) = ⊥
+  IsFirstLeave half.Producer view.Spent = ⊥
+  IsFirstLeave half.Producer view.Clash = ⊥
   IsFirstLeave half.Consumer (view.Key number) = ⊥
   IsFirstLeave half.Consumer (view.Producer number p) = ⊥
   IsFirstLeave half.Consumer (view.Consumer number c) = consumer_left c ≡ departed.First
   IsFirstLeave half.Consumer (view.Husk number offer claim) = ⊥
+  IsFirstLeave half.Consumer (view.Reopening number) = ⊥
+  IsFirstLeave half.Consumer (view.Joined number p c) = ⊥
+  IsFirstLeave half.Consumer view.Spent = ⊥
+  IsFirstLeave half.Consumer view.Clash = ⊥
 
   -- what the producer has set, and what the consumer has set, as far as a half knows
   abbrev pub offer_in_view : View T C P → Offer (Try T) P
@@ -169,12 +185,20 @@ module _ {T C P : Type 0} where
   offer_in_view (view.Producer number p) = offer_of p
   offer_in_view (view.Consumer number c) = offer_got c
   offer_in_view (view.Husk number offer claim) = offer
+  offer_in_view (view.Reopening number) = offered.Nothing
+  offer_in_view (view.Joined number p c) = offer_of p
+  offer_in_view view.Spent = offered.Nothing
+  offer_in_view view.Clash = offered.Nothing
 
   abbrev pub claim_in_view : View T C P → Claim C
   claim_in_view (view.Key number) = claimed.Nothing
   claim_in_view (view.Producer number p) = claim_got p
   claim_in_view (view.Consumer number c) = claim_of c
   claim_in_view (view.Husk number offer claim) = claim
+  claim_in_view (view.Reopening number) = claimed.Nothing
+  claim_in_view (view.Joined number p c) = claim_of c
+  claim_in_view view.Spent = claimed.Nothing
+  claim_in_view view.Clash = claimed.Nothing
 
   -- what both halves have set, by what one of them knows
   abbrev pub Knows : View T C P → Offer (Try T) P → Claim C → Type 0
@@ -182,3 +206,7 @@ module _ {T C P : Type 0} where
   Knows (view.Producer number p) offer claim = (offer ≡ offer_of p) × GotClaim (claim_got p) claim
   Knows (view.Consumer number c) offer claim = (claim ≡ claim_of c) × GotOffer (offer_got c) offer
   Knows (view.Husk number o k) offer claim = ⊥
+  Knows (view.Reopening number) offer claim = ⊥
+  Knows (view.Joined number p c) offer claim = ⊥
+  Knows view.Spent offer claim = ⊥
+  Knows view.Clash offer claim = ⊥

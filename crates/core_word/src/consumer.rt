@@ -104,9 +104,9 @@ impl<'h, T, C, P> Consumer<'h, T, C, P> {
 
 /// A consumer that has set its callback or given up. It must be spent by `leave`.
 pub struct LeftC<'h, T, C, P> {
-    table: &'h Cells<T, C, P>,
-    seat: Place<T, C, P>,
-    no: u64,
+    pub(crate) table: &'h Cells<T, C, P>,
+    pub(crate) seat: Place<T, C, P>,
+    pub(crate) no: u64,
 }
 
 impl<'h, T, C, P> Model for LeftC<'h, T, C, P> {

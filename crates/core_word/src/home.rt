@@ -107,6 +107,17 @@ impl<'h, T, C, P> Model for Key<'h, T, C, P> {
 }
 
 impl<'h, T, C, P> Key<'h, T, C, P> {
+    ghost use Rattle.core_word.specs.Views.{use_of};
+    ghost use Rattle.core_word.specs.Plays.{IsHome, Sits, key_at};
+
+    pub(crate) fn new(table: &'h Cells<T, C, P>, seat: Place<T, C, P>) -> Key<'h, T, C, P>
+        requires home { IsHome table.now.table_id }
+        requires sits { Sits table.now.table_id seat (key_at (use_of seat.me.0)) }
+        ensures { result ≡ record { home = table.now.table_id; use_number = use_of seat.me.0 } }
+    {
+        Key { table, seat }
+    }
+
     /// Begins a core with this number, in Start, with both halves attached.
     pub fn start(self, no: u64, t: &mut Tally) -> (Producer<'h, T, C, P>, Consumer<'h, T, C, P>)
         ensures producer { result.0 ≡ record { home = self.entry.home; use_number = self.entry.use_number; no = no } }

@@ -1,8 +1,10 @@
 //! What a half gets when it leaves: a receipt where it was the first, and the core's husk where it was the last.
 ghost use Rattle.core_word.specs.Count.{raised};
-ghost use Rattle.std.specs.Prelude.{◌≡◌};
+ghost use Rattle.std.specs.Prelude.{◌≡◌, suc};
 
+use crate::home::Key;
 use crate::rule::{Cells, Place};
+use crate::steps;
 use crate::tally::Tally;
 use core_state::Half;
 use fan_base::Try;
@@ -62,10 +64,10 @@ impl<T, C, P> Drop for Receipt<T, C, P> {
     }
 }
 
-/// A core that both halves have left. It must be spent by `end`.
+/// A core that both halves have left. It must be spent by `end` or `reopen`.
 pub struct Husk<'h, T, C, P> {
-    table: &'h Cells<T, C, P>,
-    seat: Place<T, C, P>,
+    pub(crate) table: &'h Cells<T, C, P>,
+    pub(crate) seat: Place<T, C, P>,
 }
 
 impl<'h, T, C, P> Model for Husk<'h, T, C, P> {
@@ -99,5 +101,18 @@ impl<'h, T, C, P> Husk<'h, T, C, P> {
         let Husk { table: _, seat } = self;
         drop(seat);
         t.count_freed();
+    }
+
+    /// Frees the core, and makes its home ready for another use. The key is that use's.
+    pub fn reopen(self, t: &mut Tally) -> Key<'h, T, C, P>
+        ensures key { result ≡ record { home = self.entry.home; use_number = suc self.entry.use_number } }
+        ensures tally { t.new ≡ record t.old { freed = raised t.old.freed; reopened = raised t.old.reopened } }
+    {
+        let Husk { table, mut seat } = self;
+        steps::set_back(table, &mut seat);
+        steps::attach_both(table, &mut seat);
+        t.count_freed();
+        t.count_reopened();
+        Key::new(table, seat)
     }
 }

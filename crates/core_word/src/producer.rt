@@ -113,9 +113,9 @@ impl<'h, T, C, P> Producer<'h, T, C, P> {
 
 /// A producer that has acted. It must be spent by `leave`.
 pub struct LeftP<'h, T, C, P> {
-    table: &'h Cells<T, C, P>,
-    seat: Place<T, C, P>,
-    no: u64,
+    pub(crate) table: &'h Cells<T, C, P>,
+    pub(crate) seat: Place<T, C, P>,
+    pub(crate) no: u64,
 }
 
 impl<'h, T, C, P> Model for LeftP<'h, T, C, P> {

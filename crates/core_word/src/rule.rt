@@ -1,11 +1,11 @@
 //! The rule of a home's table, and what each step on it tells. These types are for the proofs alone.
 ghost use Rattle.core_word.specs.declared.view.Own.TheVariants as own;
 ghost use Rattle.core_word.specs.Rule.{StandsFor};
-ghost use Rattle.core_word.specs.Plays.{takes_own, takes_callback_slot, sets_first, sets_second, claims_first, claims_result, claims_proxy, leaves, reads_end, begin_producer, begin_consumer};
+ghost use Rattle.core_word.specs.Plays.{takes_own, takes_callback_slot, sets_first, sets_second, claims_first, claims_result, claims_proxy, leaves, reads_end, sets_back, reopens, compares, both_halves, begin_producer, begin_consumer};
 ghost use Rattle.core_word.specs.declared.view.View.TheVariants as view;
 
 use crate::view::{Item, View};
-use atomic_table::{Play, Seat, Shared, Split, TableRule};
+use atomic_table::{Join, Play, Seat, Shared, Split, TableRule};
 
 /// The words and slots of a home, as its halves share them.
 pub(crate) type Cells<T, C, P> = Shared<Option<Item<T, C, P>>, View<T, C, P>, (), CoreRule>;
@@ -87,10 +87,54 @@ impl<T, C, P> Play<Option<Item<T, C, P>>, View<T, C, P>> for ReadsEnd {
     ghost then = { λ _. reads_end };
 }
 
+pub(crate) struct SetsBack;
+
+impl<T, C, P> Play<Option<Item<T, C, P>>, View<T, C, P>> for SetsBack {
+    ghost then = { λ _. sets_back };
+}
+
+pub(crate) struct Reopens;
+
+impl<T, C, P> Play<Option<Item<T, C, P>>, View<T, C, P>> for Reopens {
+    ghost then = { λ _. reopens };
+}
+
 pub(crate) struct Begins;
 
 impl<T, C, P> Split<View<T, C, P>> for Begins {
     ghost left = { begin_producer };
 
     ghost right = { begin_consumer };
+}
+
+/// Both halves of one use, put into one seat.
+pub(crate) struct JoinsHalves;
+
+impl<T, C, P> Join<View<T, C, P>> for JoinsHalves {
+    ghost both = { both_halves };
+
+    ghost spent = { view.Spent };
+}
+
+/// A look at what both halves have done.
+pub(crate) struct Compares;
+
+impl<T, C, P> Play<Option<Item<T, C, P>>, View<T, C, P>> for Compares {
+    ghost then = { λ _. compares };
+}
+
+/// Two seats that exclude each other, put into one. It never comes to that.
+pub(crate) struct Clashes;
+
+impl<T, C, P> Join<View<T, C, P>> for Clashes {
+    ghost both = { λ _ _. view.Clash };
+
+    ghost spent = { view.Spent };
+}
+
+/// A look that can't be.
+pub(crate) struct Never;
+
+impl<T, C, P> Play<Option<Item<T, C, P>>, View<T, C, P>> for Never {
+    ghost then = { λ _ _ _ _. ⊥ };
 }

@@ -1,5 +1,5 @@
 //! The atomic steps of a home's table, and the plain access to a slot that a seat has.
-ghost use Rattle.std.specs.Prelude.{◌≡◌, ◌≢◌, ◌∷◌, [], ◌⊎◌};
+ghost use Rattle.std.specs.Prelude.{◌≡◌, ◌≢◌, ◌∷◌, [], ◌⊎◌, suc};
 ghost use Rattle.std.specs.Bool.{OnTrue, OnFalse};
 ghost use Rattle.fan_base.specs.declared.outcome.Try.{Try};
 ghost use Rattle.atomic_table.specs.Table.{rest};
@@ -10,14 +10,14 @@ ghost use Rattle.core_state.specs.declared.schedule.Claim.{Claim};
 ghost use Rattle.core_word.specs.declared.view.Own.{Own};
 ghost use Rattle.core_word.specs.declared.view.Item.{Item};
 ghost use Rattle.core_word.specs.declared.view.Departure.{Departure};
-ghost use Rattle.core_word.specs.Views.{use_of, Knows};
+ghost use Rattle.core_word.specs.Views.{use_of, offer_in_view, claim_in_view, Knows};
 ghost use Rattle.core_word.specs.Rule.{IsSet};
-ghost use Rattle.core_word.specs.Plays.{IsHome, Sits, producer_ready, producer_holding, producer_aware, producer_acted, consumer_ready, consumer_holding, consumer_aware, consumer_acted, leaving, IsLeaving, IsLast, husk_at, leftover_as};
+ghost use Rattle.core_word.specs.Plays.{IsHome, Sits, producer_ready, producer_holding, producer_aware, producer_acted, consumer_ready, consumer_holding, consumer_aware, consumer_acted, leaving, IsLeaving, IsLast, husk_at, reopening_at, key_at, leftover_as};
 
 use crate::left::Leftover;
 use crate::rule::{
-    Cells, ClaimsFirst, ClaimsProxy, ClaimsResult, Leaves, Place, ReadsEnd, SetsProxy, SetsResult,
-    SetsSecond, TakesCallbackSlot, TakesProxySlot, TakesResultSlot,
+    Cells, ClaimsFirst, ClaimsProxy, ClaimsResult, Leaves, Place, ReadsEnd, Reopens, SetsBack,
+    SetsProxy, SetsResult, SetsSecond, TakesCallbackSlot, TakesProxySlot, TakesResultSlot,
 };
 use crate::view::Item;
 use core_state::{State, code};
@@ -274,4 +274,23 @@ pub(crate) fn read_end<T, C, P>(table: &Cells<T, C, P>, seat: &mut Place<T, C, P
         },
         _ => unreachable!(),
     }
+}
+
+/// Sets the state back to Start.
+pub(crate) fn set_back<T, C, P>(table: &Cells<T, C, P>, seat: &mut Place<T, C, P>)
+    requires home { IsHome table.now.table_id }
+    requires husk { Sits table.now.table_id seat.old (husk_at (use_of seat.old.me.0) (offer_in_view seat.old.me.0) (claim_in_view seat.old.me.0)) }
+    ensures { Sits table.now.table_id seat.new (reopening_at (use_of seat.old.me.0)) }
+{
+    let start = code(State::Start);
+    table.swap::<SetsBack>(seat, STATE, start);
+}
+
+/// Attaches both halves of the next use, and gives all slots home.
+pub(crate) fn attach_both<T, C, P>(table: &Cells<T, C, P>, seat: &mut Place<T, C, P>)
+    requires home { IsHome table.now.table_id }
+    requires back { Sits table.now.table_id seat.old (reopening_at (use_of seat.old.me.0)) }
+    ensures { Sits table.now.table_id seat.new (key_at (suc (use_of seat.old.me.0))) }
+{
+    table.swap::<Reopens>(seat, ATTACHED, 2);
 }

@@ -1,4 +1,4 @@
-//! How many cores were made, handed over, forwarded and freed.
+//! How many cores were made, handed over, forwarded and freed, and how many homes were reopened.
 ghost use Rattle.std.specs.Prelude.{◌≡◌};
 ghost use Rattle.core_word.specs.Count.{added, raised};
 
@@ -12,6 +12,7 @@ pub struct Tally {
     handed: u64,
     forwarded: u64,
     freed: u64,
+    reopened: u64,
 }
 
 impl Model for Tally {
@@ -19,31 +20,33 @@ impl Model for Tally {
 
     ghost Value = { Counts };
 
-    ghost view = { λ t. record { made = t.made; handed = t.handed; forwarded = t.forwarded; freed = t.freed } };
+    ghost view = { λ t. record { made = t.made; handed = t.handed; forwarded = t.forwarded; freed = t.freed; reopened = t.reopened } };
 }
 
 impl Tally {
     /// A tally with all numbers 0.
     pub fn new() -> Tally
-        ensures { result ≡ record { made = 0; handed = 0; forwarded = 0; freed = 0 } }
+        ensures { result ≡ record { made = 0; handed = 0; forwarded = 0; freed = 0; reopened = 0 } }
     {
         Tally {
             made: 0,
             handed: 0,
             forwarded: 0,
             freed: 0,
+            reopened: 0,
         }
     }
 
     /// The two tallies added up, number by number.
     pub fn merge(self, other: Tally) -> Tally
-        ensures { result ≡ record { made = added self.made other.made; handed = added self.handed other.handed; forwarded = added self.forwarded other.forwarded; freed = added self.freed other.freed } }
+        ensures { result ≡ record { made = added self.made other.made; handed = added self.handed other.handed; forwarded = added self.forwarded other.forwarded; freed = added self.freed other.freed; reopened = added self.reopened other.reopened } }
     {
         Tally {
             made: self.made.saturating_add(other.made),
             handed: self.handed.saturating_add(other.handed),
             forwarded: self.forwarded.saturating_add(other.forwarded),
             freed: self.freed.saturating_add(other.freed),
+            reopened: self.reopened.saturating_add(other.reopened),
         }
     }
 
@@ -75,6 +78,13 @@ impl Tally {
         self.freed
     }
 
+    /// How many homes were made ready for another use.
+    pub fn reopened(&self) -> u64
+        ensures { result ≡ self.now.reopened }
+    {
+        self.reopened
+    }
+
     pub(crate) fn count_made(&mut self)
         ensures { self.new ≡ record self.old { made = raised self.old.made } }
     {
@@ -97,5 +107,11 @@ impl Tally {
         ensures { self.new ≡ record self.old { freed = raised self.old.freed } }
     {
         self.freed = self.freed.saturating_add(1);
+    }
+
+    pub(crate) fn count_reopened(&mut self)
+        ensures { self.new ≡ record self.old { reopened = raised self.old.reopened } }
+    {
+        self.reopened = self.reopened.saturating_add(1);
     }
 }

@@ -1,9 +1,12 @@
-ghost use Rattle.std.specs.Prelude.{◌≡◌};
+ghost use Rattle.std.specs.Prelude.{◌≡◌, ◌<◌};
 
-use crate::{Consumer, Home, Landed, Left, Leftover, Met, Passed, Producer, State, Tally, Unspent};
+use crate::{
+    Consumer, Home, Key, Landed, Left, Leftover, Met, Passed, Producer, State, Tally, Unspent,
+};
 use fan_base::Try;
 use std::alloc::{AllocError, Global};
 use std::mem::ManuallyDrop;
+use std::ops::Range;
 use std::test::Fail;
 use std::thread;
 use std::thread::Threads;
@@ -79,8 +82,9 @@ fn numbers(alloc: Global) -> Result<Numbers, AllocError> {
     Home::new(alloc).map_err(|_| AllocError)
 }
 
-fn counts(t: &Tally) -> (u64, u64, u64, u64) {
-    (t.made(), t.handed(), t.forwarded(), t.freed())
+// Made, handed over, forwarded, freed and reopened.
+fn counts(t: &Tally) -> (u64, u64, u64, u64, u64) {
+    (t.made(), t.handed(), t.forwarded(), t.freed(), t.reopened())
 }
 
 #[test]
@@ -98,7 +102,7 @@ fn callback_first_then_result(rt: HostRuntime) -> Result<(), Fail> {
     assert_eq!(rt; second, Answer::Fire(9, Try::Value(5), 7));
     assert_eq!(rt; third, None);
     assert_eq!(rt; fourth, Some(Leftover::Nothing));
-    assert_eq!(rt; counts(&t), (1, 1, 0, 1));
+    assert_eq!(rt; counts(&t), (1, 1, 0, 1, 0));
     assert!(rt; home.key().is_none());
     Ok(())
 }
@@ -118,7 +122,7 @@ fn result_first_then_callback(rt: HostRuntime) -> Result<(), Fail> {
     assert_eq!(rt; second, None);
     assert_eq!(rt; third, Answer::Fire(9, Try::Value(5), 7));
     assert_eq!(rt; fourth, Some(Leftover::Nothing));
-    assert_eq!(rt; counts(&t), (1, 1, 0, 1));
+    assert_eq!(rt; counts(&t), (1, 1, 0, 1, 0));
     Ok(())
 }
 
@@ -144,7 +148,7 @@ fn result_is_left_over_where_the_consumer_gives_up(rt: HostRuntime) -> Result<()
     assert_eq!(rt; first, Answer::Waiting);
     assert_eq!(rt; second, None);
     assert_eq!(rt; third, Some(Leftover::Outcome(Try::Value(5))));
-    assert_eq!(rt; counts(&t), (2, 0, 0, 2));
+    assert_eq!(rt; counts(&t), (2, 0, 0, 2, 0));
     Ok(())
 }
 
@@ -173,23 +177,25 @@ fn proxy_is_left_over_or_gets_the_callback(rt: HostRuntime) -> Result<(), Fail> 
     assert_eq!(rt; second, Answer::Forward(7, 3));
     assert_eq!(rt; third, None);
     assert_eq!(rt; fourth, Some(Leftover::Nothing));
-    assert_eq!(rt; counts(&t), (2, 0, 1, 2));
+    assert_eq!(rt; counts(&t), (2, 0, 1, 2, 0));
     Ok(())
 }
 
 // What a thread has done with its halves: what it counted, what was left over, and how many answers had another
-// core's number or value.
+// core's number or value. Whoever left last has the key of the home's next use.
 #[derive(Drop)]
-struct Driven {
+struct Driven<'h> {
+    key: Option<Key<'h, u64, u64, u64>>,
     tally: Tally,
     outcomes: u64,
     proxies: u64,
     strangers: u64,
 }
 
-impl Driven {
-    fn new() -> Driven {
+impl<'h> Driven<'h> {
+    fn new() -> Driven<'h> {
         Driven {
+            key: None,
             tally: Tally::new(),
             outcomes: 0,
             proxies: 0,
@@ -197,8 +203,9 @@ impl Driven {
         }
     }
 
-    fn with(self, other: Driven) -> Driven {
+    fn with(self, other: Driven<'h>) -> Driven<'h> {
         Driven {
+            key: self.key.or(other.key),
             tally: self.tally.merge(other.tally),
             outcomes: self.outcomes.saturating_add(other.outcomes),
             proxies: self.proxies.saturating_add(other.proxies),
@@ -219,21 +226,31 @@ impl Driven {
         }
     }
 
-    fn left(&mut self, n: u64, answer: Left<'_, u64, u64, u64>) {
-        match left(answer, &mut self.tally) {
-            None | Some(Leftover::Nothing) => {}
-            Some(Leftover::Outcome(Try::Value(value))) if value == n => {
+    fn left(&mut self, n: u64, answer: Left<'h, u64, u64, u64>) {
+        match answer {
+            Left::First(_) => {}
+            Left::Last(leftover, husk) => {
+                self.key = Some(husk.reopen(&mut self.tally));
+                self.left_over(n, leftover);
+            }
+        }
+    }
+
+    fn left_over(&mut self, n: u64, leftover: Leftover<u64, u64>) {
+        match leftover {
+            Leftover::Nothing => {}
+            Leftover::Outcome(Try::Value(value)) if value == n => {
                 self.outcomes = self.outcomes.saturating_add(1);
             }
-            Some(Leftover::Proxy(proxy)) if proxy == n => {
+            Leftover::Proxy(proxy) if proxy == n => {
                 self.proxies = self.proxies.saturating_add(1);
             }
-            Some(_) => self.strangers = self.strangers.saturating_add(1),
+            _ => self.strangers = self.strangers.saturating_add(1),
         }
     }
 
     // With `mixed` two cores in four have a proxy.
-    fn produce(&mut self, n: u64, producer: Producer<'_, u64, u64, u64>, mixed: bool) {
+    fn produce(&mut self, n: u64, producer: Producer<'h, u64, u64, u64>, mixed: bool) {
         if mixed && n % 4 >= 2 {
             let (answer, producer) = producer.set_proxy(n);
             let answer = passed(answer, &mut self.tally);
@@ -248,7 +265,7 @@ impl Driven {
     }
 
     // With `mixed` every other core is given up.
-    fn consume(&mut self, n: u64, consumer: Consumer<'_, u64, u64, u64>, mixed: bool) {
+    fn consume(&mut self, n: u64, consumer: Consumer<'h, u64, u64, u64>, mixed: bool) {
         if mixed && n % 2 == 1 {
             self.left(n, consumer.give_up().leave());
         } else {
@@ -261,7 +278,11 @@ impl Driven {
 }
 
 // Drives the producer, if it is still there.
-fn produced(n: u64, producer: &mut Option<Producer<'_, u64, u64, u64>>, mixed: bool) -> Driven
+fn produced<'h>(
+    n: u64,
+    producer: &mut Option<Producer<'h, u64, u64, u64>>,
+    mixed: bool,
+) -> Driven<'h>
     ensures { producer.new ≡ None }
 {
     let mut driven = Driven::new();
@@ -272,7 +293,11 @@ fn produced(n: u64, producer: &mut Option<Producer<'_, u64, u64, u64>>, mixed: b
 }
 
 // Drives the consumer, if it is still there.
-fn consumed(n: u64, consumer: &mut Option<Consumer<'_, u64, u64, u64>>, mixed: bool) -> Driven
+fn consumed<'h>(
+    n: u64,
+    consumer: &mut Option<Consumer<'h, u64, u64, u64>>,
+    mixed: bool,
+) -> Driven<'h>
     ensures { consumer.new ≡ None }
 {
     let mut driven = Driven::new();
@@ -283,11 +308,13 @@ fn consumed(n: u64, consumer: &mut Option<Consumer<'_, u64, u64, u64>>, mixed: b
 }
 
 // Two threads have one half each.
-fn driven_core(rt: &impl Threads, n: u64, home: &mut Numbers, mixed: bool) -> Driven {
+fn driven_core<'h>(
+    rt: &impl Threads,
+    n: u64,
+    key: Key<'h, u64, u64, u64>,
+    mixed: bool,
+) -> Driven<'h> {
     let mut begun = Driven::new();
-    let Some(key) = home.key() else {
-        return begun;
-    };
     let (producer, consumer) = key.start(n, &mut begun.tally);
     let mut producer = Some(producer);
     let mut consumer = Some(consumer);
@@ -303,29 +330,60 @@ fn driven_core(rt: &impl Threads, n: u64, home: &mut Numbers, mixed: bool) -> Dr
     begun.with(one).with(two).with(three).with(four)
 }
 
-// What two threads have done with the halves of 1,000 cores.
-fn driven_by_two(rt: &impl Threads, alloc: Global, mixed: bool) -> Result<Driven, AllocError> {
+// What two threads have done with the halves of the cores with these numbers, all in one home, one after another.
+fn driven_in_one<'h>(
+    rt: &impl Threads,
+    home: &'h mut Numbers,
+    numbers: Range<u64>,
+    mixed: bool,
+) -> Driven<'h> {
     let mut all = Driven::new();
-    for n in 0..1000 {
-        let mut home = numbers(alloc)?;
-        all = all.with(driven_core(rt, n, &mut home, mixed));
+    all.key = home.key();
+    for n in numbers {
+        let Some(key) = all.key.take() else {
+            break;
+        };
+        all = all.with(driven_core(rt, n, key, mixed));
     }
-    Ok(all)
+    all
+}
+
+// Numbers of a tally, then what was left over, and the answers of another core.
+type Totals = (u64, u64, u64, u64, u64, u64, u64, u64);
+
+fn totals(all: &Driven<'_>) -> Totals {
+    let (made, handed, forwarded, freed, reopened) = counts(&all.tally);
+    (
+        made,
+        handed,
+        forwarded,
+        freed,
+        reopened,
+        all.outcomes,
+        all.proxies,
+        all.strangers,
+    )
 }
 
 #[test]
-fn two_threads_drive_a_thousand_cores(rt: HostRuntime) -> Result<(), Fail> {
-    let all = driven_by_two(&rt, rt.alloc(), false)?;
-    assert_eq!(rt; counts(&all.tally), (1000, 1000, 0, 1000));
-    assert_eq!(rt; (all.outcomes, all.proxies, all.strangers), (0, 0, 0));
+fn two_threads_use_one_home_a_thousand_times(rt: HostRuntime) -> Result<(), Fail> {
+    let mut home = numbers(rt.alloc())?;
+    let all = totals(&driven_in_one(&rt, &mut home, 0..1000, false));
+    assert_eq!(rt; all, (1000, 1000, 0, 1000, 1000, 0, 0, 0));
     Ok(())
 }
 
 #[test]
 fn two_threads_mix_proxies_and_give_ups(rt: HostRuntime) -> Result<(), Fail> {
-    let all = driven_by_two(&rt, rt.alloc(), true)?;
-    assert_eq!(rt; counts(&all.tally), (1000, 250, 250, 1000));
-    assert_eq!(rt; (all.outcomes, all.proxies, all.strangers), (250, 250, 0));
+    let mut all = Tally::new();
+    for n in 0..1000 {
+        let mut home = numbers(rt.alloc())?;
+        all = all.merge(driven_in_one(&rt, &mut home, n..n + 1, true).tally);
+    }
+    assert_eq!(rt; counts(&all), (1000, 250, 250, 1000, 1000));
+    let mut home = numbers(rt.alloc())?;
+    let all = totals(&driven_in_one(&rt, &mut home, 0..1000, true));
+    assert_eq!(rt; all, (1000, 250, 250, 1000, 1000, 250, 250, 0));
     Ok(())
 }
 
@@ -442,7 +500,7 @@ fn values_that_cannot_be_dropped_come_out(rt: HostRuntime) -> Result<(), Fail> {
 
     let home = Home::new(rt.alloc()).map_err(|_| AllocError)?;
     assert_eq!(rt; closed(home), (0, 0, 0, State::Start, 2));
-    assert_eq!(rt; counts(&t), (2, 1, 0, 2));
+    assert_eq!(rt; counts(&t), (2, 1, 0, 2, 0));
     Ok(())
 }
 

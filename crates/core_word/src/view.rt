@@ -55,4 +55,12 @@ pub enum View<T, C, P> {
     Consumer(u64, ConsumerPhase<T, C, P>),
     /// The last leaver, once it has read the final state: what both halves had set. It has all slots.
     Husk(u64, Offer<Try<T>, P>, Claim<C>),
+    /// The last leaver, once it has set the state back to Start. It has all slots.
+    Reopening(u64),
+    /// Both halves of a use, put into one seat.
+    Joined(u64, ProducerPhase<T, C, P>, ConsumerPhase<T, C, P>),
+    /// A seat that was put into another.
+    Spent,
+    /// Two seats that exclude each other. It never comes to that.
+    Clash,
 }

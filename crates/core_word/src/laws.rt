@@ -1,0 +1,62 @@
+//! The laws over two seats of one home: what both halves of a use say of each other, and that no use ends twice.
+//! Each puts the two seats together, and so spends what it is given. The home is used no more.
+ghost use Rattle.std.specs.Prelude.{◌≡◌, ◌≢◌, []};
+ghost use Rattle.core_word.specs.declared.view.Departure.{Departure};
+ghost use Rattle.core_word.specs.Answers.{HaveAgreed};
+ghost use Rattle.core_word.specs.Plays.{IsHome, Sits, leaving, IsLeaving};
+ghost use Rattle.core_word.specs.Rule.{IsSet};
+
+use crate::consumer::LeftC;
+use crate::left::Husk;
+use crate::producer::LeftP;
+use crate::rule::{Cells, Clashes, Compares, JoinsHalves, Never, Place};
+use crate::steps;
+
+// Leaves, first or last.
+fn depart<T, C, P>(table: &Cells<T, C, P>, seat: &mut Place<T, C, P>)
+    requires home { IsHome table.now.table_id }
+    requires leaving { (seat.old.table_id ≡ table.now.table_id) × IsLeaving seat.old.me }
+    ensures { (left : Departure) × (left ≢ Departure.No) × Sits table.now.table_id seat.new (leaving left seat.old.me.0, []) }
+{
+    let _is_last = steps::leave(table, seat);
+}
+
+/// The law over both halves of one use. Where both have set something, one half alone got the other's act, and what it
+/// got is what the other set: so the later of the two acts answers the Fire or the Forward, and that act alone. Where
+/// the consumer gave up, neither got anything.
+pub fn halves_agree<'h, T, C, P>(producer: LeftP<'h, T, C, P>, consumer: LeftC<'h, T, C, P>)
+    requires { (producer.home ≡ consumer.home) × (producer.use_number ≡ consumer.use_number) }
+    ensures set { IsSet producer.entry.offer }
+    ensures agree { HaveAgreed producer.entry.offer producer.entry.got consumer.entry.claim consumer.entry.got }
+{
+    let LeftP {
+        table,
+        mut seat,
+        no: _,
+    } = producer;
+    let LeftC {
+        table: other_table,
+        seat: mut other,
+        no: _,
+    } = consumer;
+    depart(other_table, &mut other);
+    table.join_seat::<JoinsHalves>(&mut seat, other);
+    table.load::<Compares>(&mut seat, 0);
+}
+
+/// The law of the end of a use: a home has one husk at most, so of the two leaves of a use one alone answers Last. No
+/// call of this can be made.
+pub fn one_husk<'h, T, C, P>(husk: Husk<'h, T, C, P>, other: Husk<'h, T, C, P>)
+    requires { husk.home ≡ other.home }
+    ensures { ⊥ }
+{
+    let Husk { table, mut seat } = husk;
+    let Husk {
+        table: other_table,
+        seat: mut other,
+    } = other;
+    steps::set_back(other_table, &mut other);
+    steps::attach_both(other_table, &mut other);
+    table.join_seat::<Clashes>(&mut seat, other);
+    table.load::<Never>(&mut seat, 0);
+}
