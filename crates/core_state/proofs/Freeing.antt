@@ -1,9 +1,9 @@
 -- What stands in a lawful schedule, by what its halves have set, and what both leaves come to.
 use Rattle.std.proofs.Common.{◌≡◌, ℕ, zero, suc, ◌+◌, ◌<◌, ◌≤◌, ◌⊎◌, inl, inr, true, false, List, [], ◌∷◌, ◌++◌, take, refl, sym, ap, ◌∙◌, Some, arith}
-use Rattle.std.specs.Prelude.{slice_get}
+use Rattle.std.specs.Prelude.{Bool, slice_get}
 use mathlib.Core.Logic.{dite}
 use native.Mathlib.Decide.{ℕ_discrete}
-use Rattle.core_state.specs.declared.table.State.TheVariants.{Done, Empty}
+use Rattle.core_state.specs.declared.table.State.TheVariants.{Start, OnlyResult, Proxy, Done, Empty}
 use Rattle.core_state.specs.declared.schedule.ProducerAct.{ProducerAct}
 use Rattle.core_state.specs.declared.schedule.ProducerAct.TheVariants as by_producer
 use Rattle.core_state.specs.declared.schedule.ConsumerAct.{ConsumerAct}
@@ -14,12 +14,19 @@ use Rattle.core_state.specs.declared.schedule.Half.{Half}
 use Rattle.core_state.specs.declared.schedule.Half.TheVariants as the
 use Rattle.core_state.specs.declared.schedule.Offer.{Offer}
 use Rattle.core_state.specs.declared.schedule.Offer.TheVariants as offered
-use Rattle.core_state.specs.declared.schedule.Claim.{Claim}
-use Rattle.core_state.specs.declared.schedule.Claim.TheVariants as claimed
-use Rattle.core_state.specs.Schedule.{IsMerge, merged, producer_first, consumer_first, IsLawful, state_from, offer_in, claim_in, IsLater, Frees, leave_of, leaves_in, gives_up}
+use Rattle.core_state.specs.declared.schedule.Demand.{Demand}
+use Rattle.core_state.specs.declared.schedule.Demand.TheVariants as demanded
+use Rattle.core_state.specs.declared.schedule.Request.{Request}
+use Rattle.core_state.specs.Table.{waiting_state}
+use Rattle.core_state.specs.Schedule.{IsMerge, merged, producer_first, consumer_first, IsLawful, state_from, offer_in, demand_in, IsLater, Frees, leave_of, leaves_in, gives_up}
 use Rattle.core_state.specs.Laws.{LastFindsOne, result_of, proxy_of, callback_of}
 use Rattle.core_state.proofs.Schedules.{over, leaves, Goes, may_result, may_proxy, may_end, goes_from, ConsumerEnds, all_over, still_leaves, Begins, nothing_comes, callback_comes, give_up_comes, begins_from, take_with, lawful_before}
 use Rattle.core_state.proofs.Orders.{p_kind, get_take, get_take_within, no_producer, only_leave, no_consumer, only_leaves, at_one_place, at_one_turn}
+
+-- a state in which a callback waits alone is no other
+pub waits_alone : (a : Bool) → (waiting_state a ≡ OnlyResult → ⊥) × (waiting_state a ≡ Proxy → ⊥) × (waiting_state a ≡ Done → ⊥) × (waiting_state a ≡ Empty → ⊥) × (waiting_state a ≡ Start → ⊥)
+waits_alone true = ((λ e. cc), (λ e. cc), (λ e. cc), (λ e. cc), (λ e. cc))
+waits_alone false = ((λ e. cc), (λ e. cc), (λ e. cc), (λ e. cc), (λ e. cc))
 
 abbrev p_leaves : {R K : Type 0} → List (ProducerAct R K) → ℕ
 p_leaves [] = 0
@@ -66,15 +73,15 @@ module _ {R K C : Type 0} where
   offer_at goes (consumer_first m) zero p e k = cc
   offer_at goes (consumer_first m) (suc n) p e k = offer_at goes m n p e k
 
-  claim_at : {ps : List (ProducerAct R K)} {cs : List (ConsumerAct C)} {acts : List (CoreAct R K C)} → Begins cs → IsMerge ps cs acts → (n : ℕ) (c : C)
-      → slice_get acts n ≡ Some (callback_of c) → claim_in acts ≡ claimed.Callback c
-  claim_at nothing_comes m n c e = absurd (no_consumer m n _ e)
-  claim_at (callback_comes {c = x} end) (consumer_first m) zero c e = let same : x ≡ c = cc in ap (λ y. claimed.Callback y) same
-  claim_at (callback_comes end) (consumer_first m) (suc n) c e = let z = only_leaves end m n _ e in absurd (omega (arith, z))
-  claim_at (give_up_comes end) (consumer_first m) zero c e = cc
-  claim_at (give_up_comes end) (consumer_first m) (suc n) c e = let z = only_leaves end m n _ e in absurd (omega (arith, z))
-  claim_at begin (producer_first m) zero c e = cc
-  claim_at begin (producer_first m) (suc n) c e = claim_at begin m n c e
+  demand_at : {ps : List (ProducerAct R K)} {cs : List (ConsumerAct C)} {acts : List (CoreAct R K C)} → Begins cs → IsMerge ps cs acts → (n : ℕ) (c : Request C)
+      → slice_get acts n ≡ Some (callback_of c) → demand_in acts ≡ demanded.Callback c
+  demand_at nothing_comes m n c e = absurd (no_consumer m n _ e)
+  demand_at (callback_comes {c = x} end) (consumer_first m) zero c e = let same : x ≡ c = cc in ap (λ y. demanded.Callback y) same
+  demand_at (callback_comes end) (consumer_first m) (suc n) c e = let z = only_leaves end m n _ e in absurd (omega (arith, z))
+  demand_at (give_up_comes end) (consumer_first m) zero c e = cc
+  demand_at (give_up_comes end) (consumer_first m) (suc n) c e = let z = only_leaves end m n _ e in absurd (omega (arith, z))
+  demand_at begin (producer_first m) zero c e = cc
+  demand_at begin (producer_first m) (suc n) c e = demand_at begin m n c e
 
   pub result_place : (acts : List (CoreAct R K C)) (r : R) → offer_in acts ≡ offered.Result r → (n : ℕ) × (slice_get acts n ≡ Some (result_of r))
   result_place [] r e = cc
@@ -90,28 +97,28 @@ module _ {R K C : Type 0} where
   proxy_place (by.Producer by_producer.Leave ∷ acts) k e = let p = proxy_place acts k e in (suc p.0, p.1)
   proxy_place (by.Consumer c ∷ acts) k e = let p = proxy_place acts k e in (suc p.0, p.1)
 
-  pub callback_place : (acts : List (CoreAct R K C)) (c : C) → claim_in acts ≡ claimed.Callback c → (n : ℕ) × (slice_get acts n ≡ Some (callback_of c))
+  pub callback_place : (acts : List (CoreAct R K C)) (c : Request C) → demand_in acts ≡ demanded.Callback c → (n : ℕ) × (slice_get acts n ≡ Some (callback_of c))
   callback_place [] c e = cc
   callback_place (by.Consumer (by_consumer.Callback d) ∷ acts) c e = let same : d ≡ c = cc in (0, ap (λ x. Some (callback_of x)) same)
   callback_place (by.Consumer by_consumer.GiveUp ∷ acts) c e = let p = callback_place acts c e in (suc p.0, p.1)
   callback_place (by.Consumer by_consumer.Leave ∷ acts) c e = let p = callback_place acts c e in (suc p.0, p.1)
   callback_place (by.Producer x ∷ acts) c e = let p = callback_place acts c e in (suc p.0, p.1)
 
-  pub done_parts : (offer : Offer R K) (claim : Claim C) → state_from offer claim ≡ Done → (r : R) × (c : C) × (offer ≡ offered.Result r) × (claim ≡ claimed.Callback c)
-  done_parts offered.Nothing claimed.Nothing e = cc
-  done_parts offered.Nothing (claimed.Callback c) e = cc
-  done_parts (offered.Result r) claimed.Nothing e = cc
-  done_parts (offered.Result r) (claimed.Callback c) e = (r, c, refl, refl)
-  done_parts (offered.Proxy k) claimed.Nothing e = cc
-  done_parts (offered.Proxy k) (claimed.Callback c) e = cc
+  pub done_parts : (offer : Offer R K) (demand : Demand C) → state_from offer demand ≡ Done → (r : R) × (c : Request C) × (offer ≡ offered.Result r) × (demand ≡ demanded.Callback c)
+  done_parts offered.Nothing demanded.Nothing e = cc
+  done_parts offered.Nothing (demanded.Callback c) e = absurd ((waits_alone c.inline).2 e)
+  done_parts (offered.Result r) demanded.Nothing e = cc
+  done_parts (offered.Result r) (demanded.Callback c) e = (r, c, refl, refl)
+  done_parts (offered.Proxy k) demanded.Nothing e = cc
+  done_parts (offered.Proxy k) (demanded.Callback c) e = cc
 
-  pub empty_parts : (offer : Offer R K) (claim : Claim C) → state_from offer claim ≡ Empty → (k : K) × (c : C) × (offer ≡ offered.Proxy k) × (claim ≡ claimed.Callback c)
-  empty_parts offered.Nothing claimed.Nothing e = cc
-  empty_parts offered.Nothing (claimed.Callback c) e = cc
-  empty_parts (offered.Result r) claimed.Nothing e = cc
-  empty_parts (offered.Result r) (claimed.Callback c) e = cc
-  empty_parts (offered.Proxy k) claimed.Nothing e = cc
-  empty_parts (offered.Proxy k) (claimed.Callback c) e = (k, c, refl, refl)
+  pub empty_parts : (offer : Offer R K) (demand : Demand C) → state_from offer demand ≡ Empty → (k : K) × (c : Request C) × (offer ≡ offered.Proxy k) × (demand ≡ demanded.Callback c)
+  empty_parts offered.Nothing demanded.Nothing e = cc
+  empty_parts offered.Nothing (demanded.Callback c) e = absurd ((waits_alone c.inline).3 e)
+  empty_parts (offered.Result r) demanded.Nothing e = cc
+  empty_parts (offered.Result r) (demanded.Callback c) e = cc
+  empty_parts (offered.Proxy k) demanded.Nothing e = cc
+  empty_parts (offered.Proxy k) (demanded.Callback c) e = (k, c, refl, refl)
 
   -- the places of the two acts
   pub places : (acts : List (CoreAct R K C)) (half : Half) (p : ProducerAct R K) (c : ConsumerAct C) → IsLater acts half p c
@@ -206,14 +213,14 @@ module _ {R K C : Type 0} where
         dite (ℕ_discrete (leaves_in (take n acts)) 0) (λ none_left. inr (omega (arith, none_left))) (λ some_left. inl (omega (arith, few, more, some_left))),
       )
 
-  pub nothing_after : {ps : List (ProducerAct R K)} {cs : List (ConsumerAct C)} {acts : List (CoreAct R K C)} → ConsumerEnds cs → IsMerge ps cs acts → (claim_in acts ≡ claimed.Nothing) × (gives_up acts ≡ false)
+  pub nothing_after : {ps : List (ProducerAct R K)} {cs : List (ConsumerAct C)} {acts : List (CoreAct R K C)} → ConsumerEnds cs → IsMerge ps cs acts → (demand_in acts ≡ demanded.Nothing) × (gives_up acts ≡ false)
   nothing_after end merged = (refl, refl)
   nothing_after end (producer_first m) = nothing_after end m
   nothing_after still_leaves (consumer_first m) = nothing_after all_over m
 
   -- a consumer that has left had set a callback or given up
   pub chosen : {ps : List (ProducerAct R K)} {cs : List (ConsumerAct C)} {acts : List (CoreAct R K C)} → Begins cs → IsMerge ps cs acts → (n : ℕ) → slice_get acts n ≡ Some (leave_of the.Consumer)
-      → ((c : C) × (claim_in acts ≡ claimed.Callback c) × (gives_up acts ≡ false)) ⊎ ((claim_in acts ≡ claimed.Nothing) × (gives_up acts ≡ true))
+      → ((c : Request C) × (demand_in acts ≡ demanded.Callback c) × (gives_up acts ≡ false)) ⊎ ((demand_in acts ≡ demanded.Nothing) × (gives_up acts ≡ true))
   chosen nothing_comes m n e = absurd (no_consumer m n _ e)
   chosen (callback_comes {c = d} end) (consumer_first m) n e = inl (d, refl, (nothing_after end m).1)
   chosen (give_up_comes end) (consumer_first m) n e = inr ((nothing_after end m).0, refl)
@@ -224,5 +231,5 @@ module _ {R K C : Type 0} where
     pub offer_here : (n : ℕ) (p : ProducerAct R K) → slice_get acts n ≡ Some (by.Producer p) → p_kind p ≡ 1 → offer_in acts ≡ offer_by p
     offer_here = offer_at (goes_from lawful.of_producer lawful.produced) lawful.merge
 
-    pub claim_here : (n : ℕ) (c : C) → slice_get acts n ≡ Some (callback_of c) → claim_in acts ≡ claimed.Callback c
-    claim_here = claim_at (begins_from lawful.of_consumer lawful.consumed) lawful.merge
+    pub demand_here : (n : ℕ) (c : Request C) → slice_get acts n ≡ Some (callback_of c) → demand_in acts ≡ demanded.Callback c
+    demand_here = demand_at (begins_from lawful.of_consumer lawful.consumed) lawful.merge

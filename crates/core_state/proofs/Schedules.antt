@@ -1,10 +1,10 @@
 -- The fold of the table over every lawful schedule.
 use Rattle.std.proofs.Common.{◌≡◌, ℕ, zero, suc, ◌≤◌, ◌⊎◌, inl, inr, ⊎_elim, List, [], ◌∷◌, ◌++◌, take, drop, refl, sym, ap, ◌∙◌, subst, Option, Some, None, arith}
-use Rattle.std.specs.Prelude.{slice_get, ◌↔◌}
+use Rattle.std.specs.Prelude.{Bool, true, false, slice_get, ◌↔◌}
 use Rattle.core_state.specs.declared.table.State.{State}
-use Rattle.core_state.specs.declared.table.State.TheVariants.{Start, OnlyResult, OnlyCallback, Proxy, Done, Empty}
+use Rattle.core_state.specs.declared.table.State.TheVariants.{Start, OnlyResult, OnlyCallback, Proxy, Done, Empty, OnlyCallbackAllowInline}
 use Rattle.core_state.specs.declared.table.Act.{Act}
-use Rattle.core_state.specs.declared.table.Act.TheVariants.{SetResult, SetProxy, SetCallback}
+use Rattle.core_state.specs.declared.table.Act.TheVariants.{SetResult, SetProxy, SetCallback, SetCallbackInline}
 use Rattle.core_state.specs.declared.schedule.ProducerAct.{ProducerAct}
 use Rattle.core_state.specs.declared.schedule.ProducerAct.TheVariants as by_producer
 use Rattle.core_state.specs.declared.schedule.ConsumerAct.{ConsumerAct}
@@ -13,10 +13,11 @@ use Rattle.core_state.specs.declared.schedule.CoreAct.{CoreAct}
 use Rattle.core_state.specs.declared.schedule.CoreAct.TheVariants as by
 use Rattle.core_state.specs.declared.schedule.Offer.{Offer}
 use Rattle.core_state.specs.declared.schedule.Offer.TheVariants as offered
-use Rattle.core_state.specs.declared.schedule.Claim.{Claim}
-use Rattle.core_state.specs.declared.schedule.Claim.TheVariants as claimed
-use Rattle.core_state.specs.Table.{state_after}
-use Rattle.core_state.specs.Schedule.{IsProducerList, result_list, proxy_list, IsConsumerList, callback_list, give_up_list, IsMerge, merged, producer_first, consumer_first, IsLawful, state_from, state_after_exchange, offer_in, claim_in, state_of, exchange_of, run, fold_of}
+use Rattle.core_state.specs.declared.schedule.Demand.{Demand}
+use Rattle.core_state.specs.declared.schedule.Demand.TheVariants as demanded
+use Rattle.core_state.specs.declared.schedule.Request.{Request}
+use Rattle.core_state.specs.Table.{state_after, waiting_state, setting_act}
+use Rattle.core_state.specs.Schedule.{IsProducerList, result_list, proxy_list, IsConsumerList, callback_list, give_up_list, IsMerge, merged, producer_first, consumer_first, IsLawful, state_from, state_after_exchange, offer_in, demand_in, state_of, exchange_of, run, fold_of}
 use Rattle.core_state.specs.Laws.{IsFinal, FindsEachState, StaysFinal}
 
 take_of_take : {A : Type 0} (m n : ℕ) (xs : List A) → (k : ℕ) × (take m (take n xs) ≡ take k xs)
@@ -46,11 +47,13 @@ ends_final state is_end act = ⊎_elim (λ e. ap (λ s. state_after s act) e ∙
     from_done SetResult = refl
     from_done SetProxy = refl
     from_done SetCallback = refl
+    from_done SetCallbackInline = refl
 
     from_empty : (act : Act) → state_after Empty act ≡ None
     from_empty SetResult = refl
     from_empty SetProxy = refl
     from_empty SetCallback = refl
+    from_empty SetCallbackInline = refl
 
 final_ends : (state : State) → IsFinal state → (state ≡ Done) ⊎ (state ≡ Empty)
 final_ends Start final = let e = final SetCallback in cc
@@ -59,6 +62,28 @@ final_ends OnlyCallback final = let e = final SetResult in cc
 final_ends Proxy final = let e = final SetCallback in cc
 final_ends Done final = inl refl
 final_ends Empty final = inr refl
+final_ends OnlyCallbackAllowInline final = let e = final SetResult in cc
+
+-- The rows of a waiting callback are the same with the allowance and without it.
+pub result_after : (a : Bool) → state_after (waiting_state a) SetResult ≡ Some Done
+result_after true = refl
+result_after false = refl
+
+pub proxy_after : (a : Bool) → state_after (waiting_state a) SetProxy ≡ Some Empty
+proxy_after true = refl
+proxy_after false = refl
+
+waits_after : (a : Bool) → state_after Start (setting_act a) ≡ Some (waiting_state a)
+waits_after true = refl
+waits_after false = refl
+
+done_after : (a : Bool) → state_after OnlyResult (setting_act a) ≡ Some Done
+done_after true = refl
+done_after false = refl
+
+empty_after : (a : Bool) → state_after Proxy (setting_act a) ≡ Some Empty
+empty_after true = refl
+empty_after false = refl
 
 -- the states without a row are Done and Empty
 pub final_states : (state : State) → IsFinal state ↔ ((state ≡ Done) ⊎ (state ≡ Empty))
@@ -105,13 +130,13 @@ module _ {C : Type 0} where
   -- the acts that may still come of a consumer that has done nothing
   pub data Begins : List (ConsumerAct C) → Type 0 where
     nothing_comes : Begins []
-    callback_comes : {c : C} {cs : List (ConsumerAct C)} → ConsumerEnds cs → Begins (by_consumer.Callback c ∷ cs)
+    callback_comes : {c : Request C} {cs : List (ConsumerAct C)} → ConsumerEnds cs → Begins (by_consumer.Callback c ∷ cs)
     give_up_comes : {cs : List (ConsumerAct C)} → ConsumerEnds cs → Begins (by_consumer.GiveUp ∷ cs)
 
   -- the acts that may still come of a consumer that has set this
-  pub data Follows : Claim C → List (ConsumerAct C) → Type 0 where
-    begins : {cs : List (ConsumerAct C)} → Begins cs → Follows claimed.Nothing cs
-    ends : {claim : Claim C} {cs : List (ConsumerAct C)} → ConsumerEnds cs → Follows claim cs
+  pub data Follows : Demand C → List (ConsumerAct C) → Type 0 where
+    begins : {cs : List (ConsumerAct C)} → Begins cs → Follows demanded.Nothing cs
+    ends : {demand : Demand C} {cs : List (ConsumerAct C)} → ConsumerEnds cs → Follows demand cs
 
   pub begins_from : {cs : List (ConsumerAct C)} → IsConsumerList cs → (n : ℕ) → Begins (take n cs)
   begins_from (callback_list c) zero = nothing_comes
@@ -123,34 +148,34 @@ module _ {C : Type 0} where
   begins_from give_up_list (suc (suc zero)) = give_up_comes still_leaves
   begins_from give_up_list (suc (suc (suc n))) = give_up_comes still_leaves
 
-  -- the first of two claims that is one
-  abbrev pub either_claim : Claim C → Claim C → Claim C
-  either_claim claimed.Nothing later = later
-  either_claim (claimed.Callback c) later = claimed.Callback c
+  -- the first of two demands that is one
+  abbrev pub either_demand : Demand C → Demand C → Demand C
+  either_demand demanded.Nothing later = later
+  either_demand (demanded.Callback c) later = demanded.Callback c
 
-  pub no_later_claim : (claim : Claim C) → either_claim claim claimed.Nothing ≡ claim
-  no_later_claim claimed.Nothing = refl
-  no_later_claim (claimed.Callback c) = refl
+  pub no_later_demand : (demand : Demand C) → either_demand demand demanded.Nothing ≡ demand
+  no_later_demand demanded.Nothing = refl
+  no_later_demand (demanded.Callback c) = refl
 
 module _ {R K C : Type 0} where
   -- from the state of what both have set, the fold gives the state of that and of what they still set
-  folds_on : {ps : List (ProducerAct R K)} {cs : List (ConsumerAct C)} {acts : List (CoreAct R K C)} (offer : Offer R K) (claim : Claim C)
-      → IsMerge ps cs acts → Goes offer ps → Follows claim cs
-      → run (Some (state_from offer claim)) acts ≡ Some (state_from (either_offer offer (offer_in acts)) (either_claim claim (claim_in acts)))
-  folds_on offer claim merged goes follows = λ i. Some (state_from (sym (no_later_offer offer) i) (sym (no_later_claim claim) i))
-  folds_on offered.Nothing claimed.Nothing (producer_first {p = by_producer.Result r} m) (may_result e) follows = folds_on (offered.Result r) claimed.Nothing m (may_end e) follows
-  folds_on offered.Nothing (claimed.Callback c) (producer_first {p = by_producer.Result r} m) (may_result e) follows = folds_on (offered.Result r) (claimed.Callback c) m (may_end e) follows
-  folds_on offered.Nothing claimed.Nothing (producer_first {p = by_producer.Proxy k} m) (may_proxy e) follows = folds_on (offered.Proxy k) claimed.Nothing m (may_end e) follows
-  folds_on offered.Nothing (claimed.Callback c) (producer_first {p = by_producer.Proxy k} m) (may_proxy e) follows = folds_on (offered.Proxy k) (claimed.Callback c) m (may_end e) follows
-  folds_on offer claim (producer_first m) (may_end leaves) follows = folds_on offer claim m (may_end over) follows
-  folds_on offered.Nothing claimed.Nothing (consumer_first {c = by_consumer.Callback d} m) goes (begins (callback_comes e)) = folds_on offered.Nothing (claimed.Callback d) m goes (ends e)
-  folds_on (offered.Result r) claimed.Nothing (consumer_first {c = by_consumer.Callback d} m) goes (begins (callback_comes e)) = folds_on (offered.Result r) (claimed.Callback d) m goes (ends e)
-  folds_on (offered.Proxy k) claimed.Nothing (consumer_first {c = by_consumer.Callback d} m) goes (begins (callback_comes e)) = folds_on (offered.Proxy k) (claimed.Callback d) m goes (ends e)
-  folds_on offer claimed.Nothing (consumer_first m) goes (begins (give_up_comes e)) = folds_on offer claimed.Nothing m goes (ends e)
-  folds_on offer claim (consumer_first m) goes (ends still_leaves) = folds_on offer claim m goes (ends all_over)
+  folds_on : {ps : List (ProducerAct R K)} {cs : List (ConsumerAct C)} {acts : List (CoreAct R K C)} (offer : Offer R K) (demand : Demand C)
+      → IsMerge ps cs acts → Goes offer ps → Follows demand cs
+      → run (Some (state_from offer demand)) acts ≡ Some (state_from (either_offer offer (offer_in acts)) (either_demand demand (demand_in acts)))
+  folds_on offer demand merged goes follows = λ i. Some (state_from (sym (no_later_offer offer) i) (sym (no_later_demand demand) i))
+  folds_on offered.Nothing demanded.Nothing (producer_first {p = by_producer.Result r} m) (may_result e) follows = folds_on (offered.Result r) demanded.Nothing m (may_end e) follows
+  folds_on offered.Nothing (demanded.Callback c) (producer_first {p = by_producer.Result r} {schedule = later} m) (may_result e) follows = ap (λ found. run found later) (result_after c.inline) ∙ folds_on (offered.Result r) (demanded.Callback c) m (may_end e) follows
+  folds_on offered.Nothing demanded.Nothing (producer_first {p = by_producer.Proxy k} m) (may_proxy e) follows = folds_on (offered.Proxy k) demanded.Nothing m (may_end e) follows
+  folds_on offered.Nothing (demanded.Callback c) (producer_first {p = by_producer.Proxy k} {schedule = later} m) (may_proxy e) follows = ap (λ found. run found later) (proxy_after c.inline) ∙ folds_on (offered.Proxy k) (demanded.Callback c) m (may_end e) follows
+  folds_on offer demand (producer_first m) (may_end leaves) follows = folds_on offer demand m (may_end over) follows
+  folds_on offered.Nothing demanded.Nothing (consumer_first {c = by_consumer.Callback d} {schedule = later} m) goes (begins (callback_comes e)) = ap (λ found. run found later) (waits_after d.inline) ∙ folds_on offered.Nothing (demanded.Callback d) m goes (ends e)
+  folds_on (offered.Result r) demanded.Nothing (consumer_first {c = by_consumer.Callback d} {schedule = later} m) goes (begins (callback_comes e)) = ap (λ found. run found later) (done_after d.inline) ∙ folds_on (offered.Result r) (demanded.Callback d) m goes (ends e)
+  folds_on (offered.Proxy k) demanded.Nothing (consumer_first {c = by_consumer.Callback d} {schedule = later} m) goes (begins (callback_comes e)) = ap (λ found. run found later) (empty_after d.inline) ∙ folds_on (offered.Proxy k) (demanded.Callback d) m goes (ends e)
+  folds_on offer demanded.Nothing (consumer_first m) goes (begins (give_up_comes e)) = folds_on offer demanded.Nothing m goes (ends e)
+  folds_on offer demand (consumer_first m) goes (ends still_leaves) = folds_on offer demand m goes (ends all_over)
 
   pub folds : (acts : List (CoreAct R K C)) → IsLawful acts → fold_of acts ≡ Some (state_of acts)
-  folds acts lawful = folds_on offered.Nothing claimed.Nothing lawful.merge (goes_from lawful.of_producer lawful.produced) (begins (begins_from lawful.of_consumer lawful.consumed))
+  folds acts lawful = folds_on offered.Nothing demanded.Nothing lawful.merge (goes_from lawful.of_producer lawful.produced) (begins (begins_from lawful.of_consumer lawful.consumed))
 
   merge_before : {ps : List (ProducerAct R K)} {cs : List (ConsumerAct C)} {acts : List (CoreAct R K C)} → IsMerge ps cs acts → (n : ℕ)
       → (i : ℕ) × (j : ℕ) × IsMerge (take i ps) (take j cs) (take n acts)
@@ -195,26 +220,26 @@ module _ {R K C : Type 0} where
   offer_split (by.Producer by_producer.Leave ∷ acts) (suc n) = offer_split acts n
   offer_split (by.Consumer c ∷ acts) (suc n) = offer_split acts n
 
-  claim_split : (acts : List (CoreAct R K C)) (n : ℕ) → claim_in acts ≡ either_claim (claim_in (take n acts)) (claim_in (drop n acts))
-  claim_split acts zero = refl
-  claim_split [] (suc n) = refl
-  claim_split (by.Consumer (by_consumer.Callback c) ∷ acts) (suc n) = refl
-  claim_split (by.Consumer by_consumer.GiveUp ∷ acts) (suc n) = claim_split acts n
-  claim_split (by.Consumer by_consumer.Leave ∷ acts) (suc n) = claim_split acts n
-  claim_split (by.Producer p ∷ acts) (suc n) = claim_split acts n
+  demand_split : (acts : List (CoreAct R K C)) (n : ℕ) → demand_in acts ≡ either_demand (demand_in (take n acts)) (demand_in (drop n acts))
+  demand_split acts zero = refl
+  demand_split [] (suc n) = refl
+  demand_split (by.Consumer (by_consumer.Callback c) ∷ acts) (suc n) = refl
+  demand_split (by.Consumer by_consumer.GiveUp ∷ acts) (suc n) = demand_split acts n
+  demand_split (by.Consumer by_consumer.Leave ∷ acts) (suc n) = demand_split acts n
+  demand_split (by.Producer p ∷ acts) (suc n) = demand_split acts n
 
-  final_stays : (offer later : Offer R K) (claim more : Claim C) → IsFinal (state_from offer claim) → state_from (either_offer offer later) (either_claim claim more) ≡ state_from offer claim
-  final_stays offered.Nothing later claimed.Nothing more final = let e = final SetResult in cc
-  final_stays offered.Nothing later (claimed.Callback c) more final = let e = final SetResult in cc
-  final_stays (offered.Result r) later claimed.Nothing more final = let e = final SetCallback in cc
-  final_stays (offered.Proxy k) later claimed.Nothing more final = let e = final SetCallback in cc
-  final_stays (offered.Result r) later (claimed.Callback c) more final = refl
-  final_stays (offered.Proxy k) later (claimed.Callback c) more final = refl
+  final_stays : (offer later : Offer R K) (demand more : Demand C) → IsFinal (state_from offer demand) → state_from (either_offer offer later) (either_demand demand more) ≡ state_from offer demand
+  final_stays offered.Nothing later demanded.Nothing more final = let e = final SetResult in cc
+  final_stays offered.Nothing later (demanded.Callback c) more final = let e : Some Done ≡ None = sym (result_after c.inline) ∙ final SetResult in cc
+  final_stays (offered.Result r) later demanded.Nothing more final = let e = final SetCallback in cc
+  final_stays (offered.Proxy k) later demanded.Nothing more final = let e = final SetCallback in cc
+  final_stays (offered.Result r) later (demanded.Callback c) more final = refl
+  final_stays (offered.Proxy k) later (demanded.Callback c) more final = refl
 
   final_state : (acts : List (CoreAct R K C)) (n : ℕ) → IsFinal (state_of (take n acts)) → state_of acts ≡ state_of (take n acts)
   final_state acts n final =
-      (λ i. state_from (offer_split acts n i) (claim_split acts n i))
-      ∙ final_stays (offer_in (take n acts)) (offer_in (drop n acts)) (claim_in (take n acts)) (claim_in (drop n acts)) final
+      (λ i. state_from (offer_split acts n i) (demand_split acts n i))
+      ∙ final_stays (offer_in (take n acts)) (offer_in (drop n acts)) (demand_in (take n acts)) (demand_in (drop n acts)) final
 
   pub stays : (acts : List (CoreAct R K C)) → IsLawful acts → StaysFinal acts
   stays acts lawful n m state is_end le found =

@@ -1,9 +1,9 @@
 -- The acts of a core's two halves, and the lawful orders of them.
 use Rattle.std.specs.Prelude.{◌≡◌, ℕ, suc, ◌-◌, ◌<◌, Bool, true, false, if◌then◌else◌, List, [], ◌∷◌, take, slice_get, Option, Some, None}
 use Rattle.core_state.specs.declared.table.State.{State}
-use Rattle.core_state.specs.declared.table.State.TheVariants.{Start, OnlyResult, OnlyCallback, Proxy, Done, Empty}
+use Rattle.core_state.specs.declared.table.State.TheVariants.{Start, OnlyResult, Proxy, Done, Empty}
 use Rattle.core_state.specs.declared.table.Act.{Act}
-use Rattle.core_state.specs.declared.table.Act.TheVariants.{SetResult, SetProxy, SetCallback}
+use Rattle.core_state.specs.declared.table.Act.TheVariants.{SetResult, SetProxy}
 use Rattle.core_state.specs.declared.schedule.ProducerAct.{ProducerAct}
 use Rattle.core_state.specs.declared.schedule.ProducerAct.TheVariants as by_producer
 use Rattle.core_state.specs.declared.schedule.ConsumerAct.{ConsumerAct}
@@ -14,9 +14,10 @@ use Rattle.core_state.specs.declared.schedule.Half.{Half}
 use Rattle.core_state.specs.declared.schedule.Half.TheVariants as the
 use Rattle.core_state.specs.declared.schedule.Offer.{Offer}
 use Rattle.core_state.specs.declared.schedule.Offer.TheVariants as offered
-use Rattle.core_state.specs.declared.schedule.Claim.{Claim}
-use Rattle.core_state.specs.declared.schedule.Claim.TheVariants as claimed
-use Rattle.core_state.specs.Table.{state_after}
+use Rattle.core_state.specs.declared.schedule.Demand.{Demand}
+use Rattle.core_state.specs.declared.schedule.Demand.TheVariants as demanded
+use Rattle.core_state.specs.declared.schedule.Request.{Request}
+use Rattle.core_state.specs.Table.{state_after, waiting_state, setting_act}
 
 module _ {R K : Type 0} where
   -- a producer sets a result or a proxy, and then leaves
@@ -27,7 +28,7 @@ module _ {R K : Type 0} where
 module _ {C : Type 0} where
   -- a consumer sets a callback or gives up, and then leaves
   pub data IsConsumerList : List (ConsumerAct C) → Type 0 where
-    callback_list : (c : C) → IsConsumerList (by_consumer.Callback c ∷ by_consumer.Leave ∷ [])
+    callback_list : (c : Request C) → IsConsumerList (by_consumer.Callback c ∷ by_consumer.Leave ∷ [])
     give_up_list : IsConsumerList (by_consumer.GiveUp ∷ by_consumer.Leave ∷ [])
 
 module _ {R K C : Type 0} where
@@ -48,18 +49,23 @@ module _ {R K C : Type 0} where
     pub merge : IsMerge (take produced producer) (take consumed consumer) schedule
 
 -- What the halves have set decides the state. Giving up and leaving don't count.
-abbrev pub state_from : {R K C : Type 0} → Offer R K → Claim C → State
-state_from offered.Nothing claimed.Nothing = Start
-state_from (offered.Result r) claimed.Nothing = OnlyResult
-state_from (offered.Proxy k) claimed.Nothing = Proxy
-state_from offered.Nothing (claimed.Callback c) = OnlyCallback
-state_from (offered.Result r) (claimed.Callback c) = Done
-state_from (offered.Proxy k) (claimed.Callback c) = Empty
+abbrev pub state_from : {R K C : Type 0} → Offer R K → Demand C → State
+state_from offered.Nothing demanded.Nothing = Start
+state_from (offered.Result r) demanded.Nothing = OnlyResult
+state_from (offered.Proxy k) demanded.Nothing = Proxy
+state_from offered.Nothing (demanded.Callback c) = waiting_state c.inline
+state_from (offered.Result r) (demanded.Callback c) = Done
+state_from (offered.Proxy k) (demanded.Callback c) = Empty
+
+-- A callback that was set with the allowance may run inline where the producer completes the core, and so its result stands later.
+abbrev pub inline_by : Half → Bool → Bool
+inline_by the.Producer allows = allows
+inline_by the.Consumer allows = false
 
 -- what is left of a core that both halves have left: what the producer set, where the consumer set nothing
-abbrev pub leftover_from : {R K C : Type 0} → Offer R K → Claim C → Offer R K
-leftover_from offer claimed.Nothing = offer
-leftover_from offer (claimed.Callback c) = offered.Nothing
+abbrev pub leftover_from : {R K C : Type 0} → Offer R K → Demand C → Offer R K
+leftover_from offer demanded.Nothing = offer
+leftover_from offer (demanded.Callback c) = offered.Nothing
 
 -- the state after an exchange, if there is one
 abbrev pub state_after_exchange : State → Option Act → Option State
@@ -76,23 +82,23 @@ module _ {R K C : Type 0} where
   offer_in (by.Consumer c ∷ acts) = offer_in acts
 
   -- what the consumer sets in a schedule
-  abbrev pub claim_in : List (CoreAct R K C) → Claim C
-  claim_in [] = claimed.Nothing
-  claim_in (by.Consumer (by_consumer.Callback c) ∷ acts) = claimed.Callback c
-  claim_in (by.Consumer by_consumer.GiveUp ∷ acts) = claim_in acts
-  claim_in (by.Consumer by_consumer.Leave ∷ acts) = claim_in acts
-  claim_in (by.Producer p ∷ acts) = claim_in acts
+  abbrev pub demand_in : List (CoreAct R K C) → Demand C
+  demand_in [] = demanded.Nothing
+  demand_in (by.Consumer (by_consumer.Callback c) ∷ acts) = demanded.Callback c
+  demand_in (by.Consumer by_consumer.GiveUp ∷ acts) = demand_in acts
+  demand_in (by.Consumer by_consumer.Leave ∷ acts) = demand_in acts
+  demand_in (by.Producer p ∷ acts) = demand_in acts
 
   -- the state that a schedule stands for
   abbrev pub state_of : List (CoreAct R K C) → State
-  state_of acts = state_from (offer_in acts) (claim_in acts)
+  state_of acts = state_from (offer_in acts) (demand_in acts)
 
   -- the exchange of the state that an act makes, if it makes one
   abbrev pub exchange_of : CoreAct R K C → Option Act
   exchange_of (by.Producer (by_producer.Result r)) = Some SetResult
   exchange_of (by.Producer (by_producer.Proxy k)) = Some SetProxy
   exchange_of (by.Producer by_producer.Leave) = None
-  exchange_of (by.Consumer (by_consumer.Callback c)) = Some SetCallback
+  exchange_of (by.Consumer (by_consumer.Callback c)) = Some (setting_act c.inline)
   exchange_of (by.Consumer by_consumer.GiveUp) = None
   exchange_of (by.Consumer by_consumer.Leave) = None
 
@@ -115,13 +121,13 @@ module _ {R K C : Type 0} where
   IsLater schedule the.Producer p c = StandsBefore schedule (by.Consumer c) (by.Producer p)
   IsLater schedule the.Consumer p c = StandsBefore schedule (by.Producer p) (by.Consumer c)
 
-  -- the hand-over of a result and a callback, made by the half whose act stands later
-  abbrev pub HandOver : List (CoreAct R K C) → Half → R → C → Type 0
-  HandOver schedule half r c = IsLater schedule half (by_producer.Result r) (by_consumer.Callback c)
+  -- The hand-over of a result and a callback, made by the half whose act stands later. It says whether the callback may run inline there.
+  abbrev pub HandOver : List (CoreAct R K C) → Half → R → C → Bool → Type 0
+  HandOver schedule half r c inline = (request : Request C) × IsLater schedule half (by_producer.Result r) (by_consumer.Callback request) × (c ≡ request.callback) × (inline ≡ inline_by half request.inline)
 
-  -- the forwarding of a callback to the core that a proxy names, made in the same way
-  abbrev pub Forwarding : List (CoreAct R K C) → Half → C → K → Type 0
-  Forwarding schedule half c k = IsLater schedule half (by_producer.Proxy k) (by_consumer.Callback c)
+  -- The forwarding of a callback, with its allowance or none, to the core that a proxy names, made in the same way.
+  abbrev pub Forwarding : List (CoreAct R K C) → Half → Request C → K → Type 0
+  Forwarding schedule half request k = IsLater schedule half (by_producer.Proxy k) (by_consumer.Callback request)
 
   -- the freeing of the core, at the later of the two leaves
   abbrev pub Frees : List (CoreAct R K C) → Half → Type 0

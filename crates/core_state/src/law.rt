@@ -2,9 +2,10 @@
 ghost use Rattle.std.specs.Prelude.{◌≡◌, ◌⊎◌, ◌↔◌, ℕ, List, take, Some};
 ghost use Rattle.core_state.specs.declared.table.State.{State};
 ghost use Rattle.core_state.specs.declared.schedule.CoreAct.{CoreAct};
+ghost use Rattle.core_state.specs.declared.schedule.Request.{Request};
 ghost use Rattle.core_state.specs.declared.schedule.Offer.TheVariants as offered;
-ghost use Rattle.core_state.specs.declared.schedule.Claim.TheVariants as claimed;
-ghost use Rattle.core_state.specs.Schedule.{IsLawful, fold_of, state_of, offer_in, claim_in};
+ghost use Rattle.core_state.specs.declared.schedule.Demand.TheVariants as demanded;
+ghost use Rattle.core_state.specs.Schedule.{IsLawful, fold_of, state_of, offer_in, demand_in};
 ghost use Rattle.core_state.specs.Laws.{result_of, proxy_of, callback_of, IsFinal, FindsEachState, StaysFinal, Stands, IsHandedOver, IsForwarded, HandsOverOnce, ForwardsOnce, FreesOnce, LastFindsOne, LeavesOffer, ComesOnce, FindsOther, IsAccounted};
 
 /// The law of the core's table, for every lawful schedule: any merge of a prefix of a producer's
@@ -18,14 +19,15 @@ pub fn schedule_law<R, K, C>()
     // What stands in the schedule is what the state is computed from.
     ensures results { (acts : List (CoreAct R K C)) (r : R) → IsLawful acts → Stands acts (result_of r) ↔ (offer_in acts ≡ offered.Result r) }
     ensures proxies { (acts : List (CoreAct R K C)) (k : K) → IsLawful acts → Stands acts (proxy_of k) ↔ (offer_in acts ≡ offered.Proxy k) }
-    ensures callbacks { (acts : List (CoreAct R K C)) (c : C) → IsLawful acts → Stands acts (callback_of c) ↔ (claim_in acts ≡ claimed.Callback c) }
+    ensures callbacks { (acts : List (CoreAct R K C)) (c : Request C) → IsLawful acts → Stands acts (callback_of c) ↔ (demand_in acts ≡ demanded.Callback c) }
 
     // Each exchange finds the state of the acts before it. Done and Empty alone have no row, and neither is ever left again.
     ensures finds { (acts : List (CoreAct R K C)) → IsLawful acts → FindsEachState acts }
     ensures ends { (state : State) → IsFinal state ↔ ((state ≡ State.Done) ⊎ (state ≡ State.Empty)) }
     ensures stays { (acts : List (CoreAct R K C)) → IsLawful acts → StaysFinal acts }
 
-    // A result and a callback are handed over by one of the two halves, the later one, and once. A proxy's callback is forwarded so.
+    // A result and a callback are handed over by one of the two halves, the later one, and once. It may run inline where
+    // it was set with the allowance and the result stands later. A proxy's callback is forwarded so, with its allowance.
     ensures handed { (acts : List (CoreAct R K C)) → IsLawful acts → HandsOverOnce acts }
     ensures forwarded { (acts : List (CoreAct R K C)) → IsLawful acts → ForwardsOnce acts }
     ensures done { (acts : List (CoreAct R K C)) → IsLawful acts → (state_of acts ≡ State.Done) ↔ IsHandedOver acts }

@@ -8,10 +8,18 @@ pub enum ProducerAct<R, K> {
     Leave,
 }
 
+/// A callback as a consumer sets it.
+#[derive(Drop)]
+pub struct Request<C> {
+    pub callback: C,
+    /// Whether it was set with the allowance to run inline.
+    pub inline: bool,
+}
+
 /// What a consumer does to its core: it sets a callback or gives up, then it leaves.
 #[derive(Drop)]
 pub enum ConsumerAct<C> {
-    Callback(C),
+    Callback(Request<C>),
     GiveUp,
     Leave,
 }
@@ -40,7 +48,7 @@ pub enum Offer<R, K> {
 
 /// What a consumer has set.
 #[derive(Drop)]
-pub enum Claim<C> {
+pub enum Demand<C> {
     Nothing,
-    Callback(C),
+    Callback(Request<C>),
 }

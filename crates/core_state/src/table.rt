@@ -17,6 +17,8 @@ pub enum State {
     Done,
     /// One half got the callback, to pass it on to the other core.
     Empty,
+    /// As `OnlyCallback`, and the callback may be run inline by whoever completes the core.
+    OnlyCallbackAllowInline,
 }
 
 /// What a half does to the state. Giving up and leaving don't change it.
@@ -25,6 +27,8 @@ pub enum Act {
     SetResult,
     SetProxy,
     SetCallback,
+    /// Sets the callback with the allowance to run inline.
+    SetCallbackInline,
 }
 
 /// The state after an act, or None where this act can't come in this state.
@@ -35,12 +39,16 @@ pub fn next(state: State, act: Act) -> Option<State>
         (State::Start, Act::SetResult) => Some(State::OnlyResult),
         (State::Start, Act::SetProxy) => Some(State::Proxy),
         (State::Start, Act::SetCallback) => Some(State::OnlyCallback),
-        (State::OnlyResult, Act::SetCallback) => Some(State::Done),
-        (State::OnlyCallback, Act::SetResult) => Some(State::Done),
-        (State::OnlyCallback, Act::SetProxy) => Some(State::Empty),
-        (State::Proxy, Act::SetCallback) => Some(State::Empty),
+        (State::Start, Act::SetCallbackInline) => Some(State::OnlyCallbackAllowInline),
+        (State::OnlyResult, Act::SetCallback | Act::SetCallbackInline) => Some(State::Done),
+        (State::Proxy, Act::SetCallback | Act::SetCallbackInline) => Some(State::Empty),
+        (State::OnlyCallback | State::OnlyCallbackAllowInline, Act::SetResult) => Some(State::Done),
+        (State::OnlyCallback | State::OnlyCallbackAllowInline, Act::SetProxy) => Some(State::Empty),
         (State::OnlyResult | State::Proxy, Act::SetResult | Act::SetProxy) => None,
-        (State::OnlyCallback, Act::SetCallback) => None,
+        (
+            State::OnlyCallback | State::OnlyCallbackAllowInline,
+            Act::SetCallback | Act::SetCallbackInline,
+        ) => None,
         (State::Done | State::Empty, _) => None,
     }
 }
@@ -57,6 +65,7 @@ pub fn code(state: State) -> u64
         State::Proxy => 3,
         State::Done => 4,
         State::Empty => 5,
+        State::OnlyCallbackAllowInline => 6,
     }
 }
 
@@ -73,6 +82,7 @@ pub fn from_code(n: u64) -> Option<State>
         3 => Some(State::Proxy),
         4 => Some(State::Done),
         5 => Some(State::Empty),
+        6 => Some(State::OnlyCallbackAllowInline),
         _ => None,
     }
 }

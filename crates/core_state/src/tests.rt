@@ -1,16 +1,17 @@
 ghost use Rattle.std.specs.Prelude.{◌≡◌};
 ghost use Rattle.core_state.specs.Schedule.{state_from};
 
-use crate::{Act, Claim, Half, Offer, State, code, from_code, next};
+use crate::{Act, Demand, Half, Offer, Request, State, code, from_code, next};
 use std::process::Abort;
 
-const STATES: [State; 6] = [
+const STATES: [State; 7] = [
     State::Start,
     State::OnlyResult,
     State::OnlyCallback,
     State::Proxy,
     State::Done,
     State::Empty,
+    State::OnlyCallbackAllowInline,
 ];
 
 // The merges of two acts of the producer with two acts of the consumer.
@@ -54,24 +55,28 @@ const MERGES: [[Half; 4]; 6] = [
 ];
 
 // The state by the definition: what the halves have set.
-fn by_definition(offer: &Offer<(), ()>, claim: &Claim<()>) -> State
-    ensures { result ≡ state_from offer.now claim.now }
+fn by_definition(offer: &Offer<(), ()>, demand: &Demand<()>) -> State
+    ensures { result ≡ state_from offer.now demand.now }
 {
-    match (offer, claim) {
-        (Offer::Nothing, Claim::Nothing) => State::Start,
-        (Offer::Nothing, Claim::Callback(())) => State::OnlyCallback,
-        (Offer::Result(()), Claim::Nothing) => State::OnlyResult,
-        (Offer::Result(()), Claim::Callback(())) => State::Done,
-        (Offer::Proxy(()), Claim::Nothing) => State::Proxy,
-        (Offer::Proxy(()), Claim::Callback(())) => State::Empty,
+    match (offer, demand) {
+        (Offer::Nothing, Demand::Nothing) => State::Start,
+        (Offer::Nothing, Demand::Callback(Request { inline: false, .. })) => State::OnlyCallback,
+        (Offer::Nothing, Demand::Callback(Request { inline: true, .. })) => {
+            State::OnlyCallbackAllowInline
+        }
+        (Offer::Result(()), Demand::Nothing) => State::OnlyResult,
+        (Offer::Result(()), Demand::Callback(_)) => State::Done,
+        (Offer::Proxy(()), Demand::Nothing) => State::Proxy,
+        (Offer::Proxy(()), Demand::Callback(_)) => State::Empty,
     }
 }
 
-// Goes through a schedule, and compares after each act, so at each of its prefixes.
-fn walk(rt: &impl Abort, is_proxy: bool, gives_up: bool, order: [Half; 4]) {
+// Goes through a schedule, and compares after each act, so at each of its prefixes. The consumer sets a callback, with the
+// allowance to run inline or without it, or gives up.
+fn walk(rt: &impl Abort, is_proxy: bool, chosen: Option<bool>, order: [Half; 4]) {
     let mut state = State::Start;
     let mut offer = Offer::Nothing;
-    let mut claim = Claim::Nothing;
+    let mut demand = Demand::Nothing;
     let mut has_acted = false;
     let mut has_chosen = false;
     for half in order {
@@ -92,52 +97,64 @@ fn walk(rt: &impl Abort, is_proxy: bool, gives_up: bool, order: [Half; 4]) {
             }
             Half::Consumer if !has_chosen => {
                 has_chosen = true;
-                if !gives_up {
-                    claim = Claim::Callback(());
-                    state = next(state, Act::SetCallback).expect(rt, "the table has a row");
+                if let Some(inline) = chosen {
+                    let act = if inline {
+                        Act::SetCallbackInline
+                    } else {
+                        Act::SetCallback
+                    };
+                    demand = Demand::Callback(Request {
+                        callback: (),
+                        inline,
+                    });
+                    state = next(state, act).expect(rt, "the table has a row");
                 }
             }
             // A leave.
             _ => {}
         }
-        assert_eq!(rt; state, by_definition(&offer, &claim));
+        assert_eq!(rt; state, by_definition(&offer, &demand));
     }
 }
 
 #[test]
 fn every_lawful_schedule_walks_to_its_state(rt: HostRuntime) {
     for order in MERGES {
-        walk(&rt, false, false, order);
-        walk(&rt, false, true, order);
-        walk(&rt, true, false, order);
-        walk(&rt, true, true, order);
+        for chosen in [None, Some(false), Some(true)] {
+            walk(&rt, false, chosen, order);
+            walk(&rt, true, chosen, order);
+        }
     }
 }
 
 #[test]
-fn the_table_has_these_eighteen_entries(rt: HostRuntime) {
+fn the_table_has_these_twenty_eight_entries(rt: HostRuntime) {
     let entries = [
         [
             Some(State::OnlyResult),
             Some(State::Proxy),
             Some(State::OnlyCallback),
+            Some(State::OnlyCallbackAllowInline),
         ],
-        [None, None, Some(State::Done)],
-        [Some(State::Done), Some(State::Empty), None],
-        [None, None, Some(State::Empty)],
-        [None, None, None],
-        [None, None, None],
+        [None, None, Some(State::Done), Some(State::Done)],
+        [Some(State::Done), Some(State::Empty), None, None],
+        [None, None, Some(State::Empty), Some(State::Empty)],
+        [None, None, None, None],
+        [None, None, None, None],
+        [Some(State::Done), Some(State::Empty), None, None],
     ];
     let mut n = 0;
     for (state, row) in STATES.into_iter().zip(entries) {
-        let [result, proxy, callback] = row;
+        let [result, proxy, callback, inline] = row;
         assert_eq!(rt; next(state, Act::SetResult), result);
         assert_eq!(rt; next(state, Act::SetProxy), proxy);
         assert_eq!(rt; next(state, Act::SetCallback), callback);
+        assert_eq!(rt; next(state, Act::SetCallbackInline), inline);
         assert_eq!(rt; code(state), n);
         assert_eq!(rt; from_code(n), Some(state));
         n = u64::wrapping_add(n, 1);
     }
-    assert_eq!(rt; n, 6);
-    assert_eq!(rt; from_code(6), None);
+    assert_eq!(rt; n, 7);
+    assert_eq!(rt; from_code(6), Some(State::OnlyCallbackAllowInline));
+    assert_eq!(rt; from_code(7), None);
 }

@@ -1,7 +1,6 @@
 -- What both halves of one use say of each other, and which seats exclude each other.
-use Rattle.std.proofs.Common.{◌≡◌, ◌≢◌, ℕ, ◌<◌, inl, inr, ⊎_elim, List, [], ◌∷◌, refl, sym, ap, ◌∙◌, subst, arith}
-use Rattle.std.specs.Bool.{OnTrue, OnFalse}
-use Rattle.std.specs.Prelude.{Bool, true, false, slice_set, slice_index}
+use Rattle.std.proofs.Common.{◌≡◌, ◌≢◌, ℕ, ◌<◌, inl, inr, ⊎_elim, List, sym, ap, ◌∙◌, subst, arith}
+use Rattle.std.specs.Prelude.{slice_set, slice_index}
 use mathlib.Core.Option as maybe
 use mathlib.Core.Option.{some-injective}
 use mathlib.Core.Logic.{dite}
@@ -9,11 +8,11 @@ use native.Mathlib.Decide.{ℕ_discrete}
 use lib.ListN.{get_elem?}
 use Rattle.fan_base.specs.declared.outcome.Try.{Try}
 use Rattle.core_state.specs.declared.schedule.Offer.{Offer}
-use Rattle.core_state.specs.declared.schedule.Offer.TheVariants as offered
-use Rattle.core_state.specs.declared.schedule.Claim.{Claim}
-use Rattle.core_state.specs.declared.schedule.Claim.TheVariants as claimed
+use Rattle.core_state.specs.declared.schedule.Demand.{Demand}
+use Rattle.core_state.specs.declared.schedule.Demand.TheVariants as demanded
 use Rattle.atomic_table.specs.Table.{keeps, Allows, Joins}
 use Rattle.atomic_table.proofs.Lists.{set_here, set_else}
+use Rattle.core_word.specs.declared.view.Sight.{Sight}
 use Rattle.core_word.specs.declared.view.Departure.{Departure}
 use Rattle.core_word.specs.declared.view.Departure.TheVariants as departed
 use Rattle.core_word.specs.declared.view.ProducerPhase.{ProducerPhase}
@@ -23,28 +22,27 @@ use Rattle.core_word.specs.declared.view.ConsumerPhase.TheVariants as consumer
 use Rattle.core_word.specs.declared.view.View.{View}
 use Rattle.core_word.specs.declared.view.View.TheVariants as view
 use Rattle.core_word.specs.Views.{offer_in_view}
-use Rattle.core_word.specs.Rule.{Held, Cells, Fit, IsPast, words_of, homes_of, StandsFor}
-use Rattle.core_word.specs.Plays.{Standing, consumer_acted, leaving, both_halves, HalvesFit, compares}
-use Rattle.core_word.specs.Answers.{HaveAgreed}
+use Rattle.core_word.specs.Rule.{Held, Fit, IsPast, words_of, homes_of, StandsFor}
+use Rattle.core_word.specs.Plays.{Standing, consumer_acted, leaving, both_halves, compares}
 use Rattle.core_word.proofs.Owing.{within, one_view, of_unbegun, of_begun, of_over, of_reopening, of_joined, beside_producer}
 use Rattle.core_word.proofs.Beginning.{key_begins}
 use Rattle.core_word.proofs.Reopening.{husk_ends}
 
 module _ {T C P : Type 0} where
   -- the view of a consumer that has left
-  pub left_view : (d : Departure) (v : View T C P) (u : ℕ) (claim : Claim C) (got : Offer (Try T) P) → v ≡ (consumer_acted u claim got).0 → got ≡ offer_in_view v → leaving d v ≡ view.Consumer u (consumer.Acted claim got d)
-  left_view d v u claimed.Nothing got e g = ap (leaving d) e ∙ ap (λ (o : Offer (Try T) P). view.Consumer u (consumer.Acted claimed.Nothing o d)) (sym (g ∙ ap offer_in_view e))
-  left_view d v u (claimed.Callback c) got e g = ap (leaving d) e
+  pub left_view : (d : Departure) (v : View T C P) (u : ℕ) (demand : Demand C) (got : Offer (Try T) P) → v ≡ (consumer_acted u demand got).0 → got ≡ offer_in_view v → leaving d v ≡ view.Consumer u (consumer.Acted demand got d)
+  left_view d v u demanded.Nothing got e g = ap (leaving d) e ∙ ap (λ (o : Offer (Try T) P). view.Consumer u (consumer.Acted demanded.Nothing o d)) (sym (g ∙ ap offer_in_view e))
+  left_view d v u (demanded.Callback c) got e g = ap (leaving d) e
 
   -- A producer's seat takes in the seat of the consumer of its use, which has left.
-  pub halves_join : (id other u : ℕ) (offer : Offer (Try T) P) (got : Claim C) (claim : Claim C) (got' : Offer (Try T) P) (d : Departure) → d ≢ departed.No
-      → Joins StandsFor id (view.Producer u (producer.Acted offer got departed.No)) other (view.Consumer u (consumer.Acted claim got' d))
-      (view.Joined u (producer.Acted offer got departed.No) (consumer.Acted claim got' d)) view.Spent
-  halves_join id other u offer got claim got' d gone s holds at apart there =
+  pub halves_join : (id other u : ℕ) (sight : Sight) (offer : Offer (Try T) P) (got : Demand C) (demand : Demand C) (got' : Offer (Try T) P) (d : Departure) → d ≢ departed.No
+      → Joins StandsFor id (view.Producer u (producer.Acted offer got departed.No) sight) other (view.Consumer u (consumer.Acted demand got' d))
+      (view.Joined u (producer.Acted offer got departed.No) (consumer.Acted demand got' d)) view.Spent
+  halves_join id other u sight offer got demand got' d gone s holds at apart there =
       let p : ProducerPhase T C P = producer.Acted offer got departed.No in
-      let c : ConsumerPhase T C P = consumer.Acted claim got' d in
+      let c : ConsumerPhase T C P = consumer.Acted demand got' d in
       let both : View T C P = view.Joined u p c in
-      let b = beside_producer s id u p (λ e. cc) at holds in
+      let b = beside_producer s id u p sight (λ e. cc) at holds in
       let beside : get_elem? s.views other ≡ maybe.some (view.Consumer u c) = sym (set_else s.views id other both apart) ∙ there in
       let here : other ≡ b.consumer = dite (ℕ_discrete other b.consumer)
       (λ e. e)
@@ -69,7 +67,7 @@ module _ {T C P : Type 0} where
   pub joined_fits : (slots id u : ℕ) (cs : List (ℕ × Held T C P)) (p : ProducerPhase T C P) (c : ConsumerPhase T C P) → Allows StandsFor slots id (view.Joined u p c, cs) 0 (λ n. n) (compares (view.Joined u p c, cs))
   joined_fits slots id u cs p c s (inl b) long at small = let r = of_unbegun s id _ at (λ n past. past) b in let e = r.1 in cc
   joined_fits slots id u cs p c s (inr (inl b)) long at small = absurd (⊎_elim
-      (λ (r : (id ≡ b.producer) × (view.Joined u p c ≡ view.Producer b.number b.p)). let e = r.1 in cc)
+      (λ (r : (id ≡ b.producer) × (view.Joined u p c ≡ view.Producer b.number b.p b.sight)). let e = r.1 in cc)
       (λ (r : (id ≡ b.consumer) × (view.Joined u p c ≡ view.Consumer b.number b.c)). let e = r.1 in cc)
       (of_begun s id _ at (λ n past. past) b))
   joined_fits slots id u cs p c s (inr (inr (inl b))) long at small = let r = of_over s id _ at (λ n past. past) b in let e = r.1 in cc
@@ -99,24 +97,24 @@ module _ {T C P : Type 0} where
       )
 
   -- the same over views that are known by equations
-  module _ (u n : ℕ) (offer : Offer (Try T) P) (got claim : Claim C) (got' : Offer (Try T) P) (d : Departure) (v w : View T C P)
-      (is_v : v ≡ view.Producer u (producer.Acted offer got departed.No)) (is_w : w ≡ view.Consumer n (consumer.Acted claim got' d)) (one_use : u ≡ n) where
-    with_one_use : w ≡ view.Consumer u (consumer.Acted claim got' d)
-    with_one_use = is_w ∙ ap (λ m. view.Consumer m (consumer.Acted claim got' d)) (sym one_use)
+  module _ (u n : ℕ) (sight : Sight) (offer : Offer (Try T) P) (got demand : Demand C) (got' : Offer (Try T) P) (d : Departure) (v w : View T C P)
+      (is_v : v ≡ view.Producer u (producer.Acted offer got departed.No) sight) (is_w : w ≡ view.Consumer n (consumer.Acted demand got' d)) (one_use : u ≡ n) where
+    with_one_use : w ≡ view.Consumer u (consumer.Acted demand got' d)
+    with_one_use = is_w ∙ ap (λ m. view.Consumer m (consumer.Acted demand got' d)) (sym one_use)
 
     pub halves_joined : (id other : ℕ) → d ≢ departed.No → Joins StandsFor id v other w (both_halves v w) view.Spent
-    halves_joined id other gone = subst (λ (z : View T C P × View T C P). Joins StandsFor id z.0 other z.1 (both_halves z.0 z.1) view.Spent) (λ i. (sym is_v i, sym with_one_use i)) (halves_join id other u offer got claim got' d gone)
+    halves_joined id other gone = subst (λ (z : View T C P × View T C P). Joins StandsFor id z.0 other z.1 (both_halves z.0 z.1) view.Spent) (λ i. (sym is_v i, sym with_one_use i)) (halves_join id other u sight offer got demand got' d gone)
 
-    both_is : both_halves v w ≡ view.Joined u (producer.Acted offer got departed.No) (consumer.Acted claim got' d)
+    both_is : both_halves v w ≡ view.Joined u (producer.Acted offer got departed.No) (consumer.Acted demand got' d)
     both_is = ap (λ (z : View T C P × View T C P). both_halves z.0 z.1) (λ i. (is_v i, with_one_use i))
 
     pub joined_looks : (slots id : ℕ) (me : Standing T C P) (cs : List (ℕ × Held T C P)) → me ≡ (both_halves v w, cs) → Allows StandsFor slots id me 0 (λ x. x) (compares me)
-    joined_looks slots id me cs e = subst (λ (m : Standing T C P). Allows StandsFor slots id m 0 (λ x. x) (compares m)) (λ i. ((sym (ap (λ (m : Standing T C P). m.0) e ∙ both_is)) i, sym (ap (λ (m : Standing T C P). m.1) e) i)) (joined_fits slots id u cs (producer.Acted offer got departed.No) (consumer.Acted claim got' d))
+    joined_looks slots id me cs e = subst (λ (m : Standing T C P). Allows StandsFor slots id m 0 (λ x. x) (compares m)) (λ i. ((sym (ap (λ (m : Standing T C P). m.0) e ∙ both_is)) i, sym (ap (λ (m : Standing T C P). m.1) e) i)) (joined_fits slots id u cs (producer.Acted offer got departed.No) (consumer.Acted demand got' d))
 
   -- A husk and a key of one home exclude each other.
-  husk_beside_key : (id other u n : ℕ) (offer : Offer (Try T) P) (claim : Claim C) → Joins StandsFor id (view.Husk u offer claim) other (view.Key n) view.Clash view.Spent
-  husk_beside_key id other u n offer claim s holds at apart there =
-      let over = (husk_ends id u offer claim s holds at).0 in
+  husk_beside_key : (id other u n : ℕ) (offer : Offer (Try T) P) (demand : Demand C) → Joins StandsFor id (view.Husk u offer demand) other (view.Key n) view.Clash view.Spent
+  husk_beside_key id other u n offer demand s holds at apart there =
+      let over = (husk_ends id u offer demand s holds at).0 in
       let key = (key_begins other n s holds (sym (set_else s.views id other view.Clash apart) ∙ there)).0 in
       let e = sym over.words ∙ key.words in cc
 
@@ -124,7 +122,7 @@ module _ {T C P : Type 0} where
   never : (slots id : ℕ) (cs : List (ℕ × Held T C P)) → Allows StandsFor slots id (view.Clash, cs) 0 (λ n. n) (λ _ _. ⊥)
   never slots id cs s (inl b) long at small = let r = of_unbegun s id _ at (λ n past. past) b in let e = r.1 in cc
   never slots id cs s (inr (inl b)) long at small = absurd (⊎_elim
-      (λ (r : (id ≡ b.producer) × (view.Clash ≡ view.Producer b.number b.p)). let e = r.1 in cc)
+      (λ (r : (id ≡ b.producer) × (view.Clash ≡ view.Producer b.number b.p b.sight)). let e = r.1 in cc)
       (λ (r : (id ≡ b.consumer) × (view.Clash ≡ view.Consumer b.number b.c)). let e = r.1 in cc)
       (of_begun s id _ at (λ n past. past) b))
   never slots id cs s (inr (inr (inl b))) long at small = let r = of_over s id _ at (λ n past. past) b in let e = r.1 in cc
@@ -134,5 +132,5 @@ module _ {T C P : Type 0} where
   pub never_looks : (slots id : ℕ) (me : Standing T C P) (cs : List (ℕ × Held T C P)) → me ≡ (view.Clash, cs) → Allows StandsFor slots id me 0 (λ x. x) (λ _ _. ⊥)
   never_looks slots id me cs e = subst (λ (m : Standing T C P). Allows StandsFor slots id m 0 (λ x. x) (λ _ _. ⊥)) (sym e) (never slots id cs)
 
-  pub clash_joins : (id other u n : ℕ) (offer : Offer (Try T) P) (claim : Claim C) (v w : View T C P) → v ≡ view.Husk u offer claim → w ≡ view.Key n → Joins StandsFor id v other w view.Clash view.Spent
-  clash_joins id other u n offer claim v w is_v is_w = subst (λ (z : View T C P × View T C P). Joins StandsFor id z.0 other z.1 view.Clash view.Spent) (λ i. (sym is_v i, sym is_w i)) (husk_beside_key id other u n offer claim)
+  pub clash_joins : (id other u n : ℕ) (offer : Offer (Try T) P) (demand : Demand C) (v w : View T C P) → v ≡ view.Husk u offer demand → w ≡ view.Key n → Joins StandsFor id v other w view.Clash view.Spent
+  clash_joins id other u n offer demand v w is_v is_w = subst (λ (z : View T C P × View T C P). Joins StandsFor id z.0 other z.1 view.Clash view.Spent) (λ i. (sym is_v i, sym is_w i)) (husk_beside_key id other u n offer demand)

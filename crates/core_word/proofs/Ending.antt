@@ -1,16 +1,20 @@
 -- What the slots hold at the end, by the state.
 use Rattle.std.proofs.Common.{◌≡◌, ◌≢◌, ℕ, zero, suc, ◌<◌, arith, Bool, true, false, inl, inr, List, [], ◌∷◌, refl, sym, ap, ◌∙◌, subst, Option, Some, None, IsSome}
-use Rattle.std.specs.Prelude.{slice_set, slice_index_or, is_none}
+use Rattle.std.specs.Prelude.{◌↔◌, slice_set, slice_index_or, is_none}
 use mathlib.Core.Option as maybe
 use mathlib.Core.Option.{some-injective}
 use lib.ListN.{get_elem?}
+use Rattle.fan_base.specs.declared.outcome.Try.{Try}
 use Rattle.core_state.specs.declared.table.State.{State as CoreState}
 use Rattle.core_state.specs.declared.table.State.TheVariants as state
 use Rattle.core_state.specs.declared.schedule.Offer.TheVariants as offered
-use Rattle.core_state.specs.declared.schedule.Claim.TheVariants as claimed
-use Rattle.core_state.specs.Table.{code_of}
+use Rattle.core_state.specs.declared.schedule.Demand.TheVariants as demanded
+use Rattle.core_state.specs.declared.schedule.Request.{Request}
+use Rattle.core_state.specs.Table.{code_of, waiting_state}
 use Rattle.core_state.specs.Schedule.{state_from}
 use Rattle.atomic_table.specs.Table.{Final, Seen}
+use Rattle.core_word.specs.declared.close.Unspent.{Unspent}
+use Rattle.core_word.specs.declared.view.Item.TheVariants as item
 use Rattle.core_word.specs.declared.view.View.{View}
 use Rattle.core_word.specs.declared.view.View.TheVariants as view
 use Rattle.core_word.proofs.Beginning.{key_begins}
@@ -18,146 +22,245 @@ use Rattle.core_word.specs.declared.view.ProducerPhase.{ProducerPhase}
 use Rattle.core_word.specs.declared.view.ProducerPhase.TheVariants as producer
 use Rattle.core_word.specs.declared.view.ConsumerPhase.{ConsumerPhase}
 use Rattle.core_word.specs.declared.view.ConsumerPhase.TheVariants as consumer
-use Rattle.core_word.specs.Views.{offer_of, claim_of}
+use Rattle.core_word.specs.Views.{offer_of, demand_of}
 use Rattle.core_word.specs.Rule.{Held, Home, homes_of, Fit, StandsFor}
-use Rattle.core_word.specs.Closing.{IsOutcome, IsCallback, IsProxy, IsEnd, IsUntouched}
+use Rattle.core_word.specs.Closing.{IsWaiting, callback_of, HandsOut, HasNothing}
+
+-- the state of a code
+abbrev decoded : ℕ → CoreState
+decoded zero = state.Start
+decoded (suc zero) = state.OnlyResult
+decoded (suc (suc zero)) = state.OnlyCallback
+decoded (suc (suc (suc zero))) = state.Proxy
+decoded (suc (suc (suc (suc zero)))) = state.Done
+decoded (suc (suc (suc (suc (suc zero))))) = state.Empty
+decoded (suc (suc (suc (suc (suc (suc n)))))) = state.OnlyCallbackAllowInline
+
+decoded_code : (s : CoreState) → decoded (code_of s) ≡ s
+decoded_code state.Start = refl
+decoded_code state.OnlyResult = refl
+decoded_code state.OnlyCallback = refl
+decoded_code state.Proxy = refl
+decoded_code state.Done = refl
+decoded_code state.Empty = refl
+decoded_code state.OnlyCallbackAllowInline = refl
+
+one_code : (s t : CoreState) → code_of s ≡ code_of t → s ≡ t
+one_code s t e = sym (decoded_code s) ∙ (ap decoded e ∙ decoded_code t)
+
+none_at : {A : Type 0} (o : Option A) → ((x : A) → o ≡ Some x → ⊥) → o ≡ None
+none_at None never = refl
+none_at (Some x) never = absurd (never x refl)
+
+some_is : {A : Type 0} (o : Option A) (a : A) → o ≡ Some a → IsSome o
+some_is o a e = subst (λ x. IsSome x) (sym e) refl
+
+-- the two words of a home that nobody has begun
+pub unbegun_is : (s : CoreState) (n : ℕ) → code_of s ∷ n ∷ [] ≡ 0 ∷ 2 ∷ [] → (s ≡ state.Start) × (n ≡ 2)
+unbegun_is s n e = (one_code s state.Start (some-injective _ _ (ap (λ ws. get_elem? ws 0) e)), some-injective _ _ (ap (λ ws. get_elem? ws 1) e))
 
 module _ {T C P : Type 0} where
-  -- the slot at this place is at home with something of this kind
-  abbrev HomeWith : ℕ → (Held T C P → Type 0) → List (Home T C P) → Type 0
-  HomeWith k kind homes = (held : Held T C P) × kind held × (get_elem? homes k ≡ maybe.some (maybe.some held))
+  -- the slot at this place is at home with this item
+  abbrev HomeWith : ℕ → {A : Type 0} → (A → Held T C P) → List (Home T C P) → Type 0
+  HomeWith k {A} held homes = (x : A) × (get_elem? homes k ≡ maybe.some (maybe.some (held x)))
+
+  abbrev an_outcome : Try T → Held T C P
+  an_outcome r = Some (item.Outcome r)
+
+  abbrev a_callback : Request C → Held T C P
+  a_callback c = Some (item.Callback c)
+
+  abbrev a_proxy : P → Held T C P
+  a_proxy k = Some (item.Proxy k)
 
   abbrev Kept : CoreState → List (Home T C P) → Type 0
   Kept state.Start homes = Unit {0}
-  Kept state.OnlyResult homes = HomeWith 0 IsOutcome homes
-  Kept state.OnlyCallback homes = HomeWith 1 IsCallback homes
-  Kept state.Proxy homes = HomeWith 2 IsProxy homes
+  Kept state.OnlyResult homes = HomeWith 0 an_outcome homes
+  Kept state.OnlyCallback homes = HomeWith 1 a_callback homes
+  Kept state.Proxy homes = HomeWith 2 a_proxy homes
   Kept state.Done homes = Unit {0}
   Kept state.Empty homes = Unit {0}
+  Kept state.OnlyCallbackAllowInline homes = HomeWith 1 a_callback homes
 
-  -- the slot at this place holds something of this kind in the end
-  abbrev pub EndsWith : ℕ → (Held T C P → Type 0) → List (Held T C P) → Type 0
-  EndsWith k kind slots = (held : Held T C P) × kind held × (get_elem? slots k ≡ maybe.some held)
+  -- the slot at this place holds this item in the end
+  abbrev EndsWith : ℕ → {A : Type 0} → (A → Held T C P) → List (Held T C P) → Type 0
+  EndsWith k {A} held slots = (x : A) × (get_elem? slots k ≡ maybe.some (held x))
 
-  abbrev pub KeptAtEnd : CoreState → List (Held T C P) → Type 0
+  abbrev KeptAtEnd : CoreState → List (Held T C P) → Type 0
   KeptAtEnd state.Start slots = Unit {0}
-  KeptAtEnd state.OnlyResult slots = EndsWith 0 IsOutcome slots
-  KeptAtEnd state.OnlyCallback slots = EndsWith 1 IsCallback slots
-  KeptAtEnd state.Proxy slots = EndsWith 2 IsProxy slots
+  KeptAtEnd state.OnlyResult slots = EndsWith 0 an_outcome slots
+  KeptAtEnd state.OnlyCallback slots = EndsWith 1 a_callback slots
+  KeptAtEnd state.Proxy slots = EndsWith 2 a_proxy slots
   KeptAtEnd state.Done slots = Unit {0}
   KeptAtEnd state.Empty slots = Unit {0}
+  KeptAtEnd state.OnlyCallbackAllowInline slots = EndsWith 1 a_callback slots
 
-  kept : (p : ProducerPhase T C P) (c : ConsumerPhase T C P) → Fit p c → Kept (state_from (offer_of p) (claim_of c)) (homes_of p c)
+  kept_waiting : (inline : Bool) (homes : List (Home T C P)) → HomeWith 1 a_callback homes → Kept (waiting_state inline) homes
+  kept_waiting true homes h = h
+  kept_waiting false homes h = h
+
+  kept : (p : ProducerPhase T C P) (c : ConsumerPhase T C P) → Fit p c → Kept (state_from (offer_of p) (demand_of c)) (homes_of p c)
   kept producer.Ready consumer.Ready fit = tt
   kept producer.Ready consumer.Holding fit = tt
   kept producer.Ready (consumer.Aware s) fit = tt
-  kept producer.Ready (consumer.Acted claimed.Nothing got left) fit = tt
-  kept producer.Ready (consumer.Acted (claimed.Callback c) offered.Nothing left) fit = (_, (_, refl), refl)
-  kept producer.Ready (consumer.Acted (claimed.Callback c) (offered.Result r) left) fit = let e = fit.0 in cc
-  kept producer.Ready (consumer.Acted (claimed.Callback c) (offered.Proxy k) left) fit = let e = fit.0 in cc
+  kept producer.Ready (consumer.Acted demanded.Nothing got left) fit = tt
+  kept producer.Ready (consumer.Acted (demanded.Callback c) offered.Nothing left) fit = kept_waiting c.inline _ (_, refl)
+  kept producer.Ready (consumer.Acted (demanded.Callback c) (offered.Result r) left) fit = let e = fit.0 in cc
+  kept producer.Ready (consumer.Acted (demanded.Callback c) (offered.Proxy k) left) fit = let e = fit.0 in cc
   kept (producer.Holding o) consumer.Ready fit = tt
   kept (producer.Holding o) consumer.Holding fit = tt
   kept (producer.Holding o) (consumer.Aware s) fit = tt
-  kept (producer.Holding o) (consumer.Acted claimed.Nothing got left) fit = tt
-  kept (producer.Holding o) (consumer.Acted (claimed.Callback c) offered.Nothing left) fit = (_, (_, refl), refl)
-  kept (producer.Holding o) (consumer.Acted (claimed.Callback c) (offered.Result r) left) fit = let e = fit.0 in cc
-  kept (producer.Holding o) (consumer.Acted (claimed.Callback c) (offered.Proxy k) left) fit = let e = fit.0 in cc
-  kept (producer.Aware o) consumer.Ready fit = tt
-  kept (producer.Aware o) consumer.Holding fit = tt
-  kept (producer.Aware o) (consumer.Aware s) fit = tt
-  kept (producer.Aware o) (consumer.Acted claimed.Nothing got left) fit = tt
-  kept (producer.Aware o) (consumer.Acted (claimed.Callback c) offered.Nothing left) fit = (_, (_, refl), refl)
-  kept (producer.Aware o) (consumer.Acted (claimed.Callback c) (offered.Result r) left) fit = let e = fit.0 in cc
-  kept (producer.Aware o) (consumer.Acted (claimed.Callback c) (offered.Proxy k) left) fit = let e = fit.0 in cc
-  kept (producer.Acted offered.Nothing claimed.Nothing left) c fit = absurd fit.0.0
-  kept (producer.Acted offered.Nothing (claimed.Callback x) left) c fit = absurd fit.0.0
-  kept (producer.Acted (offered.Result r) claimed.Nothing left) consumer.Ready fit = (_, (_, refl), refl)
-  kept (producer.Acted (offered.Result r) claimed.Nothing left) consumer.Holding fit = (_, (_, refl), refl)
-  kept (producer.Acted (offered.Result r) claimed.Nothing left) (consumer.Aware s) fit = (_, (_, refl), refl)
-  kept (producer.Acted (offered.Result r) claimed.Nothing left) (consumer.Acted claimed.Nothing offered.Nothing left') fit = (_, (_, refl), refl)
-  kept (producer.Acted (offered.Result r) claimed.Nothing left) (consumer.Acted claimed.Nothing (offered.Result q) left') fit = let e = fit.0.1 in cc
-  kept (producer.Acted (offered.Result r) claimed.Nothing left) (consumer.Acted claimed.Nothing (offered.Proxy q) left') fit = let e = fit.0.1 in cc
-  kept (producer.Acted (offered.Result r) claimed.Nothing left) (consumer.Acted (claimed.Callback c) got left') fit = tt
-  kept (producer.Acted (offered.Result r) (claimed.Callback x) left) consumer.Ready fit = absurd fit.0.1
-  kept (producer.Acted (offered.Result r) (claimed.Callback x) left) consumer.Holding fit = absurd fit.0.1
-  kept (producer.Acted (offered.Result r) (claimed.Callback x) left) (consumer.Aware s) fit = absurd fit.0.1
-  kept (producer.Acted (offered.Result r) (claimed.Callback x) left) (consumer.Acted claimed.Nothing got left') fit = absurd fit.0.1
-  kept (producer.Acted (offered.Result r) (claimed.Callback x) left) (consumer.Acted (claimed.Callback c) got left') fit = tt
-  kept (producer.Acted (offered.Proxy r) claimed.Nothing left) consumer.Ready fit = (_, (_, refl), refl)
-  kept (producer.Acted (offered.Proxy r) claimed.Nothing left) consumer.Holding fit = (_, (_, refl), refl)
-  kept (producer.Acted (offered.Proxy r) claimed.Nothing left) (consumer.Aware s) fit = (_, (_, refl), refl)
-  kept (producer.Acted (offered.Proxy r) claimed.Nothing left) (consumer.Acted claimed.Nothing offered.Nothing left') fit = (_, (_, refl), refl)
-  kept (producer.Acted (offered.Proxy r) claimed.Nothing left) (consumer.Acted claimed.Nothing (offered.Result q) left') fit = let e = fit.0.1 in cc
-  kept (producer.Acted (offered.Proxy r) claimed.Nothing left) (consumer.Acted claimed.Nothing (offered.Proxy q) left') fit = let e = fit.0.1 in cc
-  kept (producer.Acted (offered.Proxy r) claimed.Nothing left) (consumer.Acted (claimed.Callback c) got left') fit = tt
-  kept (producer.Acted (offered.Proxy r) (claimed.Callback x) left) consumer.Ready fit = absurd fit.0.1
-  kept (producer.Acted (offered.Proxy r) (claimed.Callback x) left) consumer.Holding fit = absurd fit.0.1
-  kept (producer.Acted (offered.Proxy r) (claimed.Callback x) left) (consumer.Aware s) fit = absurd fit.0.1
-  kept (producer.Acted (offered.Proxy r) (claimed.Callback x) left) (consumer.Acted claimed.Nothing got left') fit = absurd fit.0.1
-  kept (producer.Acted (offered.Proxy r) (claimed.Callback x) left) (consumer.Acted (claimed.Callback c) got left') fit = tt
+  kept (producer.Holding o) (consumer.Acted demanded.Nothing got left) fit = tt
+  kept (producer.Holding o) (consumer.Acted (demanded.Callback c) offered.Nothing left) fit = kept_waiting c.inline _ (_, refl)
+  kept (producer.Holding o) (consumer.Acted (demanded.Callback c) (offered.Result r) left) fit = let e = fit.0 in cc
+  kept (producer.Holding o) (consumer.Acted (demanded.Callback c) (offered.Proxy k) left) fit = let e = fit.0 in cc
+  kept (producer.Aware o a) consumer.Ready fit = tt
+  kept (producer.Aware o a) consumer.Holding fit = tt
+  kept (producer.Aware o a) (consumer.Aware s) fit = tt
+  kept (producer.Aware o a) (consumer.Acted demanded.Nothing got left) fit = tt
+  kept (producer.Aware o a) (consumer.Acted (demanded.Callback c) offered.Nothing left) fit = kept_waiting c.inline _ (_, refl)
+  kept (producer.Aware o a) (consumer.Acted (demanded.Callback c) (offered.Result r) left) fit = let e = fit.0 in cc
+  kept (producer.Aware o a) (consumer.Acted (demanded.Callback c) (offered.Proxy k) left) fit = let e = fit.0 in cc
+  kept (producer.Acted offered.Nothing demanded.Nothing left) c fit = absurd fit.0.0
+  kept (producer.Acted offered.Nothing (demanded.Callback x) left) c fit = absurd fit.0.0
+  kept (producer.Acted (offered.Result r) demanded.Nothing left) consumer.Ready fit = (_, refl)
+  kept (producer.Acted (offered.Result r) demanded.Nothing left) consumer.Holding fit = (_, refl)
+  kept (producer.Acted (offered.Result r) demanded.Nothing left) (consumer.Aware s) fit = (_, refl)
+  kept (producer.Acted (offered.Result r) demanded.Nothing left) (consumer.Acted demanded.Nothing offered.Nothing left') fit = (_, refl)
+  kept (producer.Acted (offered.Result r) demanded.Nothing left) (consumer.Acted demanded.Nothing (offered.Result q) left') fit = let e = fit.0.1 in cc
+  kept (producer.Acted (offered.Result r) demanded.Nothing left) (consumer.Acted demanded.Nothing (offered.Proxy q) left') fit = let e = fit.0.1 in cc
+  kept (producer.Acted (offered.Result r) demanded.Nothing left) (consumer.Acted (demanded.Callback c) got left') fit = tt
+  kept (producer.Acted (offered.Result r) (demanded.Callback x) left) consumer.Ready fit = absurd fit.0.1
+  kept (producer.Acted (offered.Result r) (demanded.Callback x) left) consumer.Holding fit = absurd fit.0.1
+  kept (producer.Acted (offered.Result r) (demanded.Callback x) left) (consumer.Aware s) fit = absurd fit.0.1
+  kept (producer.Acted (offered.Result r) (demanded.Callback x) left) (consumer.Acted demanded.Nothing got left') fit = absurd fit.0.1
+  kept (producer.Acted (offered.Result r) (demanded.Callback x) left) (consumer.Acted (demanded.Callback c) got left') fit = tt
+  kept (producer.Acted (offered.Proxy r) demanded.Nothing left) consumer.Ready fit = (_, refl)
+  kept (producer.Acted (offered.Proxy r) demanded.Nothing left) consumer.Holding fit = (_, refl)
+  kept (producer.Acted (offered.Proxy r) demanded.Nothing left) (consumer.Aware s) fit = (_, refl)
+  kept (producer.Acted (offered.Proxy r) demanded.Nothing left) (consumer.Acted demanded.Nothing offered.Nothing left') fit = (_, refl)
+  kept (producer.Acted (offered.Proxy r) demanded.Nothing left) (consumer.Acted demanded.Nothing (offered.Result q) left') fit = let e = fit.0.1 in cc
+  kept (producer.Acted (offered.Proxy r) demanded.Nothing left) (consumer.Acted demanded.Nothing (offered.Proxy q) left') fit = let e = fit.0.1 in cc
+  kept (producer.Acted (offered.Proxy r) demanded.Nothing left) (consumer.Acted (demanded.Callback c) got left') fit = tt
+  kept (producer.Acted (offered.Proxy r) (demanded.Callback x) left) consumer.Ready fit = absurd fit.0.1
+  kept (producer.Acted (offered.Proxy r) (demanded.Callback x) left) consumer.Holding fit = absurd fit.0.1
+  kept (producer.Acted (offered.Proxy r) (demanded.Callback x) left) (consumer.Aware s) fit = absurd fit.0.1
+  kept (producer.Acted (offered.Proxy r) (demanded.Callback x) left) (consumer.Acted demanded.Nothing got left') fit = absurd fit.0.1
+  kept (producer.Acted (offered.Proxy r) (demanded.Callback x) left) (consumer.Acted (demanded.Callback c) got left') fit = tt
 
   at_end : (homes : List (Home T C P)) (slots : List (Held T C P)) (s : CoreState) → ((k : ℕ) (y : Held T C P) → get_elem? homes k ≡ maybe.some (maybe.some y) → get_elem? slots k ≡ maybe.some y) → Kept s homes → KeptAtEnd s slots
   at_end homes slots state.Start same h = tt
-  at_end homes slots state.OnlyResult same h = (h.0, h.1, same 0 h.0 h.2)
-  at_end homes slots state.OnlyCallback same h = (h.0, h.1, same 1 h.0 h.2)
-  at_end homes slots state.Proxy same h = (h.0, h.1, same 2 h.0 h.2)
+  at_end homes slots state.OnlyResult same h = (h.0, same 0 _ h.1)
+  at_end homes slots state.OnlyCallback same h = (h.0, same 1 _ h.1)
+  at_end homes slots state.Proxy same h = (h.0, same 2 _ h.1)
   at_end homes slots state.Done same h = tt
   at_end homes slots state.Empty same h = tt
+  at_end homes slots state.OnlyCallbackAllowInline same h = (h.0, same 1 _ h.1)
 
   -- In the end the words are the code of a state and a number, and where the number isn't 0 the slots hold what that state keeps.
-  pub ends : (words : List ℕ) (slots : List (Held T C P)) → Final StandsFor words slots → (s : CoreState) × (n : ℕ) × (words ≡ code_of s ∷ n ∷ []) × (n ≢ 0 → KeptAtEnd s slots)
+  ends : (words : List ℕ) (slots : List (Held T C P)) → Final StandsFor words slots → (s : CoreState) × (n : ℕ) × (words ≡ code_of s ∷ n ∷ []) × (n ≢ 0 → KeptAtEnd s slots)
   ends words slots (t, inl b, is, long, same) = (state.Start, 2, sym is ∙ b.words, λ some. tt)
   ends words slots (t, inr (inl b), is, long, same) =
-      let s = state_from (offer_of b.p) (claim_of b.c) in
+      let s = state_from (offer_of b.p) (demand_of b.c) in
       (s, _, sym is ∙ b.words, λ some. at_end t.homes slots s same (subst (λ hs. Kept s hs) (sym b.homes) (kept b.p b.c b.fit)))
-  ends words slots (t, inr (inr (inl b)), is, long, same) = (state_from b.offer b.claim, 0, sym is ∙ b.words, λ some. absurd (some refl))
+  ends words slots (t, inr (inr (inl b)), is, long, same) = (state_from b.offer b.demand, 0, sym is ∙ b.words, λ some. absurd (some refl))
   ends words slots (t, inr (inr (inr (inl b))), is, long, same) = (state.Start, 0, sym is ∙ b.words, λ some. absurd (some refl))
   ends words slots (t, inr (inr (inr (inr b))), is, long, same) =
-      let s = state_from (offer_of b.p) (claim_of b.c) in
+      let s = state_from (offer_of b.p) (demand_of b.c) in
       (s, _, sym is ∙ b.words, λ some. at_end t.homes slots s same (subst (λ hs. Kept s hs) (sym b.homes) (kept b.p b.c b.fit)))
 
-  -- the same for a state that is known by its code
-  pub kept_at_close : (words : List ℕ) (slots : List (Held T C P)) → Final StandsFor words slots → (w n : ℕ) → get_elem? words 0 ≡ maybe.some w → get_elem? words 1 ≡ maybe.some n
-      → (s : CoreState) → ((t : CoreState) → code_of t ≡ w → s ≡ t) → n ≢ 0 → KeptAtEnd s slots
-  kept_at_close words slots final w n at_w at_n s known some =
+  -- the words are these two, of which the first is the code of a state
+  pub two_words : (words : List ℕ) (slots : List (Held T C P)) → Final StandsFor words slots → (w n : ℕ) → get_elem? words 0 ≡ maybe.some w → get_elem? words 1 ≡ maybe.some n → (s : CoreState) × (code_of s ≡ w) × (words ≡ w ∷ n ∷ [])
+  two_words words slots final w n at_w at_n =
       let e = ends words slots final in
       let is_w : code_of e.0 ≡ w = some-injective (code_of e.0) w (sym (ap (λ ws. get_elem? ws 0) e.2) ∙ at_w) in
       let is_n : e.1 ≡ n = some-injective e.1 n (sym (ap (λ ws. get_elem? ws 1) e.2) ∙ at_n) in
-      subst (λ t. KeptAtEnd t slots) (sym (known e.0 is_w)) (e.3 (λ z. some (sym is_n ∙ z)))
+      (e.0, is_w, e.2 ∙ (ap (λ c. c ∷ e.1 ∷ []) is_w ∙ ap (λ m. w ∷ m ∷ []) is_n))
 
-  -- the state word is the code of a state
-  pub has_code : (words : List ℕ) (slots : List (Held T C P)) → Final StandsFor words slots → (w : ℕ) → get_elem? words 0 ≡ maybe.some w → (s : CoreState) × (code_of s ≡ w)
-  has_code words slots final w at_w =
-      let e = ends words slots final in (e.0, some-injective (code_of e.0) w (sym (ap (λ ws. get_elem? ws 0) e.2) ∙ at_w))
-
-  -- the end of a home, by a state and a number that are known to be its words
-  pub ended_as : (words : List ℕ) (slots : List (Held T C P)) → Final StandsFor words slots → (w n : ℕ) → get_elem? words 0 ≡ maybe.some w → get_elem? words 1 ≡ maybe.some n
-      → (s : CoreState) → code_of s ≡ w → IsEnd s n slots
-  ended_as words slots final w n at_w at_n s known =
+  -- what the slots hold, by the state and the number that the words are
+  kept_in : (words : List ℕ) (slots : List (Held T C P)) → Final StandsFor words slots → (s : CoreState) (n : ℕ) → words ≡ code_of s ∷ n ∷ [] → n ≢ 0 → KeptAtEnd s slots
+  kept_in words slots final s n are some =
       let e = ends words slots final in
-      let is_w : code_of e.0 ≡ w = some-injective (code_of e.0) w (sym (ap (λ ws. get_elem? ws 0) e.2) ∙ at_w) in
-      let is_n : e.1 ≡ n = some-injective e.1 n (sym (ap (λ ws. get_elem? ws 1) e.2) ∙ at_n) in
-      let same : words ≡ code_of s ∷ n ∷ [] = e.2 ∙ (ap (λ c. c ∷ e.1 ∷ []) (is_w ∙ sym known) ∙ ap (λ m. code_of s ∷ m ∷ []) is_n) in
-      subst (λ ws. Final StandsFor ws slots) same final
+      let is_w : code_of e.0 ≡ code_of s = some-injective (code_of e.0) (code_of s) (ap (λ ws. get_elem? ws 0) (sym e.2 ∙ are)) in
+      let is_n : e.1 ≡ n = some-injective e.1 n (ap (λ ws. get_elem? ws 1) (sym e.2 ∙ are)) in
+      subst (λ t. KeptAtEnd t slots) (one_code e.0 s is_w) (e.3 (λ z. some (sym is_n ∙ z)))
 
-  pub kind_at : (slots : List (Held T C P)) (k : ℕ) (kind : Held T C P → Type 0) (x : Held T C P) → EndsWith k kind slots → get_elem? slots k ≡ maybe.some x → kind x
-  kind_at slots k kind x h at = subst kind (some-injective h.0 x (sym h.2 ∙ at)) h.1
+  module _ (words : List ℕ) (slots : List (Held T C P)) (final : Final StandsFor words slots) (unspent : Unspent T C P) (are : words ≡ code_of unspent.state ∷ unspent.attached ∷ []) (out : HandsOut slots unspent) where
+    pub hands_outcome : unspent.attached ≢ 0 → unspent.state ≡ state.OnlyResult → IsSome unspent.outcome
+    hands_outcome some is =
+        let kept = kept_in words slots final state.OnlyResult unspent.attached (are ∙ ap (λ s. code_of s ∷ unspent.attached ∷ []) is) some in
+        some_is unspent.outcome kept.0 ((out.outcome kept.0).1 (some, is, kept.1))
 
-module _ {T C P : Type 0} where
-  pub forgets : (id : ℕ) (v : View T C P) (words : List ℕ) (slots : List (Held T C P)) → Final (Seen StandsFor id v) words slots → Final StandsFor words slots
-  forgets id v words slots (s, seen, is, long, same) = (s, seen.0, is, long, same)
+    waits_kept : (inline : Bool) → KeptAtEnd (waiting_state inline) slots → EndsWith 1 a_callback slots
+    waits_kept true h = h
+    waits_kept false h = h
 
-  all_empty : (k : ℕ) → k < 3 → get_elem? {A = Home T C P} (maybe.some None ∷ maybe.some None ∷ maybe.some None ∷ []) k ≡ maybe.some (maybe.some None)
-  all_empty zero lt = refl
-  all_empty (suc zero) lt = refl
-  all_empty (suc (suc zero)) lt = refl
-  all_empty (suc (suc (suc k))) lt = absurd (omega arith)
+    pub hands_callback : (inline : Bool) → unspent.attached ≢ 0 → unspent.state ≡ waiting_state inline → IsSome unspent.callback
+    hands_callback inline some is =
+        let kept = waits_kept inline (kept_in words slots final (waiting_state inline) unspent.attached (are ∙ ap (λ s. code_of s ∷ unspent.attached ∷ []) is) some) in
+        some_is unspent.callback kept.0.callback ((out.callback kept.0.callback).1 (some, (inline, is), (kept.0.inline, kept.1)))
+
+    pub hands_proxy : unspent.attached ≢ 0 → unspent.state ≡ state.Proxy → IsSome unspent.proxy
+    hands_proxy some is =
+        let kept = kept_in words slots final state.Proxy unspent.attached (are ∙ ap (λ s. code_of s ∷ unspent.attached ∷ []) is) some in
+        some_is unspent.proxy kept.0 ((out.proxy kept.0).1 (some, is, kept.1))
+
+  module _ (slots : List (Held T C P)) (unspent : Unspent T C P) (out : HandsOut slots unspent) where
+    -- where nobody is attached, nothing waits
+    pub spent_hands_nothing : unspent.attached ≡ 0 → HasNothing unspent
+    spent_hands_nothing gone = record {
+      outcome = none_at unspent.outcome (λ r e. ((out.outcome r).0 e).0 gone);
+      callback = none_at unspent.callback (λ c e. ((out.callback c).0 e).0 gone);
+      proxy = none_at unspent.proxy (λ k e. ((out.proxy k).0 e).0 gone);
+    }
+
+    never_waiting : (inline : Bool) → state.Start ≡ waiting_state inline → ⊥
+    never_waiting true e = cc
+    never_waiting false e = cc
+
+    pub start_hands_nothing : unspent.state ≡ state.Start → HasNothing unspent
+    start_hands_nothing start = record {
+      outcome = none_at unspent.outcome (λ r e. let clash : state.Start ≡ state.OnlyResult = sym start ∙ ((out.outcome r).0 e).1 in cc);
+      callback = none_at unspent.callback (λ c e. let w = ((out.callback c).0 e).1 in never_waiting w.0 (sym start ∙ w.1));
+      proxy = none_at unspent.proxy (λ k e. let clash : state.Start ≡ state.Proxy = sym start ∙ ((out.proxy k).0 e).1 in cc);
+    }
+
+  -- the callback in a slot, with its allowance
+  pub callback_there : (held : Held T C P) (c : C) → callback_of held ≡ Some c → (inline : Bool) × (held ≡ Some (item.Callback record { callback = c; inline = inline }))
+  callback_there None c e = cc
+  callback_there (Some (item.Outcome r)) c e = cc
+  callback_there (Some (item.Callback d)) c e = let same : d.callback ≡ c = cc in (d.inline, ap (λ x. Some (item.Callback record { callback = x; inline = d.inline })) same)
+  callback_there (Some (item.Proxy k)) c e = cc
+
+  -- what is handed out, by what stood in each slot
+  pub hands_out : (slots : List (Held T C P)) (unspent : Unspent T C P) (s : CoreState) (n : ℕ) (result_slot callback_slot proxy_slot : Held T C P)
+      → get_elem? slots 0 ≡ maybe.some result_slot → get_elem? slots 1 ≡ maybe.some callback_slot → get_elem? slots 2 ≡ maybe.some proxy_slot
+      → unspent.state ≡ s → unspent.attached ≡ n
+      → ((r : Try T) → (unspent.outcome ≡ Some r) ↔ ((n ≢ 0) × (s ≡ state.OnlyResult) × (result_slot ≡ Some (item.Outcome r))))
+      → ((c : C) → (unspent.callback ≡ Some c) ↔ ((n ≢ 0) × IsWaiting s × (callback_of callback_slot ≡ Some c)))
+      → ((k : P) → (unspent.proxy ≡ Some k) ↔ ((n ≢ 0) × (s ≡ state.Proxy) × (proxy_slot ≡ Some (item.Proxy k))))
+      → HandsOut slots unspent
+  hands_out slots unspent s n result_slot callback_slot proxy_slot at_result at_callback at_proxy is_s is_n outcome callback proxy = record {
+    outcome = λ r. (
+      (λ e. let h = (outcome r).0 e in ((λ z. h.0 (sym is_n ∙ z)), is_s ∙ h.1, at_result ∙ ap (λ x. maybe.some x) h.2)),
+      (λ h. (outcome r).1 ((λ z. h.0 (is_n ∙ z)), sym is_s ∙ h.1, some-injective _ _ (sym at_result ∙ h.2))),
+    );
+    callback = λ c. (
+      (λ e. let h = (callback c).0 e in let there = callback_there callback_slot c h.2 in ((λ z. h.0 (sym is_n ∙ z)), (h.1.0, is_s ∙ h.1.1), (there.0, at_callback ∙ ap (λ x. maybe.some x) there.1))),
+      (λ h. (callback c).1 ((λ z. h.0 (is_n ∙ z)), (h.1.0, sym is_s ∙ h.1.1), ap callback_of (some-injective _ _ (sym at_callback ∙ h.2.1)))),
+    );
+    proxy = λ k. (
+      (λ e. let h = (proxy k).0 e in ((λ z. h.0 (sym is_n ∙ z)), is_s ∙ h.1, at_proxy ∙ ap (λ x. maybe.some x) h.2)),
+      (λ h. (proxy k).1 ((λ z. h.0 (is_n ∙ z)), sym is_s ∙ h.1, some-injective _ _ (sym at_proxy ∙ h.2))),
+    );
+  }
 
   -- where a seat still has the key, nothing was begun
-  pub untouched : (id : ℕ) (v : View T C P) → v ≡ view.Key 0 → (words : List ℕ) (slots : List (Held T C P)) → Final (Seen StandsFor id v) words slots → IsUntouched words slots
-  untouched id v e words slots (s, seen, is, long, same) =
-      let b = key_begins id 0 s seen.0 (seen.1 ∙ ap (λ w. maybe.some w) e) in
-      (sym is ∙ b.0.words, λ k lt. same k None (ap (λ hs. get_elem? hs k) b.0.homes ∙ all_empty k lt))
+  pub unbegun_words : (id : ℕ) (v : View T C P) → v ≡ view.Key 0 → (words : List ℕ) (slots : List (Held T C P)) → Final (Seen StandsFor id v) words slots → words ≡ code_of state.Start ∷ 2 ∷ []
+  unbegun_words id v e words slots (s, seen, is, long, same) = sym is ∙ (key_begins id 0 s seen.0 (seen.1 ∙ ap (λ w. maybe.some w) e)).0.words
+
+  pub forgets : (id : ℕ) (v : View T C P) (words : List ℕ) (slots : List (Held T C P)) → Final (Seen StandsFor id v) words slots → Final StandsFor words slots
+  forgets id v words slots (s, seen, is, long, same) = (s, seen.0, is, long, same)
 
 -- after three takes no slot is filled
 pub emptied : (filled : List Bool) (k : ℕ) → k < 3 → slice_index_or (slice_set (slice_set (slice_set filled 0 false) 1 false) 2 false) k false ≡ false
@@ -180,6 +283,3 @@ at_one_place xs k a b e f = some-injective b a (sym f ∙ e)
 pub there_is : {A : Type 0} (o : Option A) → is_none o ≡ false → IsSome o
 there_is None e = let clash : true ≡ false = e in cc
 there_is (Some a) e = refl
-
-pub some_is : {A : Type 0} (o : Option A) (a : A) → o ≡ Some a → IsSome o
-some_is o a e = subst (λ x. IsSome x) (sym e) refl

@@ -1,6 +1,6 @@
 pub mod Owing
 pub mod Setting
-pub mod Claiming
+pub mod Demanding
 pub mod Leaving
 pub mod Reading
 pub mod Beginning

@@ -1,6 +1,6 @@
 -- What a half owes for a step: for any other half that fits it, the words, the slots and the two halves after the step fit again.
-use Rattle.std.proofs.Common.{◌≡◌, ◌≢◌, ℕ, zero, suc, ◌<◌, inl, inr, ⊎_elim, ◌⊎◌, List, [], ◌∷◌, length, sym, ap, ◌∙◌, subst, arith}
-use Rattle.std.specs.Prelude.{slice_set, slice_index}
+use Rattle.std.proofs.Common.{◌≡◌, ◌≢◌, ℕ, zero, suc, ◌<◌, inl, inr, ⊎_elim, ◌⊎◌, List, [], ◌∷◌, length, refl, sym, ap, ◌∙◌, subst, arith}
+use Rattle.std.specs.Prelude.{Bool, slice_set, slice_index}
 use mathlib.Core.Option as maybe
 use mathlib.Core.Option.{some-injective, some-ne-none}
 use mathlib.Core.Logic.{dite}
@@ -8,20 +8,25 @@ use native.Mathlib.Decide.{ℕ_discrete}
 use lib.ListN.{get_elem?}
 use Rattle.core_state.specs.Table.{code_of}
 use Rattle.core_state.specs.Schedule.{state_from}
-use Rattle.atomic_table.specs.Table.{rest, turned, Act, Valid, Allows, homes_after, carried_after}
+use Rattle.atomic_table.specs.Table.{rest, turned, Act, keeps, Valid, Allows, homes_after, carried_after}
 use Rattle.atomic_table.proofs.Lists.{set_here, set_else}
+use Rattle.core_word.specs.declared.view.Sight.{Sight}
+use Rattle.core_word.specs.declared.view.Sight.TheVariants as seen
+use Rattle.core_word.specs.declared.view.Departure.{Departure}
 use Rattle.core_word.specs.declared.view.Departure.TheVariants as departed
 use Rattle.core_word.specs.declared.view.ProducerPhase.{ProducerPhase}
+use Rattle.core_word.specs.declared.view.ProducerPhase.TheVariants as producer
 use Rattle.core_word.specs.declared.view.ConsumerPhase.{ConsumerPhase}
+use Rattle.core_word.specs.declared.view.ConsumerPhase.TheVariants as consumer
 use Rattle.core_word.specs.declared.view.View.{View}
 use Rattle.core_word.specs.declared.view.View.TheVariants as view
-use Rattle.core_word.specs.Views.{use_of, producer_left, consumer_left, Knows}
-use Rattle.core_word.specs.Rule.{Held, Home, Cells, words_of, homes_of, IsSet, Fit, IsPast, IsFirstOf, Unbegun, Begun, Over, Reopening, Joined, StandsFor}
+use Rattle.core_word.specs.Views.{use_of, sight_of, producer_left, consumer_left, Knows}
+use Rattle.core_word.specs.Rule.{Held, Home, TableState, words_of, homes_of, IsSet, Fit, Waits, SightFits, IsPast, IsFirstOf, Unbegun, Begun, Over, Reopening, Joined, StandsFor}
 use Rattle.fan_base.specs.declared.outcome.Try.{Try}
 use Rattle.core_state.specs.declared.schedule.Offer.{Offer}
 use Rattle.core_state.specs.declared.schedule.Offer.TheVariants as offered
-use Rattle.core_state.specs.declared.schedule.Claim.{Claim}
-use Rattle.core_state.specs.declared.schedule.Claim.TheVariants as claimed
+use Rattle.core_state.specs.declared.schedule.Demand.{Demand}
+use Rattle.core_state.specs.declared.schedule.Demand.TheVariants as demanded
 use Rattle.atomic_table.specs.Seated.{TableId}
 use Rattle.atomic_table.specs.declared.shared.Seat.{Seat}
 use Rattle.core_word.specs.Plays.{Standing, Sits, producer_acted, consumer_acted, leaving, IsLast}
@@ -33,6 +38,13 @@ within (x ∷ xs) (suc i) a e = let r = within xs i a e in omega arith
 
 pub head_rest : {A : Type 0} (l : List (ℕ × A)) (x : ℕ × A) (xs : List (ℕ × A)) → l ≡ x ∷ xs → l ≡ x ∷ rest l
 head_rest l x xs e = e ∙ ap (λ ys. x ∷ ys) (sym (ap rest e))
+
+-- after one slot was emptied and put behind, the second is in front
+pub second : {A : Type 0} (i j : ℕ) (n a b : A) (l₀ l₁ l₂ : List (ℕ × A)) → l₀ ≡ (i, a) ∷ (j, b) ∷ [] → l₁ ≡ (i, n) ∷ rest l₀ → l₂ ≡ turned l₁ → l₂ ≡ (j, b) ∷ rest l₂
+second {A = A} i j n a b l₀ l₁ l₂ p₀ p₁ p₂ =
+    let e₁ : l₁ ≡ (i, n) ∷ (j, b) ∷ [] = p₁ ∙ ap (λ (l : List (ℕ × A)). (i, n) ∷ rest l) p₀ in
+    let e₂ : l₂ ≡ (j, b) ∷ (i, n) ∷ [] = p₂ ∙ ap turned e₁ in
+    head_rest l₂ (j, b) ((i, n) ∷ []) e₂
 
 -- after two slots were emptied and put behind, the third is in front
 pub third : {A : Type 0} (n a b : A) (l₀ l₁ l₂ l₃ l₄ : List (ℕ × A)) → l₀ ≡ (2, a) ∷ (1, n) ∷ (0, b) ∷ [] → l₁ ≡ (2, n) ∷ rest l₀ → l₂ ≡ turned l₁ → l₃ ≡ (1, n) ∷ rest l₂ → l₄ ≡ turned l₃ → l₄ ≡ (0, b) ∷ rest l₄
@@ -54,7 +66,7 @@ module _ {T C P : Type 0} where
 
   past_later : (u : ℕ) (v : View T C P) → IsPast u v → IsPast (suc u) v
   past_later u (view.Key n) past = absurd past
-  past_later u (view.Producer n p) past = let lt = past.0 in (omega arith, past.1)
+  past_later u (view.Producer n p sight) past = let lt = past.0 in (omega arith, past.1)
   past_later u (view.Consumer n c) past = let lt = past.0 in (omega arith, past.1)
   past_later u (view.Husk n o k) past = absurd past
   past_later u (view.Reopening n) past = absurd past
@@ -64,7 +76,7 @@ module _ {T C P : Type 0} where
 
   first_past : (u : ℕ) (v : View T C P) → IsFirstOf u v → IsPast (suc u) v
   first_past u (view.Key n) left = absurd left
-  first_past u (view.Producer n p) left = let same = left.0 in (omega arith, left.1)
+  first_past u (view.Producer n p sight) left = let same = left.0 in (omega arith, left.1)
   first_past u (view.Consumer n c) left = let same = left.0 in (omega arith, left.1)
   first_past u (view.Husk n o k) left = absurd left
   first_past u (view.Reopening n) left = absurd left
@@ -73,7 +85,7 @@ module _ {T C P : Type 0} where
   first_past u view.Clash left = absurd left
 
   -- once a use is over, every other half was the first to leave its use
-  pub over_others : (s : Cells T C P) (b : Over s) (k : ℕ) (v : View T C P) → k ≢ b.last → get_elem? s.views k ≡ maybe.some v → IsPast (suc b.number) v
+  pub over_others : (s : TableState T C P) (b : Over s) (k : ℕ) (v : View T C P) → k ≢ b.last → get_elem? s.views k ≡ maybe.some v → IsPast (suc b.number) v
   over_others s b k v ne at = dite (ℕ_discrete k b.first)
       (λ e. subst (λ w. IsPast (suc b.number) w) (sym (one_view s.views k b.first v b.v at b.at_first e)) (first_past b.number b.v b.left))
       (λ nf. past_later b.number v (b.others k v ne nf at))
@@ -90,11 +102,11 @@ module _ {T C P : Type 0} where
       (λ e. (e, one_view vs id seat v w here at e))
       (λ ne. absurd (live n (others id v ne here)))
 
-  module _ (s : Cells T C P) (id : ℕ) (v : View T C P) (here : get_elem? s.views id ≡ maybe.some v) (live : IsLive v) where
+  module _ (s : TableState T C P) (id : ℕ) (v : View T C P) (here : get_elem? s.views id ≡ maybe.some v) (live : IsLive v) where
     pub of_unbegun : (b : Unbegun s) → (id ≡ b.seat) × (v ≡ view.Key b.number)
     of_unbegun b = only_one s.views b.seat b.number _ b.at b.others id v here live
 
-    pub of_over : (b : Over s) → (id ≡ b.last) × (v ≡ view.Husk b.number b.offer b.claim)
+    pub of_over : (b : Over s) → (id ≡ b.last) × (v ≡ view.Husk b.number b.offer b.demand)
     of_over b = only_one s.views b.last (suc b.number) _ b.at_last (over_others s b) id v here live
 
     pub of_reopening : (b : Reopening s) → (id ≡ b.seat) × (v ≡ view.Reopening b.number)
@@ -103,7 +115,7 @@ module _ {T C P : Type 0} where
     pub of_joined : (b : Joined s) → (id ≡ b.seat) × (v ≡ view.Joined b.number b.p b.c)
     of_joined b = only_one s.views b.seat b.number _ b.at b.others id v here live
 
-    pub of_begun : (b : Begun s) → ((id ≡ b.producer) × (v ≡ view.Producer b.number b.p)) ⊎ ((id ≡ b.consumer) × (v ≡ view.Consumer b.number b.c))
+    pub of_begun : (b : Begun s) → ((id ≡ b.producer) × (v ≡ view.Producer b.number b.p b.sight)) ⊎ ((id ≡ b.consumer) × (v ≡ view.Consumer b.number b.c))
     of_begun b = dite (ℕ_discrete id b.producer)
         (λ e. inl (e, one_view s.views id b.producer _ _ here b.at_p e))
         (λ np. dite (ℕ_discrete id b.consumer)
@@ -111,7 +123,7 @@ module _ {T C P : Type 0} where
         (λ nc. absurd (live b.number (b.others id v np nc here))))
 
   -- what a producer that hasn't left first stands beside: the consumer of its use, and past views
-  pub record BesideProducer (s : Cells T C P) (id u : ℕ) (p : ProducerPhase T C P) : Type 0 where
+  pub record BesideProducer (s : TableState T C P) (id u : ℕ) (p : ProducerPhase T C P) (sight : Sight) : Type 0 where
     pub consumer : ℕ
     pub c : ConsumerPhase T C P
     pub apart : id ≢ consumer
@@ -120,28 +132,32 @@ module _ {T C P : Type 0} where
     pub words : s.words ≡ words_of p c
     pub homes : s.homes ≡ homes_of p c
     pub fit : Fit p c
+    pub sees : SightFits sight c
 
   -- the same of a consumer
-  pub record BesideConsumer (s : Cells T C P) (id u : ℕ) (c : ConsumerPhase T C P) : Type 0 where
+  pub record BesideConsumer (s : TableState T C P) (id u : ℕ) (c : ConsumerPhase T C P) : Type 0 where
     pub producer : ℕ
     pub p : ProducerPhase T C P
+    pub sight : Sight
     pub apart : producer ≢ id
-    pub at_p : get_elem? s.views producer ≡ maybe.some (view.Producer u p)
+    pub at_p : get_elem? s.views producer ≡ maybe.some (view.Producer u p sight)
     pub others : (k : ℕ) (v : View T C P) → k ≢ producer → k ≢ id → get_elem? s.views k ≡ maybe.some v → IsPast u v
     pub words : s.words ≡ words_of p c
     pub homes : s.homes ≡ homes_of p c
     pub fit : Fit p c
+    pub sees : SightFits sight c
 
-  module _ (s : Cells T C P) (id u : ℕ) where
-    module _ (p : ProducerPhase T C P) (stays : producer_left p ≢ departed.First) (here : get_elem? s.views id ≡ maybe.some (view.Producer u p)) where
-      live_producer : IsLive (view.Producer u p)
+  module _ (s : TableState T C P) (id u : ℕ) where
+    module _ (p : ProducerPhase T C P) (sight : Sight) (stays : producer_left p ≢ departed.First) (here : get_elem? s.views id ≡ maybe.some (view.Producer u p sight)) where
+      live_producer : IsLive (view.Producer u p sight)
       live_producer n past = stays past.1
 
-      of_producer : (b : Begun s) → (id ≡ b.producer) × (view.Producer u p ≡ view.Producer b.number b.p) → BesideProducer s id u p
+      of_producer : (b : Begun s) → (id ≡ b.producer) × (view.Producer u p sight ≡ view.Producer b.number b.p b.sight) → BesideProducer s id u p sight
       of_producer b r =
           let same = r.1 in
           let number : u ≡ b.number = cc in
-          let phase : p ≡ b.p = cc in record {
+          let phase : p ≡ b.p = cc in
+          let looked : sight ≡ b.sight = cc in record {
             consumer = b.consumer;
             c = b.c;
             apart = λ e. b.apart (sym r.0 ∙ e);
@@ -150,11 +166,12 @@ module _ {T C P : Type 0} where
             words = b.words ∙ ap (λ q. words_of q b.c) (sym phase);
             homes = b.homes ∙ ap (λ q. homes_of q b.c) (sym phase);
             fit = subst (λ q. Fit q b.c) (sym phase) b.fit;
+            sees = subst (λ y. SightFits y b.c) (sym looked) b.sees;
           }
 
-      pub beside_producer : StandsFor s → BesideProducer s id u p
+      pub beside_producer : StandsFor s → BesideProducer s id u p sight
       beside_producer (inl b) = let r = of_unbegun s id _ here live_producer b in let e = r.1 in cc
-      beside_producer (inr (inl b)) = ⊎_elim (of_producer b) (λ (r : (id ≡ b.consumer) × (view.Producer u p ≡ view.Consumer b.number b.c)). let e = r.1 in cc) (of_begun s id _ here live_producer b)
+      beside_producer (inr (inl b)) = ⊎_elim (of_producer b) (λ (r : (id ≡ b.consumer) × (view.Producer u p sight ≡ view.Consumer b.number b.c)). let e = r.1 in cc) (of_begun s id _ here live_producer b)
       beside_producer (inr (inr (inl b))) = let r = of_over s id _ here live_producer b in let e = r.1 in cc
       beside_producer (inr (inr (inr (inl b)))) = let r = of_reopening s id _ here live_producer b in let e = r.1 in cc
       beside_producer (inr (inr (inr (inr b)))) = let r = of_joined s id _ here live_producer b in let e = r.1 in cc
@@ -170,65 +187,71 @@ module _ {T C P : Type 0} where
           let phase : c ≡ b.c = cc in record {
             producer = b.producer;
             p = b.p;
+            sight = b.sight;
             apart = λ e. b.apart (e ∙ r.0);
-            at_p = b.at_p ∙ ap (λ n. maybe.some (view.Producer n b.p)) (sym number);
+            at_p = b.at_p ∙ ap (λ n. maybe.some (view.Producer n b.p b.sight)) (sym number);
             others = λ k v np ne e. subst (λ n. IsPast n v) (sym number) (b.others k v np (λ x. ne (x ∙ sym r.0)) e);
             words = b.words ∙ ap (λ q. words_of b.p q) (sym phase);
             homes = b.homes ∙ ap (λ q. homes_of b.p q) (sym phase);
             fit = subst (λ q. Fit b.p q) (sym phase) b.fit;
+            sees = subst (λ q. SightFits b.sight q) (sym phase) b.sees;
           }
 
       pub beside_consumer : StandsFor s → BesideConsumer s id u c
       beside_consumer (inl b) = let r = of_unbegun s id _ here live_consumer b in let e = r.1 in cc
-      beside_consumer (inr (inl b)) = ⊎_elim (λ (r : (id ≡ b.producer) × (view.Consumer u c ≡ view.Producer b.number b.p)). let e = r.1 in cc) (of_consumer b) (of_begun s id _ here live_consumer b)
+      beside_consumer (inr (inl b)) = ⊎_elim (λ (r : (id ≡ b.producer) × (view.Consumer u c ≡ view.Producer b.number b.p b.sight)). let e = r.1 in cc) (of_consumer b) (of_begun s id _ here live_consumer b)
       beside_consumer (inr (inr (inl b))) = let r = of_over s id _ here live_consumer b in let e = r.1 in cc
       beside_consumer (inr (inr (inr (inl b)))) = let r = of_reopening s id _ here live_consumer b in let e = r.1 in cc
       beside_consumer (inr (inr (inr (inr b)))) = let r = of_joined s id _ here live_consumer b in let e = r.1 in cc
 
-  module _ (id : ℕ) (u : ℕ) (cs : List (ℕ × Held T C P)) (i : ℕ) (f : ℕ → ℕ) (then : ℕ → Standing T C P → Type 0) where
+  -- a step tells besides what the rule says of every state in which it may be made
+  pub allows_also : (slots id : ℕ) (me : Standing T C P) (i : ℕ) (f : ℕ → ℕ) (then : ℕ → Standing T C P → Type 0) (more : ℕ → Type 0)
+      → ((s : TableState T C P) → StandsFor s → get_elem? s.views id ≡ maybe.some me.0 → more (slice_index s.words i))
+      → Allows StandsFor slots id me i f then → Allows StandsFor slots id me i f (λ found after. then found after × more found)
+  allows_also slots id me i f then more also allowed s holds long at small =
+      let r = allowed s holds long at small in (r.0, r.1, r.2, r.3, (r.4, also s holds at))
+
+  module _ (id : ℕ) (cs : List (ℕ × Held T C P)) (i : ℕ) (f : ℕ → ℕ) (then : ℕ → Standing T C P → Type 0) where
     -- a step of a table with these words, slots and views
     abbrev pub Steps : List ℕ → List (Home T C P) → List (View T C P) → Type 0
     Steps ws hs vs = (w : View T C P) × (a : Act (Held T C P)) × Valid hs cs a
         × StandsFor record { words = slice_set ws i (f (slice_index ws i)); homes = homes_after hs cs a; views = slice_set vs id w }
         × then (slice_index ws i) (w, carried_after cs a)
 
-    abbrev pub ProducerOwes : ProducerPhase T C P → Type 0
-    ProducerOwes p = (c : ConsumerPhase T C P) → Fit p c → slice_index (words_of p c) i < 18446744073709551616
-        → (q : ProducerPhase T C P) × (a : Act (Held T C P)) × Valid (homes_of p c) cs a
-        × (slice_set (words_of p c) i (f (slice_index (words_of p c) i)) ≡ words_of q c)
-        × (homes_after (homes_of p c) cs a ≡ homes_of q c)
-        × Fit q c
-        × then (slice_index (words_of p c) i) (view.Producer u q, carried_after cs a)
-
-    abbrev pub ConsumerOwes : ConsumerPhase T C P → Type 0
-    ConsumerOwes c = (p : ProducerPhase T C P) → Fit p c → slice_index (words_of p c) i < 18446744073709551616
-        → (q : ConsumerPhase T C P) × (a : Act (Held T C P)) × Valid (homes_of p c) cs a
-        × (slice_set (words_of p c) i (f (slice_index (words_of p c) i)) ≡ words_of p q)
-        × (homes_after (homes_of p c) cs a ≡ homes_of p q)
-        × Fit p q
-        × then (slice_index (words_of p c) i) (view.Consumer u q, carried_after cs a)
-
     -- the step by which a last leaver reads the state and takes all slots, beside the first leaver's view
-    abbrev pub ReadsAll : View T C P → List ℕ → List (Home T C P) → Type 0
-    ReadsAll v ws hs = (offer : Offer (Try T) P) × (claim : Claim C) × (a : Act (Held T C P)) × Valid hs cs a
-        × (slice_set ws i (f (slice_index ws i)) ≡ code_of (state_from offer claim) ∷ 0 ∷ [])
+    abbrev pub ReadsAll : ℕ → View T C P → List ℕ → List (Home T C P) → Type 0
+    ReadsAll u v ws hs = (offer : Offer (Try T) P) × (demand : Demand C) × (a : Act (Held T C P)) × Valid hs cs a
+        × (slice_set ws i (f (slice_index ws i)) ≡ code_of (state_from offer demand) ∷ 0 ∷ [])
         × (homes_after hs cs a ≡ maybe.none ∷ maybe.none ∷ maybe.none ∷ [])
-        × IsSet offer × Knows v offer claim
-        × then (slice_index ws i) (view.Husk u offer claim, carried_after cs a)
+        × IsSet offer × Knows v offer demand
+        × then (slice_index ws i) (view.Husk u offer demand, carried_after cs a)
 
     pub placed : (ws : List ℕ) (hs : List (Home T C P)) (vs : List (View T C P)) (ws' : List ℕ) (hs' : List (Home T C P)) → ws ≡ ws' → hs ≡ hs' → Steps ws' hs' vs → Steps ws hs vs
     placed ws hs vs ws' hs' e f g = subst (λ x. Steps x hs vs) (sym e) (subst (λ y. Steps ws' y vs) (sym f) g)
 
+  module _ (id : ℕ) (u : ℕ) (sight : Sight) (cs : List (ℕ × Held T C P)) (i : ℕ) (f : ℕ → ℕ) (then : ℕ → Standing T C P → Type 0) where
+    -- what it gives beside this consumer
+    abbrev pub ProducerRow : ProducerPhase T C P → ConsumerPhase T C P → Type 0
+    ProducerRow p c = (q : ProducerPhase T C P) × (a : Act (Held T C P)) × Valid (homes_of p c) cs a
+        × (slice_set (words_of p c) i (f (slice_index (words_of p c) i)) ≡ words_of q c)
+        × (homes_after (homes_of p c) cs a ≡ homes_of q c)
+        × Fit q c
+        × then (slice_index (words_of p c) i) (view.Producer u q sight, carried_after cs a)
+
+    abbrev pub ProducerOwes : ProducerPhase T C P → Type 0
+    ProducerOwes p = (c : ConsumerPhase T C P) → Fit p c → slice_index (words_of p c) i < 18446744073709551616 → ProducerRow p c
+
+    -- a producer's step keeps what it has learned of its consumer
     module _ (p : ProducerPhase T C P) (stays : producer_left p ≢ departed.First) where
-      pub producer_steps : (slots : ℕ) → ProducerOwes p → Allows StandsFor slots id (view.Producer u p, cs) i f then
+      pub producer_steps : (slots : ℕ) → ProducerOwes p → Allows StandsFor slots id (view.Producer u p sight, cs) i f then
       producer_steps slots owes s holds long at small =
-          let b = beside_producer s id u p stays at holds in
+          let b = beside_producer s id u p sight stays at holds in
           let c = b.c in
           let low : slice_index (words_of p c) i < 18446744073709551616 = subst (λ ws. slice_index ws i < 18446744073709551616) b.words small in
           let r = owes c b.fit low in
-          let w : View T C P = view.Producer u r.0 in
+          let w : View T C P = view.Producer u r.0 sight in
           let away : b.consumer ≢ id = λ e. b.apart (sym e) in
-          placed s.words s.homes s.views (words_of p c) (homes_of p c) b.words b.homes (
+          placed id cs i f then s.words s.homes s.views (words_of p c) (homes_of p c) b.words b.homes (
             w,
             r.1,
             r.2,
@@ -238,6 +261,7 @@ module _ {T C P : Type 0} where
               apart = b.apart;
               number = u;
               p = r.0;
+              sight = sight;
               c = c;
               at_p = set_here s.views id w (within s.views id _ at);
               at_c = set_else s.views id b.consumer w away ∙ b.at_c;
@@ -245,9 +269,69 @@ module _ {T C P : Type 0} where
               words = r.3;
               homes = r.4;
               fit = r.5;
+              sees = b.sees;
             }),
             r.6,
           )
+
+  -- a producer that hasn't acted looks at a word, and learns something of its consumer
+  pub producer_looks : (id u i : ℕ) (sight : Sight) (then : ℕ → Standing T C P → Type 0)
+      → ((c : ConsumerPhase T C P) → Fit producer.Ready c → SightFits sight c → (new : Sight) × SightFits new c × then (slice_index (words_of producer.Ready c) i) (view.Producer u producer.Ready new, []))
+      → ((c : ConsumerPhase T C P) → slice_set (words_of producer.Ready c) i (slice_index (words_of producer.Ready c) i) ≡ words_of producer.Ready c)
+      → (slots : ℕ) → Allows StandsFor slots id (view.Producer u producer.Ready sight, []) i (λ n. n) then
+  producer_looks id u i sight then learns same slots s holds long at small =
+      let b = beside_producer s id u producer.Ready sight (λ n. cc) at holds in
+      let c = b.c in
+      let r = learns c b.fit b.sees in
+      let w : View T C P = view.Producer u producer.Ready r.0 in
+      let away : b.consumer ≢ id = λ e. b.apart (sym e) in
+      placed id [] i (λ n. n) then s.words s.homes s.views (words_of producer.Ready c) (homes_of producer.Ready c) b.words b.homes (
+        w,
+        keeps,
+        tt,
+        inr (inl record {
+          producer = id;
+          consumer = b.consumer;
+          apart = b.apart;
+          number = u;
+          p = producer.Ready;
+          sight = r.0;
+          c = c;
+          at_p = set_here s.views id w (within s.views id _ at);
+          at_c = set_else s.views id b.consumer w away ∙ b.at_c;
+          others = λ k v ne nc e. b.others k v ne nc (sym (set_else s.views id k w ne) ∙ e);
+          words = same c;
+          homes = refl;
+          fit = b.fit;
+          sees = r.1;
+        }),
+        r.2,
+      )
+
+  -- what a producer has learned stays true where the consumer had set no callback
+  pub unset_sight : (c q : ConsumerPhase T C P) → ((inline : Bool) → Waits inline c → ⊥) → (sight : Sight) → SightFits sight c → SightFits sight q
+  unset_sight c q quiet seen.Unseen sees = tt
+  unset_sight c q quiet seen.NoCallback sees = tt
+  unset_sight c q quiet seen.Callback sees = absurd (quiet sees.0 sees.1)
+  unset_sight c q quiet seen.CallbackLeft sees = absurd (quiet sees.0.0 sees.0.1)
+
+  -- and where the consumer leaves
+  pub left_sight : (demand : Demand C) (got : Offer (Try T) P) (left : Departure) (sight : Sight) → SightFits sight (consumer.Acted demand got departed.No) → SightFits sight (consumer.Acted demand got left)
+  left_sight demand got left seen.Unseen sees = tt
+  left_sight demand got left seen.NoCallback sees = tt
+  left_sight demanded.Nothing got left seen.Callback sees = absurd sees.1
+  left_sight (demanded.Callback c) got left seen.Callback sees = sees
+  left_sight demand got left seen.CallbackLeft sees = let clash = sees.1 in cc
+
+  module _ (id : ℕ) (u : ℕ) (cs : List (ℕ × Held T C P)) (i : ℕ) (f : ℕ → ℕ) (then : ℕ → Standing T C P → Type 0) where
+    abbrev pub ConsumerOwes : ConsumerPhase T C P → Type 0
+    ConsumerOwes c = (p : ProducerPhase T C P) → Fit p c → slice_index (words_of p c) i < 18446744073709551616
+        → (q : ConsumerPhase T C P) × (a : Act (Held T C P)) × Valid (homes_of p c) cs a
+        × (slice_set (words_of p c) i (f (slice_index (words_of p c) i)) ≡ words_of p q)
+        × (homes_after (homes_of p c) cs a ≡ homes_of p q)
+        × Fit p q
+        × ((sight : Sight) → SightFits sight c → SightFits sight q)
+        × then (slice_index (words_of p c) i) (view.Consumer u q, carried_after cs a)
 
     module _ (c : ConsumerPhase T C P) (stays : consumer_left c ≢ departed.First) where
       pub consumer_steps : (slots : ℕ) → ConsumerOwes c → Allows StandsFor slots id (view.Consumer u c, cs) i f then
@@ -257,7 +341,7 @@ module _ {T C P : Type 0} where
           let low : slice_index (words_of p c) i < 18446744073709551616 = subst (λ ws. slice_index ws i < 18446744073709551616) b.words small in
           let r = owes p b.fit low in
           let w : View T C P = view.Consumer u r.0 in
-          placed s.words s.homes s.views (words_of p c) (homes_of p c) b.words b.homes (
+          placed id cs i f then s.words s.homes s.views (words_of p c) (homes_of p c) b.words b.homes (
             w,
             r.1,
             r.2,
@@ -267,6 +351,7 @@ module _ {T C P : Type 0} where
               apart = b.apart;
               number = u;
               p = p;
+              sight = b.sight;
               c = r.0;
               at_p = set_else s.views id b.producer w b.apart ∙ b.at_p;
               at_c = set_here s.views id w (within s.views id _ at);
@@ -274,27 +359,34 @@ module _ {T C P : Type 0} where
               words = r.3;
               homes = r.4;
               fit = r.5;
+              sees = r.6 b.sight b.sees;
             }),
-            r.6,
+            r.7,
           )
 
 module _ {T C P : Type 0} where
   -- where a seat stands, by the number of its own view
+  pub sits_by_both : (home : TableId) (seat : Seat (Held T C P) (View T C P)) (f : ℕ → Sight → Standing T C P) → ((n : ℕ) (y : Sight) → (use_of (f n y).0 ≡ n) × (sight_of (f n y).0 ≡ y)) → (u : ℕ) (sight : Sight) → Sits home seat (f u sight) → Sits home seat (f (use_of seat.me.0) (sight_of seat.me.0))
+  sits_by_both home seat f is u sight h = record {
+    of_home = h.of_home;
+    stands = h.stands ∙ ((λ i. f (sym (ap (λ (m : Standing T C P). use_of m.0) h.stands ∙ (is u sight).0) i) (sym (ap (λ (m : Standing T C P). sight_of m.0) h.stands ∙ (is u sight).1) i)));
+  }
+
   pub sits_by_view : (home : TableId) (seat : Seat (Held T C P) (View T C P)) (f : ℕ → Standing T C P) → ((n : ℕ) → use_of (f n).0 ≡ n) → (u : ℕ) → Sits home seat (f u) → Sits home seat (f (use_of seat.me.0))
   sits_by_view home seat f is u h = record { of_home = h.of_home; stands = h.stands ∙ ap f (sym (ap (λ (m : Standing T C P). use_of m.0) h.stands ∙ is u)) }
 
-  pub producer_is_last : (before after : Standing T C P) (u : ℕ) (offer : Offer (Try T) P) (got : Claim C) → before ≡ producer_acted u offer got → after ≡ (leaving departed.Last before.0, []) → (after.1 ≡ []) × IsLast after.0
-  producer_is_last before after u offer got e f = (
+  pub producer_is_last : (before after : Standing T C P) (u : ℕ) (sight : Sight) (offer : Offer (Try T) P) (got : Demand C) → before ≡ producer_acted u sight offer got → after ≡ (leaving departed.Last before.0, []) → (after.1 ≡ []) × IsLast after.0
+  producer_is_last before after u sight offer got e f = (
     ap (λ (m : Standing T C P). m.1) f,
-    inl (u, offer, got, ap (λ (m : Standing T C P). m.0) f ∙ ap (λ (m : Standing T C P). leaving departed.Last m.0) e),
+    inl (u, sight, offer, got, ap (λ (m : Standing T C P). m.0) f ∙ ap (λ (m : Standing T C P). leaving departed.Last m.0) e),
   )
 
-  pub consumer_is_last : (before after : Standing T C P) (u : ℕ) (claim : Claim C) (got : Offer (Try T) P) → before ≡ consumer_acted u claim got → after ≡ (leaving departed.Last before.0, []) → (after.1 ≡ []) × IsLast after.0
-  consumer_is_last before after u claimed.Nothing got e f = (
+  pub consumer_is_last : (before after : Standing T C P) (u : ℕ) (demand : Demand C) (got : Offer (Try T) P) → before ≡ consumer_acted u demand got → after ≡ (leaving departed.Last before.0, []) → (after.1 ≡ []) × IsLast after.0
+  consumer_is_last before after u demanded.Nothing got e f = (
     ap (λ (m : Standing T C P). m.1) f,
-    inr (u, claimed.Nothing, offered.Nothing, ap (λ (m : Standing T C P). m.0) f ∙ ap (λ (m : Standing T C P). leaving departed.Last m.0) e),
+    inr (u, demanded.Nothing, offered.Nothing, ap (λ (m : Standing T C P). m.0) f ∙ ap (λ (m : Standing T C P). leaving departed.Last m.0) e),
   )
-  consumer_is_last before after u (claimed.Callback c) got e f = (
+  consumer_is_last before after u (demanded.Callback c) got e f = (
     ap (λ (m : Standing T C P). m.1) f,
-    inr (u, claimed.Callback c, got, ap (λ (m : Standing T C P). m.0) f ∙ ap (λ (m : Standing T C P). leaving departed.Last m.0) e),
+    inr (u, demanded.Callback c, got, ap (λ (m : Standing T C P). m.0) f ∙ ap (λ (m : Standing T C P). leaving departed.Last m.0) e),
   )

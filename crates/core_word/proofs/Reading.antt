@@ -3,8 +3,10 @@ use Rattle.std.proofs.Common.{◌≡◌, ℕ, inl, inr, List, [], refl, sym, ap,
 use Rattle.fan_base.specs.declared.outcome.Try.{Try}
 use Rattle.core_state.specs.declared.schedule.Offer.{Offer}
 use Rattle.core_state.specs.declared.schedule.Offer.TheVariants as offered
-use Rattle.core_state.specs.declared.schedule.Claim.{Claim}
-use Rattle.core_state.specs.declared.schedule.Claim.TheVariants as claimed
+use Rattle.core_state.specs.declared.schedule.Demand.{Demand}
+use Rattle.core_state.specs.declared.schedule.Request.{Request}
+use Rattle.core_word.specs.declared.view.Sight.{Sight}
+use Rattle.core_state.specs.declared.schedule.Demand.TheVariants as demanded
 use Rattle.atomic_table.specs.Table.{takes, chain, Allows}
 use Rattle.core_word.specs.declared.view.Item.TheVariants as item
 use Rattle.core_word.specs.declared.view.Departure.TheVariants as departed
@@ -36,77 +38,77 @@ first_only departed.Last fit = absurd fit
 module _ {T C P : Type 0} where
   module _ (id u : ℕ) where
     abbrev Reads : View T C P → View T C P → List ℕ → List (Home T C P) → Type 0
-    Reads v w = ReadsAll id u [] 0 (λ n. n) (reads_end (v, [])) w
+    Reads v w = ReadsAll id [] 0 (λ n. n) (reads_end (v, [])) u w
 
-    producer_reads : (offer : Offer (Try T) P) (got : Claim C) (c : ConsumerPhase T C P) → Fit (producer.Acted offer got departed.Last) c
-        → Reads (view.Producer u (producer.Acted offer got departed.Last)) (view.Consumer u c) (words_of (producer.Acted offer got departed.Last) c) (homes_of (producer.Acted offer got departed.Last) c)
-    producer_reads offer got consumer.Ready fit = absurd fit.1
-    producer_reads offer got consumer.Holding fit = absurd fit.1
-    producer_reads offer got (consumer.Aware s) fit = absurd fit.1
-    producer_reads offer got (consumer.Acted claim got' departed.No) fit = absurd fit.1
-    producer_reads offer got (consumer.Acted claim got' departed.Last) fit = absurd fit.1
-    producer_reads offered.Nothing claimed.Nothing (consumer.Acted claim got' departed.First) fit = absurd fit.0.0
-    producer_reads offered.Nothing (claimed.Callback x) (consumer.Acted claim got' departed.First) fit = absurd fit.0.0
-    producer_reads (offered.Result r) claimed.Nothing (consumer.Acted claimed.Nothing offered.Nothing departed.First) fit = (offered.Result r, claimed.Nothing, chain (takes 0 (Some (item.Outcome r))) (chain (takes 1 None) (takes 2 None)), (refl, (refl, refl)), refl, refl, tt, (refl, tt), (offered.Result r, claimed.Nothing, tt, (refl, tt), refl))
-    producer_reads (offered.Result r) claimed.Nothing (consumer.Acted claimed.Nothing (offered.Result q) departed.First) fit = let e = fit.0.1 in cc
-    producer_reads (offered.Result r) claimed.Nothing (consumer.Acted claimed.Nothing (offered.Proxy q) departed.First) fit = let e = fit.0.1 in cc
-    producer_reads (offered.Result r) claimed.Nothing (consumer.Acted (claimed.Callback c) (offered.Result q) departed.First) fit = (offered.Result r, claimed.Callback c, chain (takes 0 None) (chain (takes 1 None) (takes 2 None)), (refl, (refl, refl)), refl, refl, tt, (refl, sym fit.0.1), (offered.Result r, claimed.Callback c, tt, (refl, tt), refl))
-    producer_reads (offered.Result r) claimed.Nothing (consumer.Acted (claimed.Callback c) offered.Nothing departed.First) fit = let e = fit.0.1 in cc
-    producer_reads (offered.Result r) claimed.Nothing (consumer.Acted (claimed.Callback c) (offered.Proxy q) departed.First) fit = let e = fit.0.1 in cc
-    producer_reads (offered.Result r) (claimed.Callback x) (consumer.Acted claimed.Nothing got' departed.First) fit = absurd fit.0.1
-    producer_reads (offered.Result r) (claimed.Callback x) (consumer.Acted (claimed.Callback c) offered.Nothing departed.First) fit = (offered.Result r, claimed.Callback c, chain (takes 0 None) (chain (takes 1 None) (takes 2 None)), (refl, (refl, refl)), refl, refl, tt, (refl, tt), (offered.Result r, claimed.Callback c, tt, (refl, ap (λ y. claimed.Callback y) fit.0.1.0), refl))
-    producer_reads (offered.Result r) (claimed.Callback x) (consumer.Acted (claimed.Callback c) (offered.Result q) departed.First) fit = let e = fit.0.1.1 in cc
-    producer_reads (offered.Result r) (claimed.Callback x) (consumer.Acted (claimed.Callback c) (offered.Proxy q) departed.First) fit = let e = fit.0.1.1 in cc
-    producer_reads (offered.Proxy r) claimed.Nothing (consumer.Acted claimed.Nothing offered.Nothing departed.First) fit = (offered.Proxy r, claimed.Nothing, chain (takes 0 None) (chain (takes 1 None) (takes 2 (Some (item.Proxy r)))), (refl, (refl, refl)), refl, refl, tt, (refl, tt), (offered.Proxy r, claimed.Nothing, tt, (refl, tt), refl))
-    producer_reads (offered.Proxy r) claimed.Nothing (consumer.Acted claimed.Nothing (offered.Result q) departed.First) fit = let e = fit.0.1 in cc
-    producer_reads (offered.Proxy r) claimed.Nothing (consumer.Acted claimed.Nothing (offered.Proxy q) departed.First) fit = let e = fit.0.1 in cc
-    producer_reads (offered.Proxy r) claimed.Nothing (consumer.Acted (claimed.Callback c) (offered.Proxy q) departed.First) fit = (offered.Proxy r, claimed.Callback c, chain (takes 0 None) (chain (takes 1 None) (takes 2 None)), (refl, (refl, refl)), refl, refl, tt, (refl, sym fit.0.1), (offered.Proxy r, claimed.Callback c, tt, (refl, tt), refl))
-    producer_reads (offered.Proxy r) claimed.Nothing (consumer.Acted (claimed.Callback c) offered.Nothing departed.First) fit = let e = fit.0.1 in cc
-    producer_reads (offered.Proxy r) claimed.Nothing (consumer.Acted (claimed.Callback c) (offered.Result q) departed.First) fit = let e = fit.0.1 in cc
-    producer_reads (offered.Proxy r) (claimed.Callback x) (consumer.Acted claimed.Nothing got' departed.First) fit = absurd fit.0.1
-    producer_reads (offered.Proxy r) (claimed.Callback x) (consumer.Acted (claimed.Callback c) offered.Nothing departed.First) fit = (offered.Proxy r, claimed.Callback c, chain (takes 0 None) (chain (takes 1 None) (takes 2 None)), (refl, (refl, refl)), refl, refl, tt, (refl, tt), (offered.Proxy r, claimed.Callback c, tt, (refl, ap (λ y. claimed.Callback y) fit.0.1.0), refl))
-    producer_reads (offered.Proxy r) (claimed.Callback x) (consumer.Acted (claimed.Callback c) (offered.Result q) departed.First) fit = let e = fit.0.1.1 in cc
-    producer_reads (offered.Proxy r) (claimed.Callback x) (consumer.Acted (claimed.Callback c) (offered.Proxy q) departed.First) fit = let e = fit.0.1.1 in cc
+    producer_reads : (sight : Sight) (offer : Offer (Try T) P) (got : Demand C) (c : ConsumerPhase T C P) → Fit (producer.Acted offer got departed.Last) c
+        → Reads (view.Producer u (producer.Acted offer got departed.Last) sight) (view.Consumer u c) (words_of (producer.Acted offer got departed.Last) c) (homes_of (producer.Acted offer got departed.Last) c)
+    producer_reads sight offer got consumer.Ready fit = absurd fit.1
+    producer_reads sight offer got consumer.Holding fit = absurd fit.1
+    producer_reads sight offer got (consumer.Aware s) fit = absurd fit.1
+    producer_reads sight offer got (consumer.Acted demand got' departed.No) fit = absurd fit.1
+    producer_reads sight offer got (consumer.Acted demand got' departed.Last) fit = absurd fit.1
+    producer_reads sight offered.Nothing demanded.Nothing (consumer.Acted demand got' departed.First) fit = absurd fit.0.0
+    producer_reads sight offered.Nothing (demanded.Callback x) (consumer.Acted demand got' departed.First) fit = absurd fit.0.0
+    producer_reads sight (offered.Result r) demanded.Nothing (consumer.Acted demanded.Nothing offered.Nothing departed.First) fit = (offered.Result r, demanded.Nothing, chain (takes 0 (Some (item.Outcome r))) (chain (takes 1 None) (takes 2 None)), (refl, (refl, refl)), refl, refl, tt, (refl, tt), (offered.Result r, demanded.Nothing, tt, (refl, tt), refl))
+    producer_reads sight (offered.Result r) demanded.Nothing (consumer.Acted demanded.Nothing (offered.Result q) departed.First) fit = let e = fit.0.1 in cc
+    producer_reads sight (offered.Result r) demanded.Nothing (consumer.Acted demanded.Nothing (offered.Proxy q) departed.First) fit = let e = fit.0.1 in cc
+    producer_reads sight (offered.Result r) demanded.Nothing (consumer.Acted (demanded.Callback c) (offered.Result q) departed.First) fit = (offered.Result r, demanded.Callback c, chain (takes 0 None) (chain (takes 1 None) (takes 2 None)), (refl, (refl, refl)), refl, refl, tt, (refl, sym fit.0.1), (offered.Result r, demanded.Callback c, tt, (refl, tt), refl))
+    producer_reads sight (offered.Result r) demanded.Nothing (consumer.Acted (demanded.Callback c) offered.Nothing departed.First) fit = let e = fit.0.1 in cc
+    producer_reads sight (offered.Result r) demanded.Nothing (consumer.Acted (demanded.Callback c) (offered.Proxy q) departed.First) fit = let e = fit.0.1 in cc
+    producer_reads sight (offered.Result r) (demanded.Callback x) (consumer.Acted demanded.Nothing got' departed.First) fit = absurd fit.0.1
+    producer_reads sight (offered.Result r) (demanded.Callback x) (consumer.Acted (demanded.Callback c) offered.Nothing departed.First) fit = (offered.Result r, demanded.Callback c, chain (takes 0 None) (chain (takes 1 None) (takes 2 None)), (refl, (refl, refl)), refl, refl, tt, (refl, tt), (offered.Result r, demanded.Callback c, tt, (refl, ap (λ (y : Request C). demanded.Callback y) fit.0.1.0), refl))
+    producer_reads sight (offered.Result r) (demanded.Callback x) (consumer.Acted (demanded.Callback c) (offered.Result q) departed.First) fit = let e = fit.0.1.1 in cc
+    producer_reads sight (offered.Result r) (demanded.Callback x) (consumer.Acted (demanded.Callback c) (offered.Proxy q) departed.First) fit = let e = fit.0.1.1 in cc
+    producer_reads sight (offered.Proxy r) demanded.Nothing (consumer.Acted demanded.Nothing offered.Nothing departed.First) fit = (offered.Proxy r, demanded.Nothing, chain (takes 0 None) (chain (takes 1 None) (takes 2 (Some (item.Proxy r)))), (refl, (refl, refl)), refl, refl, tt, (refl, tt), (offered.Proxy r, demanded.Nothing, tt, (refl, tt), refl))
+    producer_reads sight (offered.Proxy r) demanded.Nothing (consumer.Acted demanded.Nothing (offered.Result q) departed.First) fit = let e = fit.0.1 in cc
+    producer_reads sight (offered.Proxy r) demanded.Nothing (consumer.Acted demanded.Nothing (offered.Proxy q) departed.First) fit = let e = fit.0.1 in cc
+    producer_reads sight (offered.Proxy r) demanded.Nothing (consumer.Acted (demanded.Callback c) (offered.Proxy q) departed.First) fit = (offered.Proxy r, demanded.Callback c, chain (takes 0 None) (chain (takes 1 None) (takes 2 None)), (refl, (refl, refl)), refl, refl, tt, (refl, sym fit.0.1), (offered.Proxy r, demanded.Callback c, tt, (refl, tt), refl))
+    producer_reads sight (offered.Proxy r) demanded.Nothing (consumer.Acted (demanded.Callback c) offered.Nothing departed.First) fit = let e = fit.0.1 in cc
+    producer_reads sight (offered.Proxy r) demanded.Nothing (consumer.Acted (demanded.Callback c) (offered.Result q) departed.First) fit = let e = fit.0.1 in cc
+    producer_reads sight (offered.Proxy r) (demanded.Callback x) (consumer.Acted demanded.Nothing got' departed.First) fit = absurd fit.0.1
+    producer_reads sight (offered.Proxy r) (demanded.Callback x) (consumer.Acted (demanded.Callback c) offered.Nothing departed.First) fit = (offered.Proxy r, demanded.Callback c, chain (takes 0 None) (chain (takes 1 None) (takes 2 None)), (refl, (refl, refl)), refl, refl, tt, (refl, tt), (offered.Proxy r, demanded.Callback c, tt, (refl, ap (λ (y : Request C). demanded.Callback y) fit.0.1.0), refl))
+    producer_reads sight (offered.Proxy r) (demanded.Callback x) (consumer.Acted (demanded.Callback c) (offered.Result q) departed.First) fit = let e = fit.0.1.1 in cc
+    producer_reads sight (offered.Proxy r) (demanded.Callback x) (consumer.Acted (demanded.Callback c) (offered.Proxy q) departed.First) fit = let e = fit.0.1.1 in cc
 
-    consumer_reads : (claim : Claim C) (got : Offer (Try T) P) (p : ProducerPhase T C P) → Fit p (consumer.Acted claim got departed.Last)
-        → Reads (view.Consumer u (consumer.Acted claim got departed.Last)) (view.Producer u p) (words_of p (consumer.Acted claim got departed.Last)) (homes_of p (consumer.Acted claim got departed.Last))
-    consumer_reads claim got producer.Ready fit = absurd fit.1
-    consumer_reads claim got (producer.Holding o) fit = absurd fit.1
-    consumer_reads claim got (producer.Aware o) fit = absurd fit.1
-    consumer_reads claim got (producer.Acted offer got' departed.No) fit = absurd fit.1
-    consumer_reads claim got (producer.Acted offer got' departed.Last) fit = absurd fit.1
-    consumer_reads claim got (producer.Acted offered.Nothing claimed.Nothing departed.First) fit = absurd fit.0.0
-    consumer_reads claim got (producer.Acted offered.Nothing (claimed.Callback x) departed.First) fit = absurd fit.0.0
-    consumer_reads claimed.Nothing offered.Nothing (producer.Acted (offered.Result r) claimed.Nothing departed.First) fit = (offered.Result r, claimed.Nothing, chain (takes 0 (Some (item.Outcome r))) (chain (takes 1 None) (takes 2 None)), (refl, (refl, refl)), refl, refl, tt, (refl, tt), (offered.Result r, claimed.Nothing, tt, (refl, tt), refl))
-    consumer_reads claimed.Nothing (offered.Result q) (producer.Acted (offered.Result r) claimed.Nothing departed.First) fit = let e = fit.0.1 in cc
-    consumer_reads claimed.Nothing (offered.Proxy q) (producer.Acted (offered.Result r) claimed.Nothing departed.First) fit = let e = fit.0.1 in cc
-    consumer_reads (claimed.Callback c) offered.Nothing (producer.Acted (offered.Result r) claimed.Nothing departed.First) fit = let e = fit.0.1 in cc
-    consumer_reads (claimed.Callback c) (offered.Result q) (producer.Acted (offered.Result r) claimed.Nothing departed.First) fit = (offered.Result r, claimed.Callback c, chain (takes 0 None) (chain (takes 1 None) (takes 2 None)), (refl, (refl, refl)), refl, refl, tt, (refl, tt), (offered.Result r, claimed.Callback c, tt, (refl, sym fit.0.1), refl))
-    consumer_reads (claimed.Callback c) (offered.Proxy q) (producer.Acted (offered.Result r) claimed.Nothing departed.First) fit = let e = fit.0.1 in cc
-    consumer_reads claimed.Nothing got (producer.Acted (offered.Result r) (claimed.Callback x) departed.First) fit = absurd fit.0.1
-    consumer_reads (claimed.Callback c) offered.Nothing (producer.Acted (offered.Result r) (claimed.Callback x) departed.First) fit = (offered.Result r, claimed.Callback c, chain (takes 0 None) (chain (takes 1 None) (takes 2 None)), (refl, (refl, refl)), refl, refl, tt, (refl, ap (λ y. claimed.Callback y) fit.0.1.0), (offered.Result r, claimed.Callback c, tt, (refl, tt), refl))
-    consumer_reads (claimed.Callback c) (offered.Result q) (producer.Acted (offered.Result r) (claimed.Callback x) departed.First) fit = let e = fit.0.1.1 in cc
-    consumer_reads (claimed.Callback c) (offered.Proxy q) (producer.Acted (offered.Result r) (claimed.Callback x) departed.First) fit = let e = fit.0.1.1 in cc
-    consumer_reads claimed.Nothing offered.Nothing (producer.Acted (offered.Proxy r) claimed.Nothing departed.First) fit = (offered.Proxy r, claimed.Nothing, chain (takes 0 None) (chain (takes 1 None) (takes 2 (Some (item.Proxy r)))), (refl, (refl, refl)), refl, refl, tt, (refl, tt), (offered.Proxy r, claimed.Nothing, tt, (refl, tt), refl))
-    consumer_reads claimed.Nothing (offered.Result q) (producer.Acted (offered.Proxy r) claimed.Nothing departed.First) fit = let e = fit.0.1 in cc
-    consumer_reads claimed.Nothing (offered.Proxy q) (producer.Acted (offered.Proxy r) claimed.Nothing departed.First) fit = let e = fit.0.1 in cc
-    consumer_reads (claimed.Callback c) offered.Nothing (producer.Acted (offered.Proxy r) claimed.Nothing departed.First) fit = let e = fit.0.1 in cc
-    consumer_reads (claimed.Callback c) (offered.Proxy q) (producer.Acted (offered.Proxy r) claimed.Nothing departed.First) fit = (offered.Proxy r, claimed.Callback c, chain (takes 0 None) (chain (takes 1 None) (takes 2 None)), (refl, (refl, refl)), refl, refl, tt, (refl, tt), (offered.Proxy r, claimed.Callback c, tt, (refl, sym fit.0.1), refl))
-    consumer_reads (claimed.Callback c) (offered.Result q) (producer.Acted (offered.Proxy r) claimed.Nothing departed.First) fit = let e = fit.0.1 in cc
-    consumer_reads claimed.Nothing got (producer.Acted (offered.Proxy r) (claimed.Callback x) departed.First) fit = absurd fit.0.1
-    consumer_reads (claimed.Callback c) offered.Nothing (producer.Acted (offered.Proxy r) (claimed.Callback x) departed.First) fit = (offered.Proxy r, claimed.Callback c, chain (takes 0 None) (chain (takes 1 None) (takes 2 None)), (refl, (refl, refl)), refl, refl, tt, (refl, ap (λ y. claimed.Callback y) fit.0.1.0), (offered.Proxy r, claimed.Callback c, tt, (refl, tt), refl))
-    consumer_reads (claimed.Callback c) (offered.Result q) (producer.Acted (offered.Proxy r) (claimed.Callback x) departed.First) fit = let e = fit.0.1.1 in cc
-    consumer_reads (claimed.Callback c) (offered.Proxy q) (producer.Acted (offered.Proxy r) (claimed.Callback x) departed.First) fit = let e = fit.0.1.1 in cc
+    consumer_reads : (demand : Demand C) (got : Offer (Try T) P) (p : ProducerPhase T C P) (sight : Sight) → Fit p (consumer.Acted demand got departed.Last)
+        → Reads (view.Consumer u (consumer.Acted demand got departed.Last)) (view.Producer u p sight) (words_of p (consumer.Acted demand got departed.Last)) (homes_of p (consumer.Acted demand got departed.Last))
+    consumer_reads demand got producer.Ready sight fit = absurd fit.1
+    consumer_reads demand got (producer.Holding o) sight fit = absurd fit.1
+    consumer_reads demand got (producer.Aware o a) sight fit = absurd fit.1
+    consumer_reads demand got (producer.Acted offer got' departed.No) sight fit = absurd fit.1
+    consumer_reads demand got (producer.Acted offer got' departed.Last) sight fit = absurd fit.1
+    consumer_reads demand got (producer.Acted offered.Nothing demanded.Nothing departed.First) sight fit = absurd fit.0.0
+    consumer_reads demand got (producer.Acted offered.Nothing (demanded.Callback x) departed.First) sight fit = absurd fit.0.0
+    consumer_reads demanded.Nothing offered.Nothing (producer.Acted (offered.Result r) demanded.Nothing departed.First) sight fit = (offered.Result r, demanded.Nothing, chain (takes 0 (Some (item.Outcome r))) (chain (takes 1 None) (takes 2 None)), (refl, (refl, refl)), refl, refl, tt, (refl, tt), (offered.Result r, demanded.Nothing, tt, (refl, tt), refl))
+    consumer_reads demanded.Nothing (offered.Result q) (producer.Acted (offered.Result r) demanded.Nothing departed.First) sight fit = let e = fit.0.1 in cc
+    consumer_reads demanded.Nothing (offered.Proxy q) (producer.Acted (offered.Result r) demanded.Nothing departed.First) sight fit = let e = fit.0.1 in cc
+    consumer_reads (demanded.Callback c) offered.Nothing (producer.Acted (offered.Result r) demanded.Nothing departed.First) sight fit = let e = fit.0.1 in cc
+    consumer_reads (demanded.Callback c) (offered.Result q) (producer.Acted (offered.Result r) demanded.Nothing departed.First) sight fit = (offered.Result r, demanded.Callback c, chain (takes 0 None) (chain (takes 1 None) (takes 2 None)), (refl, (refl, refl)), refl, refl, tt, (refl, tt), (offered.Result r, demanded.Callback c, tt, (refl, sym fit.0.1), refl))
+    consumer_reads (demanded.Callback c) (offered.Proxy q) (producer.Acted (offered.Result r) demanded.Nothing departed.First) sight fit = let e = fit.0.1 in cc
+    consumer_reads demanded.Nothing got (producer.Acted (offered.Result r) (demanded.Callback x) departed.First) sight fit = absurd fit.0.1
+    consumer_reads (demanded.Callback c) offered.Nothing (producer.Acted (offered.Result r) (demanded.Callback x) departed.First) sight fit = (offered.Result r, demanded.Callback c, chain (takes 0 None) (chain (takes 1 None) (takes 2 None)), (refl, (refl, refl)), refl, refl, tt, (refl, ap (λ (y : Request C). demanded.Callback y) fit.0.1.0), (offered.Result r, demanded.Callback c, tt, (refl, tt), refl))
+    consumer_reads (demanded.Callback c) (offered.Result q) (producer.Acted (offered.Result r) (demanded.Callback x) departed.First) sight fit = let e = fit.0.1.1 in cc
+    consumer_reads (demanded.Callback c) (offered.Proxy q) (producer.Acted (offered.Result r) (demanded.Callback x) departed.First) sight fit = let e = fit.0.1.1 in cc
+    consumer_reads demanded.Nothing offered.Nothing (producer.Acted (offered.Proxy r) demanded.Nothing departed.First) sight fit = (offered.Proxy r, demanded.Nothing, chain (takes 0 None) (chain (takes 1 None) (takes 2 (Some (item.Proxy r)))), (refl, (refl, refl)), refl, refl, tt, (refl, tt), (offered.Proxy r, demanded.Nothing, tt, (refl, tt), refl))
+    consumer_reads demanded.Nothing (offered.Result q) (producer.Acted (offered.Proxy r) demanded.Nothing departed.First) sight fit = let e = fit.0.1 in cc
+    consumer_reads demanded.Nothing (offered.Proxy q) (producer.Acted (offered.Proxy r) demanded.Nothing departed.First) sight fit = let e = fit.0.1 in cc
+    consumer_reads (demanded.Callback c) offered.Nothing (producer.Acted (offered.Proxy r) demanded.Nothing departed.First) sight fit = let e = fit.0.1 in cc
+    consumer_reads (demanded.Callback c) (offered.Proxy q) (producer.Acted (offered.Proxy r) demanded.Nothing departed.First) sight fit = (offered.Proxy r, demanded.Callback c, chain (takes 0 None) (chain (takes 1 None) (takes 2 None)), (refl, (refl, refl)), refl, refl, tt, (refl, tt), (offered.Proxy r, demanded.Callback c, tt, (refl, sym fit.0.1), refl))
+    consumer_reads (demanded.Callback c) (offered.Result q) (producer.Acted (offered.Proxy r) demanded.Nothing departed.First) sight fit = let e = fit.0.1 in cc
+    consumer_reads demanded.Nothing got (producer.Acted (offered.Proxy r) (demanded.Callback x) departed.First) sight fit = absurd fit.0.1
+    consumer_reads (demanded.Callback c) offered.Nothing (producer.Acted (offered.Proxy r) (demanded.Callback x) departed.First) sight fit = (offered.Proxy r, demanded.Callback c, chain (takes 0 None) (chain (takes 1 None) (takes 2 None)), (refl, (refl, refl)), refl, refl, tt, (refl, ap (λ (y : Request C). demanded.Callback y) fit.0.1.0), (offered.Proxy r, demanded.Callback c, tt, (refl, tt), refl))
+    consumer_reads (demanded.Callback c) (offered.Result q) (producer.Acted (offered.Proxy r) (demanded.Callback x) departed.First) sight fit = let e = fit.0.1.1 in cc
+    consumer_reads (demanded.Callback c) (offered.Proxy q) (producer.Acted (offered.Proxy r) (demanded.Callback x) departed.First) sight fit = let e = fit.0.1.1 in cc
 
-    producer_ends : (slots : ℕ) (offer : Offer (Try T) P) (got : Claim C) → Allows StandsFor slots id (view.Producer u (producer.Acted offer got departed.Last), []) 0 (λ n. n) (reads_end (view.Producer u (producer.Acted offer got departed.Last), []))
-    producer_ends slots offer got s holds long at small =
+    producer_ends : (slots : ℕ) (sight : Sight) (offer : Offer (Try T) P) (got : Demand C) → Allows StandsFor slots id (view.Producer u (producer.Acted offer got departed.Last) sight, []) 0 (λ n. n) (reads_end (view.Producer u (producer.Acted offer got departed.Last) sight, []))
+    producer_ends slots sight offer got s holds long at small =
         let p : ProducerPhase T C P = producer.Acted offer got departed.Last in
-        let b = beside_producer s id u p (λ e. cc) at holds in
+        let b = beside_producer s id u p sight (λ e. cc) at holds in
         let c = b.c in
-        let r = producer_reads offer got c b.fit in
+        let r = producer_reads sight offer got c b.fit in
         let w : View T C P = view.Husk u r.0 r.1 in
         let first : consumer_left c ≡ departed.First = only_first (consumer_left c) b.fit.1 in
-        placed id u [] 0 (λ n. n) (reads_end (view.Producer u p, [])) s.words s.homes s.views (words_of p c) (homes_of p c) b.words b.homes (
+        placed id [] 0 (λ n. n) (reads_end (view.Producer u p sight, [])) s.words s.homes s.views (words_of p c) (homes_of p c) b.words b.homes (
           w,
           r.2,
           r.3,
@@ -116,7 +118,7 @@ module _ {T C P : Type 0} where
             apart = b.apart;
             number = u;
             offer = r.0;
-            claim = r.1;
+            demand = r.1;
             set = r.6;
             at_last = set_here s.views id w (within s.views id _ at);
             v = view.Consumer u c;
@@ -130,15 +132,15 @@ module _ {T C P : Type 0} where
           r.8,
         )
 
-    consumer_ends : (slots : ℕ) (claim : Claim C) (got : Offer (Try T) P) → Allows StandsFor slots id (view.Consumer u (consumer.Acted claim got departed.Last), []) 0 (λ n. n) (reads_end (view.Consumer u (consumer.Acted claim got departed.Last), []))
-    consumer_ends slots claim got s holds long at small =
-        let c : ConsumerPhase T C P = consumer.Acted claim got departed.Last in
+    consumer_ends : (slots : ℕ) (demand : Demand C) (got : Offer (Try T) P) → Allows StandsFor slots id (view.Consumer u (consumer.Acted demand got departed.Last), []) 0 (λ n. n) (reads_end (view.Consumer u (consumer.Acted demand got departed.Last), []))
+    consumer_ends slots demand got s holds long at small =
+        let c : ConsumerPhase T C P = consumer.Acted demand got departed.Last in
         let b = beside_consumer s id u c (λ e. cc) at holds in
         let p = b.p in
-        let r = consumer_reads claim got p b.fit in
+        let r = consumer_reads demand got p b.sight b.fit in
         let w : View T C P = view.Husk u r.0 r.1 in
         let first : producer_left p ≡ departed.First = first_only (producer_left p) b.fit.1 in
-        placed id u [] 0 (λ n. n) (reads_end (view.Consumer u c, [])) s.words s.homes s.views (words_of p c) (homes_of p c) b.words b.homes (
+        placed id [] 0 (λ n. n) (reads_end (view.Consumer u c, [])) s.words s.homes s.views (words_of p c) (homes_of p c) b.words b.homes (
           w,
           r.2,
           r.3,
@@ -148,10 +150,10 @@ module _ {T C P : Type 0} where
             apart = λ e. b.apart (sym e);
             number = u;
             offer = r.0;
-            claim = r.1;
+            demand = r.1;
             set = r.6;
             at_last = set_here s.views id w (within s.views id _ at);
-            v = view.Producer u p;
+            v = view.Producer u p b.sight;
             at_first = set_else s.views id b.producer w b.apart ∙ b.at_p;
             left = (refl, first);
             knows = r.7;
@@ -164,5 +166,5 @@ module _ {T C P : Type 0} where
 
 -- the last leaver ends the use
 pub last_reads : {T C P : Type 0} (slots id : ℕ) (me : Standing T C P) → me.1 ≡ [] → IsLast me.0 → Allows StandsFor slots id me 0 (λ n. n) (reads_end me)
-last_reads slots id me none (inl t) = subst (λ m. Allows StandsFor slots id m 0 (λ n. n) (reads_end m)) (λ i. (sym t.3 i, sym none i)) (producer_ends id t.0 slots t.1 t.2)
+last_reads slots id me none (inl t) = subst (λ m. Allows StandsFor slots id m 0 (λ n. n) (reads_end m)) (λ i. (sym t.4 i, sym none i)) (producer_ends id t.0 slots t.1 t.2 t.3)
 last_reads slots id me none (inr t) = subst (λ m. Allows StandsFor slots id m 0 (λ n. n) (reads_end m)) (λ i. (sym t.3 i, sym none i)) (consumer_ends id t.0 slots t.1 t.2)

@@ -1,40 +1,56 @@
 -- What a home hands out when it is closed.
-use Rattle.std.specs.Prelude.{◌≡◌, ℕ, ◌<◌, List, [], ◌∷◌, Some, None}
+use Rattle.std.specs.Prelude.{◌≡◌, ◌≢◌, ◌↔◌, ℕ, Bool, List, [], ◌∷◌, Option, Some, None}
 use mathlib.Core.Option as maybe
 use lib.ListN.{get_elem?}
 use Rattle.fan_base.specs.declared.outcome.Try.{Try}
 use Rattle.core_state.specs.declared.table.State.{State}
 use Rattle.core_state.specs.declared.table.State.TheVariants as state
-use Rattle.core_state.specs.Table.{code_of}
+use Rattle.core_state.specs.Table.{code_of, waiting_state}
 use Rattle.atomic_table.specs.Table.{Final}
 use Rattle.core_word.specs.declared.view.Item.TheVariants as item
 use Rattle.core_word.specs.declared.close.Unspent.{Unspent}
 use Rattle.core_word.specs.Rule.{Held, StandsFor}
 
+-- a state in which a callback waits, with the allowance to run inline or without it
+abbrev pub IsWaiting : State → Type 0
+IsWaiting s = (inline : Bool) × (s ≡ waiting_state inline)
+
 module _ {T C P : Type 0} where
-  abbrev pub IsOutcome : Held T C P → Type 0
-  IsOutcome held = (r : Try T) × (held ≡ Some (item.Outcome r))
+  -- the outcome in a slot, the callback, and the proxy
+  abbrev pub outcome_of : Held T C P → Option (Try T)
+  outcome_of None = None
+  outcome_of (Some (item.Outcome r)) = Some r
+  outcome_of (Some (item.Callback c)) = None
+  outcome_of (Some (item.Proxy k)) = None
 
-  abbrev pub IsCallback : Held T C P → Type 0
-  IsCallback held = (c : C) × (held ≡ Some (item.Callback c))
+  abbrev pub callback_of : Held T C P → Option C
+  callback_of None = None
+  callback_of (Some (item.Outcome r)) = None
+  callback_of (Some (item.Callback c)) = Some c.callback
+  callback_of (Some (item.Proxy k)) = None
 
-  abbrev pub IsProxy : Held T C P → Type 0
-  IsProxy held = (k : P) × (held ≡ Some (item.Proxy k))
+  abbrev pub proxy_of : Held T C P → Option P
+  proxy_of None = None
+  proxy_of (Some (item.Outcome r)) = None
+  proxy_of (Some (item.Callback c)) = None
+  proxy_of (Some (item.Proxy k)) = Some k
 
   -- an end of a home by the core rule: the state and the number of attached halves, and what the slots hold
   abbrev pub IsEnd : State → ℕ → List (Held T C P) → Type 0
   IsEnd s attached slots = Final StandsFor (code_of s ∷ attached ∷ []) slots
 
-  -- Each slot's own item is in its own field.
+  -- A field has a value exactly where a half is attached, the state is the one in which such a value waits, and the slot of its kind held that value.
   pub record HandsOut (slots : List (Held T C P)) (unspent : Unspent T C P) : Type 0 where
-    pub outcome : (r : Try T) → get_elem? slots 0 ≡ maybe.some (Some (item.Outcome r)) → unspent.outcome ≡ Some r
-    pub callback : (c : C) → get_elem? slots 1 ≡ maybe.some (Some (item.Callback c)) → unspent.callback ≡ Some c
-    pub proxy : (k : P) → get_elem? slots 2 ≡ maybe.some (Some (item.Proxy k)) → unspent.proxy ≡ Some k
+    pub outcome : (r : Try T) → (unspent.outcome ≡ Some r) ↔ ((unspent.attached ≢ 0) × (unspent.state ≡ state.OnlyResult) × (get_elem? slots 0 ≡ maybe.some (Some (item.Outcome r))))
+    pub callback : (c : C) → (unspent.callback ≡ Some c) ↔ ((unspent.attached ≢ 0) × IsWaiting unspent.state × ((inline : Bool) × (get_elem? slots 1 ≡ maybe.some (Some (item.Callback record { callback = c; inline = inline })))))
+    pub proxy : (k : P) → (unspent.proxy ≡ Some k) ↔ ((unspent.attached ≢ 0) × (unspent.state ≡ state.Proxy) × (get_elem? slots 2 ≡ maybe.some (Some (item.Proxy k))))
 
-  -- nothing was begun: the words are those of a core in Start with both halves attached, and the slots are empty
-  abbrev pub IsUntouched : List ℕ → List (Held T C P) → Type 0
-  IsUntouched words slots = (words ≡ code_of state.Start ∷ 2 ∷ []) × ((k : ℕ) → k < 3 → get_elem? slots k ≡ maybe.some None)
+  -- nothing is handed out
+  pub record HasNothing (unspent : Unspent T C P) : Type 0 where
+    pub outcome : unspent.outcome ≡ None
+    pub callback : unspent.callback ≡ None
+    pub proxy : unspent.proxy ≡ None
 
   -- what a home hands out whose key was never taken
-  abbrev pub IsUnused : Unspent T C P → Type 0
-  IsUnused unspent = (unspent.state ≡ state.Start) × (unspent.attached ≡ 2) × (unspent.outcome ≡ None) × (unspent.callback ≡ None) × (unspent.proxy ≡ None)
+  abbrev pub NothingBegun : Unspent T C P → Type 0
+  NothingBegun unspent = (unspent.state ≡ state.Start) × (unspent.attached ≡ 2) × HasNothing unspent

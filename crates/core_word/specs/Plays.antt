@@ -1,13 +1,14 @@
 -- What each step on a home's table tells its caller, and where a seat then stands: its view, and the slots that it has with what they hold.
-use Rattle.std.specs.Prelude.{◌≡◌, ◌≢◌, ◌⊎◌, ℕ, suc, List, [], ◌∷◌, Option, Some, None}
+use Rattle.std.specs.Prelude.{◌≡◌, ◌≢◌, ◌⊎◌, ℕ, suc, Bool, List, [], ◌∷◌, Option, Some, None}
 use Rattle.fan_base.specs.declared.outcome.Try.{Try}
 use Rattle.core_state.specs.declared.table.State.{State}
 use Rattle.core_state.specs.declared.table.State.TheVariants as state
 use Rattle.core_state.specs.declared.schedule.Offer.{Offer}
 use Rattle.core_state.specs.declared.schedule.Offer.TheVariants as offered
-use Rattle.core_state.specs.declared.schedule.Claim.{Claim}
-use Rattle.core_state.specs.declared.schedule.Claim.TheVariants as claimed
-use Rattle.core_state.specs.Table.{code_of}
+use Rattle.core_state.specs.declared.schedule.Demand.{Demand}
+use Rattle.core_state.specs.declared.schedule.Demand.TheVariants as demanded
+use Rattle.core_state.specs.declared.schedule.Request.{Request}
+use Rattle.core_state.specs.Table.{code_of, waiting_state}
 use Rattle.core_state.specs.Schedule.{leftover_from}
 use Rattle.atomic_table.specs.Table.{Me}
 use Rattle.atomic_table.specs.Seated.{TableId}
@@ -15,16 +16,16 @@ use Rattle.atomic_table.specs.declared.shared.Seat.{Seat}
 use Rattle.core_word.specs.declared.view.Item.TheVariants as item
 use Rattle.core_word.specs.declared.view.Departure.{Departure}
 use Rattle.core_word.specs.declared.view.Departure.TheVariants as departed
-use Rattle.core_word.specs.declared.view.Own.{Own}
-use Rattle.core_word.specs.declared.view.Own.TheVariants as own
+use Rattle.core_word.specs.declared.view.Sight.{Sight}
+use Rattle.core_word.specs.declared.view.Sight.TheVariants as seen
+use Rattle.core_word.specs.declared.view.ProducerSlot.{ProducerSlot}
+use Rattle.core_word.specs.declared.view.ProducerSlot.TheVariants as slot
 use Rattle.core_word.specs.declared.view.ProducerPhase.{ProducerPhase}
 use Rattle.core_word.specs.declared.view.ProducerPhase.TheVariants as producer
 use Rattle.core_word.specs.declared.view.ConsumerPhase.TheVariants as consumer
 use Rattle.core_word.specs.declared.view.View.{View}
 use Rattle.core_word.specs.declared.view.View.TheVariants as view
-use Rattle.core_word.specs.declared.left.Leftover.{Leftover}
-use Rattle.core_word.specs.declared.left.Leftover.TheVariants as leftover
-use Rattle.core_word.specs.Views.{use_of, offer_of, claim_got, claim_of, offer_got, Knows}
+use Rattle.core_word.specs.Views.{use_of, sight_of, IsAwaited, offer_of, demand_got, demand_of, offer_got, Knows}
 use Rattle.core_word.specs.Rule.{Held, IsSet, Fit}
 
 -- where a seat stands
@@ -32,42 +33,46 @@ abbrev pub Standing : Type 0 → Type 0 → Type 0 → Type 0
 Standing T C P = Me (Held T C P) (View T C P)
 
 -- the slot of what a producer sets
-abbrev pub slot_of : Own → ℕ
-slot_of own.Result = 0
-slot_of own.Proxy = 2
+abbrev pub slot_of : ProducerSlot → ℕ
+slot_of slot.Result = 0
+slot_of slot.Proxy = 2
 
 -- the state that a half found: what it got stands for it alone
-abbrev pub found_by_producer : {C : Type 0} → Claim C → State
-found_by_producer claimed.Nothing = state.Start
-found_by_producer (claimed.Callback c) = state.OnlyCallback
+abbrev pub found_by_producer : {C : Type 0} → Demand C → State
+found_by_producer demanded.Nothing = state.Start
+found_by_producer (demanded.Callback c) = waiting_state c.inline
 
 abbrev pub found_by_consumer : {R K : Type 0} → Offer R K → State
 found_by_consumer offered.Nothing = state.Start
 found_by_consumer (offered.Result r) = state.OnlyResult
 found_by_consumer (offered.Proxy k) = state.Proxy
 
+-- a word in which a producer that hasn't acted may find the state: Start, or that of a callback that waits
+abbrev pub FindsStartOrWaiting : ℕ → Type 0
+FindsStartOrWaiting found = (found ≡ code_of state.Start) ⊎ ((a : Bool) × (found ≡ code_of (waiting_state a)))
+
 module _ {T C P : Type 0} where
   abbrev pub key_at : ℕ → Standing T C P
   key_at number = (view.Key number, [])
 
-  abbrev pub producer_ready : ℕ → Standing T C P
-  producer_ready number = (view.Producer number producer.Ready, [])
+  abbrev pub producer_ready : ℕ → Sight → Standing T C P
+  producer_ready number sight = (view.Producer number producer.Ready sight, [])
 
-  abbrev pub producer_holding : ℕ → Own → Held T C P → Standing T C P
-  producer_holding number o held = (view.Producer number (producer.Holding o), (slot_of o, held) ∷ [])
+  abbrev pub producer_holding : ℕ → Sight → ProducerSlot → Held T C P → Standing T C P
+  producer_holding number sight o held = (view.Producer number (producer.Holding o) sight, (slot_of o, held) ∷ [])
 
-  abbrev pub producer_aware : ℕ → Own → Held T C P → Standing T C P
-  producer_aware number o held = (view.Producer number (producer.Aware o), (slot_of o, held) ∷ [])
+  abbrev pub producer_aware : ℕ → Sight → ProducerSlot → Bool → Held T C P → Standing T C P
+  producer_aware number sight o a held = (view.Producer number (producer.Aware o a) sight, (slot_of o, held) ∷ [])
 
   -- A producer that found nothing has no slot. One that found a callback has two, and has emptied them.
-  abbrev pub producer_slots : Offer (Try T) P → Claim C → List (ℕ × Held T C P)
-  producer_slots offer claimed.Nothing = []
-  producer_slots offered.Nothing (claimed.Callback c) = []
-  producer_slots (offered.Result r) (claimed.Callback c) = (0, None) ∷ (1, None) ∷ []
-  producer_slots (offered.Proxy k) (claimed.Callback c) = (2, None) ∷ (1, None) ∷ []
+  abbrev pub producer_slots : Offer (Try T) P → Demand C → List (ℕ × Held T C P)
+  producer_slots offer demanded.Nothing = []
+  producer_slots offered.Nothing (demanded.Callback c) = []
+  producer_slots (offered.Result r) (demanded.Callback c) = (0, None) ∷ (1, None) ∷ []
+  producer_slots (offered.Proxy k) (demanded.Callback c) = (2, None) ∷ (1, None) ∷ []
 
-  abbrev pub producer_acted : ℕ → Offer (Try T) P → Claim C → Standing T C P
-  producer_acted number offer got = (view.Producer number (producer.Acted offer got departed.No), producer_slots offer got)
+  abbrev pub producer_acted : ℕ → Sight → Offer (Try T) P → Demand C → Standing T C P
+  producer_acted number sight offer got = (view.Producer number (producer.Acted offer got departed.No) sight, producer_slots offer got)
 
   abbrev pub consumer_ready : ℕ → Standing T C P
   consumer_ready number = (view.Consumer number consumer.Ready, [])
@@ -84,9 +89,9 @@ module _ {T C P : Type 0} where
   consumer_slots (offered.Proxy k) = (1, None) ∷ (2, None) ∷ []
 
   -- A consumer that gave up has made no step.
-  abbrev pub consumer_acted : ℕ → Claim C → Offer (Try T) P → Standing T C P
-  consumer_acted number claimed.Nothing got = consumer_ready number
-  consumer_acted number (claimed.Callback c) got = (view.Consumer number (consumer.Acted (claimed.Callback c) got departed.No), consumer_slots got)
+  abbrev pub consumer_acted : ℕ → Demand C → Offer (Try T) P → Standing T C P
+  consumer_acted number demanded.Nothing got = consumer_ready number
+  consumer_acted number (demanded.Callback c) got = (view.Consumer number (consumer.Acted (demanded.Callback c) got departed.No), consumer_slots got)
 
   -- what a seat is about to set: what its slot holds
   abbrev pub offer_in_hand : List (ℕ × Held T C P) → Offer (Try T) P
@@ -96,63 +101,83 @@ module _ {T C P : Type 0} where
   offer_in_hand ((k, Some (item.Callback c)) ∷ xs) = offered.Nothing
   offer_in_hand ((k, Some (item.Proxy p)) ∷ xs) = offered.Proxy p
 
-  abbrev pub claim_in_hand : List (ℕ × Held T C P) → Claim C
-  claim_in_hand [] = claimed.Nothing
-  claim_in_hand ((k, None) ∷ xs) = claimed.Nothing
-  claim_in_hand ((k, Some (item.Outcome r)) ∷ xs) = claimed.Nothing
-  claim_in_hand ((k, Some (item.Callback c)) ∷ xs) = claimed.Callback c
-  claim_in_hand ((k, Some (item.Proxy p)) ∷ xs) = claimed.Nothing
+  abbrev pub demand_in_hand : List (ℕ × Held T C P) → Demand C
+  demand_in_hand [] = demanded.Nothing
+  demand_in_hand ((k, None) ∷ xs) = demanded.Nothing
+  demand_in_hand ((k, Some (item.Outcome r)) ∷ xs) = demanded.Nothing
+  demand_in_hand ((k, Some (item.Callback c)) ∷ xs) = demanded.Callback c
+  demand_in_hand ((k, Some (item.Proxy p)) ∷ xs) = demanded.Nothing
 
   -- a producer takes the slot of what it is about to set, which is empty
-  abbrev pub takes_own : Own → Standing T C P → ℕ → Standing T C P → Type 0
-  takes_own o before found after = after ≡ producer_holding (use_of before.0) o None
+  abbrev pub takes_producer_slot : ProducerSlot → Standing T C P → ℕ → Standing T C P → Type 0
+  takes_producer_slot o before found after = after ≡ producer_holding (use_of before.0) (sight_of before.0) o None
 
   abbrev pub takes_callback_slot : Standing T C P → ℕ → Standing T C P → Type 0
   takes_callback_slot before found after = after ≡ consumer_holding (use_of before.0) None
 
-  -- A producer's exchange from Start. It sets what its slot holds, or sees that a callback waits.
-  abbrev pub sets_first : Own → Standing T C P → ℕ → Standing T C P → Type 0
-  sets_first o before found after =
-      (found ≡ code_of state.Start → after ≡ producer_acted (use_of before.0) (offer_in_hand before.1) claimed.Nothing)
-      × (found ≢ code_of state.Start → after ≡ (view.Producer (use_of before.0) (producer.Aware o), before.1))
+  -- A producer's look at the state. A callback is set, or not yet.
+  abbrev pub looks_for_callback : Standing T C P → ℕ → Standing T C P → Type 0
+  looks_for_callback before found after =
+      (found ≡ code_of state.Start → after ≡ producer_ready (use_of before.0) seen.NoCallback)
+      × (found ≢ code_of state.Start → after ≡ producer_ready (use_of before.0) seen.Callback)
 
-  -- A producer's exchange from OnlyCallback. It sets what its slot holds, and takes the callback.
+  -- The look at the count of a producer that has seen a callback. The consumer has left, or not yet.
+  abbrev pub looks_for_leave : Standing T C P → ℕ → Standing T C P → Type 0
+  looks_for_leave before found after =
+      (found ≡ 1 → after ≡ producer_ready (use_of before.0) seen.CallbackLeft)
+      × (found ≢ 1 → after ≡ producer_ready (use_of before.0) seen.Callback)
+
+  -- A producer's exchange from Start. It sets what its slot holds, or sees that a callback waits, and whether it was set with the allowance. One that had seen a callback doesn't find Start.
+  abbrev pub tries_first : ProducerSlot → Standing T C P → ℕ → Standing T C P → Type 0
+  tries_first o before found after =
+      (found ≡ code_of state.Start → after ≡ producer_acted (use_of before.0) (sight_of before.0) (offer_in_hand before.1) demanded.Nothing)
+      × ((a : Bool) → found ≡ code_of (waiting_state a) → after ≡ (view.Producer (use_of before.0) (producer.Aware o a) (sight_of before.0), before.1))
+      × FindsStartOrWaiting found
+
+  abbrev pub sets_first : ProducerSlot → Standing T C P → ℕ → Standing T C P → Type 0
+  sets_first o before found after = tries_first o before found after × (IsAwaited (sight_of before.0) → found ≢ code_of state.Start)
+
+  -- A producer's exchange from the state of a callback that waits. It sets what its slot holds, and takes the callback.
   abbrev pub sets_second : Standing T C P → ℕ → Standing T C P → Type 0
   sets_second before found after =
-      (c : C) × (after ≡ (view.Producer (use_of before.0) (producer.Acted (offer_in_hand before.1) (claimed.Callback c) departed.No), (1, Some (item.Callback c)) ∷ before.1))
+      (c : Request C) × (after ≡ (view.Producer (use_of before.0) (producer.Acted (offer_in_hand before.1) (demanded.Callback c) departed.No) (sight_of before.0), (1, Some (item.Callback c)) ∷ before.1))
 
   -- A consumer's exchange from Start. It sets the callback, or sees what the producer has set.
-  abbrev pub claims_first : Standing T C P → ℕ → Standing T C P → Type 0
-  claims_first before found after =
-      (found ≡ code_of state.Start → after ≡ consumer_acted (use_of before.0) (claim_in_hand before.1) offered.Nothing)
+  abbrev pub demands_first : Standing T C P → ℕ → Standing T C P → Type 0
+  demands_first before found after =
+      (found ≡ code_of state.Start → after ≡ consumer_acted (use_of before.0) (demand_in_hand before.1) offered.Nothing)
       × (found ≡ code_of state.OnlyResult → after ≡ (view.Consumer (use_of before.0) (consumer.Aware state.OnlyResult), before.1))
       × (found ≢ code_of state.Start → found ≢ code_of state.OnlyResult → after ≡ (view.Consumer (use_of before.0) (consumer.Aware state.Proxy), before.1))
 
   -- A consumer's exchange from OnlyResult. It sets the callback, and takes the result.
-  abbrev pub claims_result : Standing T C P → ℕ → Standing T C P → Type 0
-  claims_result before found after =
-      (r : Try T) × (after ≡ (view.Consumer (use_of before.0) (consumer.Acted (claim_in_hand before.1) (offered.Result r) departed.No), (0, Some (item.Outcome r)) ∷ before.1))
+  abbrev pub demands_result : Standing T C P → ℕ → Standing T C P → Type 0
+  demands_result before found after =
+      (r : Try T) × (after ≡ (view.Consumer (use_of before.0) (consumer.Acted (demand_in_hand before.1) (offered.Result r) departed.No), (0, Some (item.Outcome r)) ∷ before.1))
 
   -- A consumer's exchange from Proxy. It sets the callback, and takes the proxy.
-  abbrev pub claims_proxy : Standing T C P → ℕ → Standing T C P → Type 0
-  claims_proxy before found after =
-      (k : P) × (after ≡ (view.Consumer (use_of before.0) (consumer.Acted (claim_in_hand before.1) (offered.Proxy k) departed.No), (2, Some (item.Proxy k)) ∷ before.1))
+  abbrev pub demands_proxy : Standing T C P → ℕ → Standing T C P → Type 0
+  demands_proxy before found after =
+      (k : P) × (after ≡ (view.Consumer (use_of before.0) (consumer.Acted (demand_in_hand before.1) (offered.Proxy k) departed.No), (2, Some (item.Proxy k)) ∷ before.1))
 
   abbrev pub leaving : Departure → View T C P → View T C P
   leaving left (view.Key number) = view.Key number
-  leaving left (view.Producer number p) = view.Producer number (producer.Acted (offer_of p) (claim_got p) left)
-  leaving left (view.Consumer number c) = view.Consumer number (consumer.Acted (claim_of c) (offer_got c) left)
-  leaving left (view.Husk number offer claim) = view.Husk number offer claim
+  leaving left (view.Producer number p sight) = view.Producer number (producer.Acted (offer_of p) (demand_got p) left) sight
+  leaving left (view.Consumer number c) = view.Consumer number (consumer.Acted (demand_of c) (offer_got c) left)
+  leaving left (view.Husk number offer demand) = view.Husk number offer demand
   leaving left (view.Reopening number) = view.Reopening number
   leaving left (view.Joined number p c) = view.Joined number p c
   leaving left view.Spent = view.Spent
   leaving left view.Clash = view.Clash
 
   -- A half leaves, and gives its slots home. It is the last where it found one half attached.
-  abbrev pub leaves : Standing T C P → ℕ → Standing T C P → Type 0
-  leaves before found after =
+  abbrev pub departs : Standing T C P → ℕ → Standing T C P → Type 0
+  departs before found after =
       (found ≡ 1 → after ≡ (leaving departed.Last before.0, []))
       × (found ≢ 1 → (found ≡ 2) × (after ≡ (leaving departed.First before.0, [])))
+
+  -- Besides, a producer that had seen its consumer leave finds one.
+  abbrev pub leaves : Standing T C P → ℕ → Standing T C P → Type 0
+  leaves before found after = departs before found after × (sight_of before.0 ≡ seen.CallbackLeft → found ≡ 1)
 
   abbrev pub result_left : Offer (Try T) P → Held T C P
   result_left offered.Nothing = None
@@ -167,14 +192,14 @@ module _ {T C P : Type 0} where
   -- The last leaver reads the state that both halves' acts make, and so knows what both have set. It takes all slots with what is left over.
   abbrev pub reads_end : Standing T C P → ℕ → Standing T C P → Type 0
   reads_end before found after =
-      (offer : Offer (Try T) P) × (claim : Claim C) × IsSet offer × Knows before.0 offer claim
-      × (after ≡ (view.Husk (use_of before.0) offer claim, (2, proxy_left (leftover_from offer claim)) ∷ (1, None) ∷ (0, result_left (leftover_from offer claim)) ∷ []))
+      (offer : Offer (Try T) P) × (demand : Demand C) × IsSet offer × Knows before.0 offer demand
+      × (after ≡ (view.Husk (use_of before.0) offer demand, (2, proxy_left (leftover_from offer demand)) ∷ (1, None) ∷ (0, result_left (leftover_from offer demand)) ∷ []))
 
   abbrev pub begin_producer : View T C P → View T C P
-  begin_producer (view.Key number) = view.Producer number producer.Ready
-  begin_producer (view.Producer number p) = view.Producer number p
+  begin_producer (view.Key number) = view.Producer number producer.Ready seen.Unseen
+  begin_producer (view.Producer number p sight) = view.Producer number p sight
   begin_producer (view.Consumer number c) = view.Consumer number c
-  begin_producer (view.Husk number offer claim) = view.Husk number offer claim
+  begin_producer (view.Husk number offer demand) = view.Husk number offer demand
   begin_producer (view.Reopening number) = view.Reopening number
   begin_producer (view.Joined number p c) = view.Joined number p c
   begin_producer view.Spent = view.Spent
@@ -182,9 +207,9 @@ module _ {T C P : Type 0} where
 
   abbrev pub begin_consumer : View T C P → View T C P
   begin_consumer (view.Key number) = view.Consumer number consumer.Ready
-  begin_consumer (view.Producer number p) = view.Producer number p
+  begin_consumer (view.Producer number p sight) = view.Producer number p sight
   begin_consumer (view.Consumer number c) = view.Consumer number c
-  begin_consumer (view.Husk number offer claim) = view.Husk number offer claim
+  begin_consumer (view.Husk number offer demand) = view.Husk number offer demand
   begin_consumer (view.Reopening number) = view.Reopening number
   begin_consumer (view.Joined number p c) = view.Joined number p c
   begin_consumer view.Spent = view.Spent
@@ -193,18 +218,18 @@ module _ {T C P : Type 0} where
   -- a half that may leave: a producer that has acted, or a consumer that has acted or gives up
   abbrev pub IsLeaving : Standing T C P → Type 0
   IsLeaving standing =
-      ((number : ℕ) × (offer : Offer (Try T) P) × (got : Claim C) × IsSet offer × (standing ≡ producer_acted number offer got))
-      ⊎ ((number : ℕ) × (claim : Claim C) × (got : Offer (Try T) P) × (standing ≡ consumer_acted number claim got))
+      ((number : ℕ) × (sight : Sight) × (offer : Offer (Try T) P) × (got : Demand C) × IsSet offer × (standing ≡ producer_acted number sight offer got))
+      ⊎ ((number : ℕ) × (demand : Demand C) × (got : Offer (Try T) P) × (standing ≡ consumer_acted number demand got))
 
   -- a half that was the last to leave
   abbrev pub IsLast : View T C P → Type 0
   IsLast v =
-      ((number : ℕ) × (offer : Offer (Try T) P) × (got : Claim C) × (v ≡ view.Producer number (producer.Acted offer got departed.Last)))
-      ⊎ ((number : ℕ) × (claim : Claim C) × (got : Offer (Try T) P) × (v ≡ view.Consumer number (consumer.Acted claim got departed.Last)))
+      ((number : ℕ) × (sight : Sight) × (offer : Offer (Try T) P) × (got : Demand C) × (v ≡ view.Producer number (producer.Acted offer got departed.Last) sight))
+      ⊎ ((number : ℕ) × (demand : Demand C) × (got : Offer (Try T) P) × (v ≡ view.Consumer number (consumer.Acted demand got departed.Last)))
 
   -- a last leaver that has emptied all slots
-  abbrev pub husk_at : ℕ → Offer (Try T) P → Claim C → Standing T C P
-  husk_at number offer claim = (view.Husk number offer claim, (0, None) ∷ (2, None) ∷ (1, None) ∷ [])
+  abbrev pub husk_at : ℕ → Offer (Try T) P → Demand C → Standing T C P
+  husk_at number offer demand = (view.Husk number offer demand, (0, None) ∷ (2, None) ∷ (1, None) ∷ [])
 
   -- a last leaver that has set the state back
   abbrev pub reopening_at : ℕ → Standing T C P
@@ -221,9 +246,9 @@ module _ {T C P : Type 0} where
   -- a producer's seat with a consumer's put into it
   abbrev pub with_consumer : ℕ → ProducerPhase T C P → View T C P → View T C P
   with_consumer number p (view.Key n) = view.Clash
-  with_consumer number p (view.Producer n q) = view.Clash
+  with_consumer number p (view.Producer n q sight) = view.Clash
   with_consumer number p (view.Consumer n c) = view.Joined number p c
-  with_consumer number p (view.Husk n offer claim) = view.Clash
+  with_consumer number p (view.Husk n offer demand) = view.Clash
   with_consumer number p (view.Reopening n) = view.Clash
   with_consumer number p (view.Joined n q c) = view.Clash
   with_consumer number p view.Spent = view.Clash
@@ -231,9 +256,9 @@ module _ {T C P : Type 0} where
 
   abbrev pub both_halves : View T C P → View T C P → View T C P
   both_halves (view.Key n) v = view.Clash
-  both_halves (view.Producer n p) v = with_consumer n p v
+  both_halves (view.Producer n p sight) v = with_consumer n p v
   both_halves (view.Consumer n c) v = view.Clash
-  both_halves (view.Husk n offer claim) v = view.Clash
+  both_halves (view.Husk n offer demand) v = view.Clash
   both_halves (view.Reopening n) v = view.Clash
   both_halves (view.Joined n p c) v = view.Clash
   both_halves view.Spent v = view.Clash
@@ -242,9 +267,9 @@ module _ {T C P : Type 0} where
   -- A look of a seat that has both halves: they fit.
   abbrev pub HalvesFit : View T C P → Type 0
   HalvesFit (view.Key n) = ⊥
-  HalvesFit (view.Producer n p) = ⊥
+  HalvesFit (view.Producer n p sight) = ⊥
   HalvesFit (view.Consumer n c) = ⊥
-  HalvesFit (view.Husk n offer claim) = ⊥
+  HalvesFit (view.Husk n offer demand) = ⊥
   HalvesFit (view.Reopening n) = ⊥
   HalvesFit (view.Joined n p c) = Fit p c
   HalvesFit view.Spent = ⊥
@@ -257,12 +282,6 @@ module _ {T C P : Type 0} where
   pub record Sits (home : TableId) (seat : Seat (Held T C P) (View T C P)) (standing : Standing T C P) : Type 0 where
     pub of_home : seat.table_id ≡ home
     pub stands : seat.me ≡ standing
-
--- what is left over, as the last leaver gets it
-abbrev pub leftover_as : {T P : Type 0} → Offer (Try T) P → Leftover T P
-leftover_as offered.Nothing = leftover.Nothing
-leftover_as (offered.Result r) = leftover.Outcome r
-leftover_as (offered.Proxy k) = leftover.Proxy k
 
 -- a home has two words and three slots
 pub record IsHome (home : TableId) : Type 0 where

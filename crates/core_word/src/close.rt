@@ -1,17 +1,20 @@
 //! What a home holds when it is closed.
-ghost use Rattle.std.specs.Prelude.{◌≡◌, IsSome};
+ghost use Rattle.std.specs.Prelude.{◌≡◌, ◌≢◌, ◌↔◌, [], ◌∷◌, IsSome};
+ghost use Rattle.std.specs.Bool.{OnTrue, OnFalse};
 ghost use Rattle.std.specs.Slots.{slots_len, slots_items, IsFull};
 ghost use Rattle.atomic_table.specs.Table.{Final};
 ghost use Rattle.fan_base.specs.declared.outcome.Try.{Try};
+ghost use Rattle.core_state.specs.Table.{code_of};
+ghost use Rattle.core_state.specs.declared.table.State.{State};
 ghost use Rattle.core_word.specs.declared.view.Item.{Item};
-ghost use Rattle.core_word.specs.Closing.{IsUntouched};
+ghost use Rattle.core_word.specs.Closing.{IsWaiting, outcome_of, callback_of, proxy_of, HandsOut};
 ghost use Rattle.core_word.specs.Plays.{HasKey};
 ghost use Rattle.core_word.specs.Rule.{StandsFor};
 
-use crate::rule::{CoreRule, Place};
+use crate::rule::{CoreRule, CoreSeat};
 use crate::view::{Item, View};
 use atomic_table::{Closed, Table};
-use core_state::State;
+use core_state::{State, from_code};
 use fan_base::Try;
 use std::alloc::Global;
 use std::mem::ManuallyDrop;
@@ -34,12 +37,12 @@ pub struct Unspent<T, C, P> {
 /// Closes the table of a home. Where the home still has its key, nothing was ever begun.
 pub(crate) fn closed<T, C, P>(
     table: Table<Option<Item<T, C, P>>, View<T, C, P>, (), CoreRule, Global>,
-    key: Option<Place<T, C, P>>,
+    key: Option<CoreSeat<T, C, P>>,
 ) -> Closed<Option<Item<T, C, P>>, Global>
     requires { HasKey table.shared.table_id key }
     ensures counts { (slots_len result.words ≡ table.shared.table_id.words) × (slots_len result.slots ≡ table.shared.table_id.slots) }
     ensures values { IsFull result.words × IsFull result.slots × Final StandsFor (slots_items result.words) (slots_items result.slots) }
-    ensures untouched { IsSome key → IsUntouched (slots_items result.words) (slots_items result.slots) }
+    ensures unbegun { IsSome key → slots_items result.words ≡ code_of State.Start ∷ 2 ∷ [] }
 {
     match key {
         Some(seat) => table.close_with(seat),
@@ -47,127 +50,107 @@ pub(crate) fn closed<T, C, P>(
     }
 }
 
-// A slot that a seat still had comes back with some item, of which nothing is known. One that lies in
-// another's slot goes to the field of its kind, and where that has one already it can only be leaked.
+// Lets go of what can't be there. A slot that a half had when its home was closed comes back with some item, of which
+// nothing is known. A half has none but in the midst of a call of its own, so nothing ever comes here.
 fn leak<X>(stray: X) {
     let _ = unsafe { ManuallyDrop::new_unchecked(stray) };
 }
 
-fn fill<X>(field: Option<X>, stray: X) -> Option<X>
-    ensures { (x : X) → field ≡ Some x → result ≡ Some x }
+fn outcome_in<T, C, P>(slot: Option<Item<T, C, P>>) -> Option<Try<T>>
+    ensures { result ≡ outcome_of slot }
 {
-    match field {
-        None => Some(stray),
-        Some(kept) => {
+    match slot {
+        Some(Item::Outcome(outcome)) => Some(outcome),
+        None => None,
+        Some(stray) => {
             leak(stray);
-            Some(kept)
+            None
         }
     }
+}
+
+fn callback_in<T, C, P>(slot: Option<Item<T, C, P>>) -> Option<C>
+    ensures { result ≡ callback_of slot }
+{
+    match slot {
+        Some(Item::Callback(request)) => Some(request.callback),
+        None => None,
+        Some(stray) => {
+            leak(stray);
+            None
+        }
+    }
+}
+
+fn proxy_in<T, C, P>(slot: Option<Item<T, C, P>>) -> Option<P>
+    ensures { result ≡ proxy_of slot }
+{
+    match slot {
+        Some(Item::Proxy(proxy)) => Some(proxy),
+        None => None,
+        Some(stray) => {
+            leak(stray);
+            None
+        }
+    }
+}
+
+// The item where it waits by the words. Elsewhere none is there.
+fn waiting<X>(waits: bool, item: Option<X>) -> Option<X>
+    ensures waits { OnTrue waits (result ≡ item) }
+    ensures none { OnFalse waits (result ≡ None) }
+{
+    if waits {
+        return item;
+    }
+    leak(item);
+    None
 }
 
 impl<T, C, P> Unspent<T, C, P> {
-    // What the three slots held, each for the field of its kind.
-    pub(crate) fn of_slots(
+    /// What waits in the slots of a home that is closed.
+    pub(crate) fn of_closed(mut closed: Closed<Option<Item<T, C, P>>, Global>) -> Unspent<T, C, P>
+        requires counts { (slots_len closed.words ≡ 2) × (slots_len closed.slots ≡ 3) }
+        requires values { IsFull closed.words × IsFull closed.slots × Final StandsFor (slots_items closed.words) (slots_items closed.slots) }
+        ensures words { slots_items closed.words ≡ code_of result.state ∷ result.attached ∷ [] }
+        ensures slots { HandsOut (slots_items closed.slots) result }
+    {
+        let word = closed.word(0);
+        let attached = closed.word(1);
+        let result_slot = closed.take(0);
+        let callback_slot = closed.take(1);
+        let proxy_slot = closed.take(2);
+        closed.free();
+        let Some(state) = from_code(word) else {
+            unreachable!()
+        };
+        Unspent::of_slots(state, attached, result_slot, callback_slot, proxy_slot)
+    }
+
+    // Each slot's item goes to its own field, where the words say that it waits.
+    fn of_slots(
+        state: State,
+        attached: u64,
         result_slot: Option<Item<T, C, P>>,
         callback_slot: Option<Item<T, C, P>>,
         proxy_slot: Option<Item<T, C, P>>,
-        state: State,
-        attached: u64,
     ) -> Unspent<T, C, P>
-        ensures outcome { (r : Try T) → result_slot ≡ Some (Item.Outcome r) → result.outcome ≡ Some r }
-        ensures callback { (c : C) → callback_slot ≡ Some (Item.Callback c) → result.callback ≡ Some c }
-        ensures proxy { (k : P) → proxy_slot ≡ Some (Item.Proxy k) → result.proxy ≡ Some k }
-        ensures empty { result_slot ≡ None → callback_slot ≡ None → proxy_slot ≡ None → (result.outcome ≡ None) × (result.callback ≡ None) × (result.proxy ≡ None) }
         ensures words { (result.state ≡ state) × (result.attached ≡ attached) }
+        ensures outcome { (r : Try T) → (result.outcome ≡ Some r) ↔ ((attached ≢ 0) × (state ≡ State.OnlyResult) × (result_slot ≡ Some (Item.Outcome r))) }
+        ensures callback { (c : C) → (result.callback ≡ Some c) ↔ ((attached ≢ 0) × IsWaiting state × (callback_of callback_slot ≡ Some c)) }
+        ensures proxy { (k : P) → (result.proxy ≡ Some k) ↔ ((attached ≢ 0) × (state ≡ State.Proxy) × (proxy_slot ≡ Some (Item.Proxy k))) }
     {
-        let (outcome, first) = own_outcome(result_slot);
-        let (callback, second) = own_callback(callback_slot);
-        let (proxy, third) = own_proxy(proxy_slot);
+        let is_attached = attached > 0;
+        let has_outcome = is_attached && matches!(state, State::OnlyResult);
+        let has_callback = is_attached
+            && matches!(state, State::OnlyCallback | State::OnlyCallbackAllowInline);
+        let has_proxy = is_attached && matches!(state, State::Proxy);
         Unspent {
-            outcome,
-            callback,
-            proxy,
+            outcome: waiting(has_outcome, outcome_in(result_slot)),
+            callback: waiting(has_callback, callback_in(callback_slot)),
+            proxy: waiting(has_proxy, proxy_in(proxy_slot)),
             state,
             attached,
         }
-        .with_stray(first)
-        .with_stray(second)
-        .with_stray(third)
-    }
-
-    fn with_stray(self, stray: Option<Item<T, C, P>>) -> Unspent<T, C, P>
-        ensures outcome { (r : Try T) → self.outcome ≡ Some r → result.outcome ≡ Some r }
-        ensures callback { (c : C) → self.callback ≡ Some c → result.callback ≡ Some c }
-        ensures proxy { (k : P) → self.proxy ≡ Some k → result.proxy ≡ Some k }
-        ensures words { (result.state ≡ self.state) × (result.attached ≡ self.attached) }
-        ensures none { stray ≡ None → result ≡ self }
-    {
-        let Unspent {
-            outcome,
-            callback,
-            proxy,
-            state,
-            attached,
-        } = self;
-        match stray {
-            None => Unspent {
-                outcome,
-                callback,
-                proxy,
-                state,
-                attached,
-            },
-            Some(Item::Outcome(stray)) => Unspent {
-                outcome: fill(outcome, stray),
-                callback,
-                proxy,
-                state,
-                attached,
-            },
-            Some(Item::Callback(stray)) => Unspent {
-                outcome,
-                callback: fill(callback, stray),
-                proxy,
-                state,
-                attached,
-            },
-            Some(Item::Proxy(stray)) => Unspent {
-                outcome,
-                callback,
-                proxy: fill(proxy, stray),
-                state,
-                attached,
-            },
-        }
-    }
-}
-
-fn own_outcome<T, C, P>(slot: Option<Item<T, C, P>>) -> (Option<Try<T>>, Option<Item<T, C, P>>)
-    ensures own { (r : Try T) → slot ≡ Some (Item.Outcome r) → result.0 ≡ Some r }
-    ensures empty { slot ≡ None → (result.0 ≡ None) × (result.1 ≡ None) }
-{
-    match slot {
-        Some(Item::Outcome(outcome)) => (Some(outcome), None),
-        stray => (None, stray),
-    }
-}
-
-fn own_callback<T, C, P>(slot: Option<Item<T, C, P>>) -> (Option<C>, Option<Item<T, C, P>>)
-    ensures own { (c : C) → slot ≡ Some (Item.Callback c) → result.0 ≡ Some c }
-    ensures empty { slot ≡ None → (result.0 ≡ None) × (result.1 ≡ None) }
-{
-    match slot {
-        Some(Item::Callback(callback)) => (Some(callback), None),
-        stray => (None, stray),
-    }
-}
-
-fn own_proxy<T, C, P>(slot: Option<Item<T, C, P>>) -> (Option<P>, Option<Item<T, C, P>>)
-    ensures own { (k : P) → slot ≡ Some (Item.Proxy k) → result.0 ≡ Some k }
-    ensures empty { slot ≡ None → (result.0 ≡ None) × (result.1 ≡ None) }
-{
-    match slot {
-        Some(Item::Proxy(proxy)) => (Some(proxy), None),
-        stray => (None, stray),
     }
 }

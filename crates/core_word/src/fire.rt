@@ -11,6 +11,7 @@ pub struct Fire<T, C> {
     no: u64,
     outcome: Try<T>,
     callback: C,
+    inline: bool,
 }
 
 impl<T, C> Model for Fire<T, C> {
@@ -18,17 +19,18 @@ impl<T, C> Model for Fire<T, C> {
 
     ghost Value = { SeenFire T C };
 
-    ghost view = { λ f. record { no = f.no; outcome = f.outcome; callback = f.callback } };
+    ghost view = { λ f. record { no = f.no; outcome = f.outcome; callback = f.callback; inline = f.inline } };
 }
 
 impl<T, C> Fire<T, C> {
-    pub(crate) fn new(no: u64, outcome: Try<T>, callback: C) -> Fire<T, C>
-        ensures { result ≡ record { no = no; outcome = outcome; callback = callback } }
+    pub(crate) fn new(no: u64, outcome: Try<T>, callback: C, inline: bool) -> Fire<T, C>
+        ensures { result ≡ record { no = no; outcome = outcome; callback = callback; inline = inline } }
     {
         Fire {
             no,
             outcome,
             callback,
+            inline,
         }
     }
 
@@ -46,6 +48,14 @@ impl<T, C> Fire<T, C> {
         &self.callback
     }
 
+    /// Whether the callback may be run inline, by whoever has this: it was set with that allowance, and the result was
+    /// set later. The rule is this library's own.
+    pub fn may_inline(&self) -> bool
+        ensures { result ≡ self.now.inline }
+    {
+        self.inline
+    }
+
     /// The core's number, the result and the callback.
     pub fn unpack(self, t: &mut Tally) -> (u64, Try<T>, C)
         ensures parts { result ≡ (self.no, self.outcome, self.callback) }
@@ -55,6 +65,7 @@ impl<T, C> Fire<T, C> {
             no,
             outcome,
             callback,
+            inline: _,
         } = self;
         t.count_handed();
         (no, outcome, callback)
@@ -66,6 +77,7 @@ pub struct Forward<C, P> {
     no: u64,
     callback: C,
     proxy: P,
+    inline: bool,
 }
 
 impl<C, P> Model for Forward<C, P> {
@@ -73,18 +85,26 @@ impl<C, P> Model for Forward<C, P> {
 
     ghost Value = { SeenForward C P };
 
-    ghost view = { λ f. record { no = f.no; callback = f.callback; proxy = f.proxy } };
+    ghost view = { λ f. record { no = f.no; callback = f.callback; proxy = f.proxy; inline = f.inline } };
 }
 
 impl<C, P> Forward<C, P> {
-    pub(crate) fn new(no: u64, callback: C, proxy: P) -> Forward<C, P>
-        ensures { result ≡ record { no = no; callback = callback; proxy = proxy } }
+    pub(crate) fn new(no: u64, callback: C, proxy: P, inline: bool) -> Forward<C, P>
+        ensures { result ≡ record { no = no; callback = callback; proxy = proxy; inline = inline } }
     {
         Forward {
             no,
             callback,
             proxy,
+            inline,
         }
+    }
+
+    /// Whether the callback was set with the allowance to run inline, which goes along with it.
+    pub fn allows(&self) -> bool
+        ensures { result ≡ self.now.inline }
+    {
+        self.inline
     }
 
     /// The callback and the proxy.
@@ -96,6 +116,7 @@ impl<C, P> Forward<C, P> {
             no: _,
             callback,
             proxy,
+            inline: _,
         } = self;
         t.count_forwarded();
         (callback, proxy)

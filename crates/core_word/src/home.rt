@@ -1,6 +1,7 @@
 //! The memory of a core, and the key that begins it.
 ghost use Rattle.std.specs.Prelude.{◌≡◌, ◌≢◌, ◌↔◌, Bool, true, false, IfOk, IfSome, IsSome, IsNone, List};
-ghost use Rattle.core_word.specs.Closing.{IsUnused, IsEnd, HandsOut};
+ghost use Rattle.core_state.specs.Table.{waiting_state};
+ghost use Rattle.core_word.specs.Closing.{NothingBegun, HasNothing, IsEnd, HandsOut};
 ghost use Rattle.core_word.specs.Count.{raised};
 ghost use Rattle.core_word.specs.Rule.{Held};
 ghost use Rattle.core_state.specs.declared.table.State.{State};
@@ -8,11 +9,10 @@ ghost use Rattle.core_state.specs.declared.table.State.{State};
 use crate::close::{self, Unspent};
 use crate::consumer::Consumer;
 use crate::producer::Producer;
-use crate::rule::{Begins, Cells, CoreRule, Place};
+use crate::rule::{Begins, CoreRule, CoreSeat, CoreTable};
 use crate::tally::Tally;
-use crate::view::{Item, View};
+use crate::view::{Item, Sight, View};
 use atomic_table::Table;
-use core_state::from_code;
 use fan_base::Memory;
 use std::alloc::Global;
 use std::marker::Model;
@@ -21,7 +21,7 @@ use std::marker::Model;
 #[derive(Drop)]
 pub struct Home<T, C, P> {
     table: Table<Option<Item<T, C, P>>, View<T, C, P>, (), CoreRule, Global>,
-    key: Option<Place<T, C, P>>,
+    key: Option<CoreSeat<T, C, P>>,
 }
 
 impl<T, C, P> Model for Home<T, C, P> {
@@ -63,35 +63,26 @@ impl<T, C, P> Home<T, C, P> {
         })
     }
 
-    /// Gives the memory back, and hands out what the slots hold. A half can be left over only where its
-    /// owner forgot it, as with a proxy that lies in a slot. What such a half had at that moment may come
-    /// out or not.
+    /// Gives the memory back, and hands out what waits in the slots by the state: a result, a callback or a proxy that
+    /// was set, that nobody got, and that the last leaver didn't take. A half can be left over only where its owner
+    /// forgot it, as with a proxy that lies in a slot.
     pub fn close(self) -> Unspent<T, C, P>
-        ensures untaken { self.taken ≡ false → IsUnused result }
+        ensures untaken { self.taken ≡ false → NothingBegun result }
         ensures ended { (slots : List (Held T C P)) × IsEnd result.state result.attached slots × HandsOut slots result }
+        ensures spent { result.attached ≡ 0 → HasNothing result }
         ensures outcome { result.attached ≢ 0 → result.state ≡ State.OnlyResult → IsSome result.outcome }
-        ensures callback { result.attached ≢ 0 → result.state ≡ State.OnlyCallback → IsSome result.callback }
+        ensures callback { (inline : Bool) → result.attached ≢ 0 → result.state ≡ waiting_state inline → IsSome result.callback }
         ensures proxy { result.attached ≢ 0 → result.state ≡ State.Proxy → IsSome result.proxy }
     {
         let Home { table, key } = self;
-        let mut closed = close::closed(table, key);
-        let word = closed.word(0);
-        let attached = closed.word(1);
-        let result_slot = closed.take(0);
-        let callback_slot = closed.take(1);
-        let proxy_slot = closed.take(2);
-        closed.free();
-        let Some(state) = from_code(word) else {
-            unreachable!()
-        };
-        Unspent::of_slots(result_slot, callback_slot, proxy_slot, state, attached)
+        Unspent::of_closed(close::closed(table, key))
     }
 }
 
 /// The right to begin a use of a home. It may be dropped.
 pub struct Key<'h, T, C, P> {
-    table: &'h Cells<T, C, P>,
-    seat: Place<T, C, P>,
+    table: &'h CoreTable<T, C, P>,
+    seat: CoreSeat<T, C, P>,
 }
 
 impl<'h, T, C, P> Model for Key<'h, T, C, P> {
@@ -110,7 +101,7 @@ impl<'h, T, C, P> Key<'h, T, C, P> {
     ghost use Rattle.core_word.specs.Views.{use_of};
     ghost use Rattle.core_word.specs.Plays.{IsHome, Sits, key_at};
 
-    pub(crate) fn new(table: &'h Cells<T, C, P>, seat: Place<T, C, P>) -> Key<'h, T, C, P>
+    pub(crate) fn new(table: &'h CoreTable<T, C, P>, seat: CoreSeat<T, C, P>) -> Key<'h, T, C, P>
         requires home { IsHome table.now.table_id }
         requires sits { Sits table.now.table_id seat (key_at (use_of seat.me.0)) }
         ensures { result ≡ record { home = table.now.table_id; use_number = use_of seat.me.0 } }
@@ -120,7 +111,7 @@ impl<'h, T, C, P> Key<'h, T, C, P> {
 
     /// Begins a core with this number, in Start, with both halves attached.
     pub fn start(self, no: u64, t: &mut Tally) -> (Producer<'h, T, C, P>, Consumer<'h, T, C, P>)
-        ensures producer { result.0 ≡ record { home = self.entry.home; use_number = self.entry.use_number; no = no } }
+        ensures producer { result.0 ≡ record { home = self.entry.home; use_number = self.entry.use_number; no = no; sight = Sight.Unseen } }
         ensures consumer { result.1 ≡ record { home = self.entry.home; use_number = self.entry.use_number; no = no } }
         ensures tally { t.new ≡ record t.old { made = raised t.old.made } }
     {

@@ -9,11 +9,11 @@ ghost use Rattle.core_word.specs.Rule.{IsSet};
 use crate::consumer::LeftC;
 use crate::left::Husk;
 use crate::producer::LeftP;
-use crate::rule::{Cells, Clashes, Compares, JoinsHalves, Never, Place};
+use crate::rule::{Clashes, Compares, CoreSeat, CoreTable, JoinsHalves, Never};
 use crate::steps;
 
 // Leaves, first or last.
-fn depart<T, C, P>(table: &Cells<T, C, P>, seat: &mut Place<T, C, P>)
+fn depart<T, C, P>(table: &CoreTable<T, C, P>, seat: &mut CoreSeat<T, C, P>)
     requires home { IsHome table.now.table_id }
     requires leaving { (seat.old.table_id ≡ table.now.table_id) × IsLeaving seat.old.me }
     ensures { (left : Departure) × (left ≢ Departure.No) × Sits table.now.table_id seat.new (leaving left seat.old.me.0, []) }
@@ -27,7 +27,7 @@ fn depart<T, C, P>(table: &Cells<T, C, P>, seat: &mut Place<T, C, P>)
 pub fn halves_agree<'h, T, C, P>(producer: LeftP<'h, T, C, P>, consumer: LeftC<'h, T, C, P>)
     requires { (producer.home ≡ consumer.home) × (producer.use_number ≡ consumer.use_number) }
     ensures set { IsSet producer.entry.offer }
-    ensures agree { HaveAgreed producer.entry.offer producer.entry.got consumer.entry.claim consumer.entry.got }
+    ensures agree { HaveAgreed producer.entry.offer producer.entry.got consumer.entry.demand consumer.entry.got }
 {
     let LeftP {
         table,

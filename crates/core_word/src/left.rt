@@ -3,7 +3,7 @@ ghost use Rattle.core_word.specs.Count.{raised};
 ghost use Rattle.std.specs.Prelude.{◌≡◌, suc};
 
 use crate::home::Key;
-use crate::rule::{Cells, Place};
+use crate::rule::{CoreSeat, CoreTable};
 use crate::steps;
 use crate::tally::Tally;
 use core_state::Half;
@@ -32,26 +32,26 @@ pub enum Left<'h, T, C, P> {
 /// Shows that a half has left its core while the other half was attached. It may be dropped.
 pub struct Receipt<T, C, P> {
     half: Half,
-    seat: Place<T, C, P>,
+    seat: CoreSeat<T, C, P>,
 }
 
 impl<T, C, P> Model for Receipt<T, C, P> {
     ghost use Rattle.core_word.specs.Seen.{SeenReceipt};
-    ghost use Rattle.core_word.specs.Views.{use_of, attached_found, offer_in_view, claim_in_view, IsFirstLeave};
+    ghost use Rattle.core_word.specs.Views.{use_of, count_found, offer_in_view, demand_in_view, IsFirstLeave};
 
     ghost Value = { SeenReceipt T C P };
 
-    ghost view = { λ r. record { home = r.seat.table_id; use_number = use_of r.seat.me.0; half = r.half; attached = attached_found r.seat.me.0; offer = offer_in_view r.seat.me.0; claim = claim_in_view r.seat.me.0 } };
+    ghost view = { λ r. record { home = r.seat.table_id; use_number = use_of r.seat.me.0; half = r.half; count_found = count_found r.seat.me.0; offer = offer_in_view r.seat.me.0; demand = demand_in_view r.seat.me.0 } };
 
     ghost invariant = { λ r. IsFirstLeave r.half r.seat.me.0 };
 }
 
 impl<T, C, P> Receipt<T, C, P> {
-    ghost use Rattle.core_word.specs.Views.{use_of, offer_in_view, claim_in_view, IsFirstLeave};
+    ghost use Rattle.core_word.specs.Views.{use_of, offer_in_view, demand_in_view, IsFirstLeave};
 
-    pub(crate) fn new(half: Half, seat: Place<T, C, P>) -> Receipt<T, C, P>
+    pub(crate) fn new(half: Half, seat: CoreSeat<T, C, P>) -> Receipt<T, C, P>
         requires { IsFirstLeave half seat.me.0 }
-        ensures { result ≡ record { home = seat.table_id; use_number = use_of seat.me.0; half = half; attached = 2; offer = offer_in_view seat.me.0; claim = claim_in_view seat.me.0 } }
+        ensures { result ≡ record { home = seat.table_id; use_number = use_of seat.me.0; half = half; count_found = 2; offer = offer_in_view seat.me.0; demand = demand_in_view seat.me.0 } }
     {
         Receipt { half, seat }
     }
@@ -66,30 +66,30 @@ impl<T, C, P> Drop for Receipt<T, C, P> {
 
 /// A core that both halves have left. It must be spent by `end` or `reopen`.
 pub struct Husk<'h, T, C, P> {
-    pub(crate) table: &'h Cells<T, C, P>,
-    pub(crate) seat: Place<T, C, P>,
+    pub(crate) table: &'h CoreTable<T, C, P>,
+    pub(crate) seat: CoreSeat<T, C, P>,
 }
 
 impl<'h, T, C, P> Model for Husk<'h, T, C, P> {
     ghost use Rattle.core_word.specs.Seen.{SeenHusk};
-    ghost use Rattle.core_word.specs.Views.{use_of, offer_in_view, claim_in_view, attached_found};
+    ghost use Rattle.core_word.specs.Views.{use_of, offer_in_view, demand_in_view, count_found};
     ghost use Rattle.core_word.specs.Plays.{IsHome, Sits, husk_at};
 
     ghost Value = { SeenHusk T C P };
 
-    ghost view = { λ h. record { home = h.table.now.table_id; use_number = use_of h.seat.me.0; attached = attached_found h.seat.me.0; offer = offer_in_view h.seat.me.0; claim = claim_in_view h.seat.me.0 } };
+    ghost view = { λ h. record { home = h.table.now.table_id; use_number = use_of h.seat.me.0; count_found = count_found h.seat.me.0; offer = offer_in_view h.seat.me.0; demand = demand_in_view h.seat.me.0 } };
 
-    ghost invariant = { λ h. IsHome h.table.now.table_id × Sits h.table.now.table_id h.seat (husk_at (use_of h.seat.me.0) (offer_in_view h.seat.me.0) (claim_in_view h.seat.me.0)) };
+    ghost invariant = { λ h. IsHome h.table.now.table_id × Sits h.table.now.table_id h.seat (husk_at (use_of h.seat.me.0) (offer_in_view h.seat.me.0) (demand_in_view h.seat.me.0)) };
 }
 
 impl<'h, T, C, P> Husk<'h, T, C, P> {
-    ghost use Rattle.core_word.specs.Views.{use_of, offer_in_view, claim_in_view};
+    ghost use Rattle.core_word.specs.Views.{use_of, offer_in_view, demand_in_view};
     ghost use Rattle.core_word.specs.Plays.{IsHome, Sits, husk_at};
 
-    pub(crate) fn new(table: &'h Cells<T, C, P>, seat: Place<T, C, P>) -> Husk<'h, T, C, P>
+    pub(crate) fn new(table: &'h CoreTable<T, C, P>, seat: CoreSeat<T, C, P>) -> Husk<'h, T, C, P>
         requires home { IsHome table.now.table_id }
-        requires sits { Sits table.now.table_id seat (husk_at (use_of seat.me.0) (offer_in_view seat.me.0) (claim_in_view seat.me.0)) }
-        ensures { result ≡ record { home = table.now.table_id; use_number = use_of seat.me.0; attached = 1; offer = offer_in_view seat.me.0; claim = claim_in_view seat.me.0 } }
+        requires sits { Sits table.now.table_id seat (husk_at (use_of seat.me.0) (offer_in_view seat.me.0) (demand_in_view seat.me.0)) }
+        ensures { result ≡ record { home = table.now.table_id; use_number = use_of seat.me.0; count_found = 1; offer = offer_in_view seat.me.0; demand = demand_in_view seat.me.0 } }
     {
         Husk { table, seat }
     }
@@ -111,7 +111,6 @@ impl<'h, T, C, P> Husk<'h, T, C, P> {
         let Husk { table, mut seat } = self;
         steps::set_back(table, &mut seat);
         steps::attach_both(table, &mut seat);
-        t.count_freed();
         t.count_reopened();
         Key::new(table, seat)
     }

@@ -27,10 +27,11 @@ mod view;
 
 pub use close::Unspent;
 pub use consumer::{Consumer, LeftC, Met};
-pub use core_state::{Claim, Half, Offer, State};
+pub use core_state::{Demand, Half, Offer, Request, State};
 pub use fire::{Fire, Forward};
 pub use home::{Home, Key};
 pub use laws::{halves_agree, one_husk};
 pub use left::{Husk, Left, Leftover, Receipt};
 pub use producer::{Landed, LeftP, Passed, Producer};
 pub use tally::Tally;
+pub use view::Sight;

@@ -1,15 +1,15 @@
 //! The producer's half of a core.
-ghost use Rattle.std.specs.Prelude.{◌≡◌, ◌<◌};
+ghost use Rattle.std.specs.Prelude.{◌≡◌, ◌≢◌, ◌<◌};
 ghost use Rattle.core_state.specs.Schedule.{leftover_from};
-ghost use Rattle.core_word.specs.Answers.{LandsAt, PassesAt, MatchLeft, IfLast};
-ghost use Rattle.core_word.specs.Plays.{leftover_as};
-ghost use Rattle.core_word.specs.Views.{GotClaim};
+ghost use Rattle.core_word.specs.Answers.{LandsAt, PassesAt, IsFire, IsForward, MatchLeft, IfLast, IsLastLeave, leftover_as};
+ghost use Rattle.core_word.specs.Views.{IsAwaited, GotDemand};
 
 use crate::fire::{Fire, Forward};
 use crate::left::{Husk, Left, Receipt};
-use crate::rule::{Cells, Place};
+use crate::rule::{CoreSeat, CoreTable};
 use crate::steps;
-use core_state::{Half, Offer};
+use crate::view::Sight;
+use core_state::{Half, Offer, Request};
 use fan_base::Try;
 use std::marker::Model;
 
@@ -17,7 +17,7 @@ use std::marker::Model;
 pub enum Landed<T, C> {
     /// No callback was there.
     Waiting,
-    /// A callback was there: it gets this result.
+    /// A callback was there: it gets this result, and may run inline where it was set with that allowance.
     Fire(Fire<T, C>),
 }
 
@@ -25,43 +25,59 @@ pub enum Landed<T, C> {
 pub enum Passed<C, P> {
     /// No callback was there.
     Waiting,
-    /// A callback was there: it goes to this proxy.
+    /// A callback was there: it goes to this proxy, with its allowance to run inline, if any.
     Forward(Forward<C, P>),
 }
 
 /// The half that sets a result or names a proxy. It must be spent.
 pub struct Producer<'h, T, C, P> {
-    table: &'h Cells<T, C, P>,
-    seat: Place<T, C, P>,
+    table: &'h CoreTable<T, C, P>,
+    seat: CoreSeat<T, C, P>,
     no: u64,
 }
 
 impl<'h, T, C, P> Model for Producer<'h, T, C, P> {
-    ghost use Rattle.core_word.specs.Seen.{SeenHalf};
-    ghost use Rattle.core_word.specs.Views.{use_of};
+    ghost use Rattle.core_word.specs.Seen.{SeenProducer};
+    ghost use Rattle.core_word.specs.Views.{use_of, sight_of};
     ghost use Rattle.core_word.specs.Plays.{IsHome, Sits, producer_ready};
 
-    ghost Value = { SeenHalf };
+    ghost Value = { SeenProducer };
 
-    ghost view = { λ p. record { home = p.table.now.table_id; use_number = use_of p.seat.me.0; no = p.no } };
+    ghost view = { λ p. record { home = p.table.now.table_id; use_number = use_of p.seat.me.0; no = p.no; sight = sight_of p.seat.me.0 } };
 
-    ghost invariant = { λ p. IsHome p.table.now.table_id × Sits p.table.now.table_id p.seat (producer_ready (use_of p.seat.me.0)) };
+    ghost invariant = { λ p. IsHome p.table.now.table_id × Sits p.table.now.table_id p.seat (producer_ready (use_of p.seat.me.0) (sight_of p.seat.me.0)) };
 }
 
 impl<'h, T, C, P> Producer<'h, T, C, P> {
-    ghost use Rattle.core_word.specs.Views.{use_of};
+    ghost use Rattle.core_word.specs.Views.{use_of, sight_of};
     ghost use Rattle.core_word.specs.Plays.{IsHome, Sits, producer_ready};
 
     pub(crate) fn new(
-        table: &'h Cells<T, C, P>,
-        seat: Place<T, C, P>,
+        table: &'h CoreTable<T, C, P>,
+        seat: CoreSeat<T, C, P>,
         no: u64,
     ) -> Producer<'h, T, C, P>
         requires home { IsHome table.now.table_id }
-        requires sits { Sits table.now.table_id seat (producer_ready (use_of seat.me.0)) }
-        ensures { result ≡ record { home = table.now.table_id; use_number = use_of seat.me.0; no = no } }
+        requires sits { Sits table.now.table_id seat (producer_ready (use_of seat.me.0) (sight_of seat.me.0)) }
+        ensures { result ≡ record { home = table.now.table_id; use_number = use_of seat.me.0; no = no; sight = sight_of seat.me.0 } }
     {
         Producer { table, seat, no }
+    }
+
+    /// Looks what the consumer has done so far: first whether its callback is set, and if so, whether it has left. After
+    /// `Callback` this producer's act is a Fire or a Forward, and after `CallbackLeft` its leave is the last one too.
+    /// After `NoCallback` either may come.
+    pub fn look(&mut self) -> Sight
+        ensures kept { self.new ≡ record self.old { sight = result } }
+        ensures seen { result ≢ Sight.Unseen }
+    {
+        if !steps::look_for_callback(self.table, &mut self.seat) {
+            return Sight::NoCallback;
+        }
+        if !steps::look_for_leave(self.table, &mut self.seat) {
+            return Sight::Callback;
+        }
+        Sight::CallbackLeft
     }
 
     /// Gives the result up. It is handed to the callback by the later of the two halves, here where a
@@ -69,7 +85,9 @@ impl<'h, T, C, P> Producer<'h, T, C, P> {
     pub fn set_result(self, outcome: Try<T>) -> (Landed<T, C>, LeftP<'h, T, C, P>)
         ensures home { (result.1.home ≡ self.entry.home) × (result.1.use_number ≡ self.entry.use_number) × (result.1.no ≡ self.entry.no) }
         ensures act { result.1.offer ≡ Offer.Result outcome }
+        ensures sight { result.1.sight ≡ self.entry.sight }
         ensures answer { LandsAt result.1.found result.1.got self.entry.no outcome result.0 }
+        ensures awaited { IsAwaited self.entry.sight → IsFire result.0 }
     {
         let Producer {
             table,
@@ -77,12 +95,13 @@ impl<'h, T, C, P> Producer<'h, T, C, P> {
             no,
         } = self;
         steps::take_result_slot(table, &mut seat);
-        if steps::set_first_result(table, &mut seat, outcome) {
+        let Some(inline) = steps::set_first_result(table, &mut seat, outcome) else {
             return (Landed::Waiting, LeftP { table, seat, no });
-        }
-        let (outcome, callback) = steps::set_second_result(table, &mut seat);
+        };
+        let (outcome, request) = steps::set_second_result(table, &mut seat, inline);
+        let Request { callback, inline } = request;
         (
-            Landed::Fire(Fire::new(no, outcome, callback)),
+            Landed::Fire(Fire::new(no, outcome, callback, inline)),
             LeftP { table, seat, no },
         )
     }
@@ -92,7 +111,9 @@ impl<'h, T, C, P> Producer<'h, T, C, P> {
     pub fn set_proxy(self, to: P) -> (Passed<C, P>, LeftP<'h, T, C, P>)
         ensures home { (result.1.home ≡ self.entry.home) × (result.1.use_number ≡ self.entry.use_number) × (result.1.no ≡ self.entry.no) }
         ensures act { result.1.offer ≡ Offer.Proxy to }
+        ensures sight { result.1.sight ≡ self.entry.sight }
         ensures answer { PassesAt result.1.found result.1.got self.entry.no to result.0 }
+        ensures awaited { IsAwaited self.entry.sight → IsForward result.0 }
     {
         let Producer {
             table,
@@ -100,12 +121,13 @@ impl<'h, T, C, P> Producer<'h, T, C, P> {
             no,
         } = self;
         steps::take_proxy_slot(table, &mut seat);
-        if steps::set_first_proxy(table, &mut seat, to) {
+        let Some(inline) = steps::set_first_proxy(table, &mut seat, to) else {
             return (Passed::Waiting, LeftP { table, seat, no });
-        }
-        let (proxy, callback) = steps::set_second_proxy(table, &mut seat);
+        };
+        let (proxy, request) = steps::set_second_proxy(table, &mut seat, inline);
+        let Request { callback, inline } = request;
         (
-            Passed::Forward(Forward::new(no, callback, proxy)),
+            Passed::Forward(Forward::new(no, callback, proxy, inline)),
             LeftP { table, seat, no },
         )
     }
@@ -113,32 +135,33 @@ impl<'h, T, C, P> Producer<'h, T, C, P> {
 
 /// A producer that has acted. It must be spent by `leave`.
 pub struct LeftP<'h, T, C, P> {
-    pub(crate) table: &'h Cells<T, C, P>,
-    pub(crate) seat: Place<T, C, P>,
+    pub(crate) table: &'h CoreTable<T, C, P>,
+    pub(crate) seat: CoreSeat<T, C, P>,
     pub(crate) no: u64,
 }
 
 impl<'h, T, C, P> Model for LeftP<'h, T, C, P> {
     ghost use Rattle.core_word.specs.Seen.{SeenLeftP};
-    ghost use Rattle.core_word.specs.Views.{use_of, offer_in_view, claim_in_view};
+    ghost use Rattle.core_word.specs.Views.{use_of, sight_of, offer_in_view, demand_in_view};
     ghost use Rattle.core_word.specs.Rule.{IsSet};
     ghost use Rattle.core_word.specs.Plays.{IsHome, Sits, producer_acted, found_by_producer};
 
     ghost Value = { SeenLeftP T C P };
 
-    ghost view = { λ p. record { home = p.table.now.table_id; use_number = use_of p.seat.me.0; no = p.no; offer = offer_in_view p.seat.me.0; found = found_by_producer (claim_in_view p.seat.me.0); got = claim_in_view p.seat.me.0 } };
+    ghost view = { λ p. record { home = p.table.now.table_id; use_number = use_of p.seat.me.0; no = p.no; offer = offer_in_view p.seat.me.0; found = found_by_producer (demand_in_view p.seat.me.0); got = demand_in_view p.seat.me.0; sight = sight_of p.seat.me.0 } };
 
-    ghost invariant = { λ p. IsHome p.table.now.table_id × IsSet (offer_in_view p.seat.me.0) × Sits p.table.now.table_id p.seat (producer_acted (use_of p.seat.me.0) (offer_in_view p.seat.me.0) (claim_in_view p.seat.me.0)) };
+    ghost invariant = { λ p. IsHome p.table.now.table_id × IsSet (offer_in_view p.seat.me.0) × Sits p.table.now.table_id p.seat (producer_acted (use_of p.seat.me.0) (sight_of p.seat.me.0) (offer_in_view p.seat.me.0) (demand_in_view p.seat.me.0)) };
 }
 
 impl<'h, T, C, P> LeftP<'h, T, C, P> {
     /// Leaves the core. The later of the two halves gets the husk, with what is left over.
     pub fn leave(self) -> Left<'h, T, C, P>
+        ensures last { self.entry.sight ≡ Sight.CallbackLeft → IsLastLeave result }
         ensures home { MatchLeft result (λ receipt. receipt.home ≡ self.entry.home) (λ leftover husk. husk.home ≡ self.entry.home) }
         ensures use_number { MatchLeft result (λ receipt. receipt.use_number ≡ self.entry.use_number) (λ leftover husk. husk.use_number ≡ self.entry.use_number) }
-        ensures count { MatchLeft result (λ receipt. (receipt.half ≡ Half.Producer) × (1 < receipt.attached)) (λ leftover husk. husk.attached ≡ 1) }
-        ensures acts { MatchLeft result (λ receipt. (receipt.offer ≡ self.entry.offer) × (receipt.claim ≡ self.entry.got)) (λ leftover husk. (husk.offer ≡ self.entry.offer) × GotClaim self.entry.got husk.claim) }
-        ensures leftover { IfLast result (λ leftover husk. leftover ≡ leftover_as (leftover_from husk.offer husk.claim)) }
+        ensures count { MatchLeft result (λ receipt. (receipt.half ≡ Half.Producer) × (1 < receipt.count_found)) (λ leftover husk. husk.count_found ≡ 1) }
+        ensures acts { MatchLeft result (λ receipt. (receipt.offer ≡ self.entry.offer) × (receipt.demand ≡ self.entry.got)) (λ leftover husk. (husk.offer ≡ self.entry.offer) × GotDemand self.entry.got husk.demand) }
+        ensures leftover { IfLast result (λ leftover husk. leftover ≡ leftover_as (leftover_from husk.offer husk.demand)) }
     {
         let LeftP {
             table,

@@ -1,17 +1,17 @@
 //! The rule of a home's table, and what each step on it tells. These types are for the proofs alone.
-ghost use Rattle.core_word.specs.declared.view.Own.TheVariants as own;
+ghost use Rattle.core_word.specs.declared.view.ProducerSlot.TheVariants as slot;
 ghost use Rattle.core_word.specs.Rule.{StandsFor};
-ghost use Rattle.core_word.specs.Plays.{takes_own, takes_callback_slot, sets_first, sets_second, claims_first, claims_result, claims_proxy, leaves, reads_end, sets_back, reopens, compares, both_halves, begin_producer, begin_consumer};
+ghost use Rattle.core_word.specs.Plays.{takes_producer_slot, takes_callback_slot, looks_for_callback, looks_for_leave, sets_first, sets_second, demands_first, demands_result, demands_proxy, leaves, reads_end, sets_back, reopens, compares, both_halves, begin_producer, begin_consumer};
 ghost use Rattle.core_word.specs.declared.view.View.TheVariants as view;
 
 use crate::view::{Item, View};
 use atomic_table::{Join, Play, Seat, Shared, Split, TableRule};
 
 /// The words and slots of a home, as its halves share them.
-pub(crate) type Cells<T, C, P> = Shared<Option<Item<T, C, P>>, View<T, C, P>, (), CoreRule>;
+pub(crate) type CoreTable<T, C, P> = Shared<Option<Item<T, C, P>>, View<T, C, P>, (), CoreRule>;
 
 /// The seat of a half.
-pub(crate) type Place<T, C, P> = Seat<Option<Item<T, C, P>>, View<T, C, P>>;
+pub(crate) type CoreSeat<T, C, P> = Seat<Option<Item<T, C, P>>, View<T, C, P>>;
 
 pub(crate) struct CoreRule;
 
@@ -24,13 +24,13 @@ impl<T, C, P> TableRule<Option<Item<T, C, P>>, View<T, C, P>, ()> for CoreRule {
 pub(crate) struct TakesResultSlot;
 
 impl<T, C, P> Play<Option<Item<T, C, P>>, View<T, C, P>> for TakesResultSlot {
-    ghost then = { λ _. takes_own own.Result };
+    ghost then = { λ _. takes_producer_slot slot.Result };
 }
 
 pub(crate) struct TakesProxySlot;
 
 impl<T, C, P> Play<Option<Item<T, C, P>>, View<T, C, P>> for TakesProxySlot {
-    ghost then = { λ _. takes_own own.Proxy };
+    ghost then = { λ _. takes_producer_slot slot.Proxy };
 }
 
 pub(crate) struct TakesCallbackSlot;
@@ -39,16 +39,28 @@ impl<T, C, P> Play<Option<Item<T, C, P>>, View<T, C, P>> for TakesCallbackSlot {
     ghost then = { λ _. takes_callback_slot };
 }
 
+pub(crate) struct LooksForCallback;
+
+impl<T, C, P> Play<Option<Item<T, C, P>>, View<T, C, P>> for LooksForCallback {
+    ghost then = { λ _. looks_for_callback };
+}
+
+pub(crate) struct LooksForLeave;
+
+impl<T, C, P> Play<Option<Item<T, C, P>>, View<T, C, P>> for LooksForLeave {
+    ghost then = { λ _. looks_for_leave };
+}
+
 pub(crate) struct SetsResult;
 
 impl<T, C, P> Play<Option<Item<T, C, P>>, View<T, C, P>> for SetsResult {
-    ghost then = { λ _. sets_first own.Result };
+    ghost then = { λ _. sets_first slot.Result };
 }
 
 pub(crate) struct SetsProxy;
 
 impl<T, C, P> Play<Option<Item<T, C, P>>, View<T, C, P>> for SetsProxy {
-    ghost then = { λ _. sets_first own.Proxy };
+    ghost then = { λ _. sets_first slot.Proxy };
 }
 
 pub(crate) struct SetsSecond;
@@ -57,22 +69,22 @@ impl<T, C, P> Play<Option<Item<T, C, P>>, View<T, C, P>> for SetsSecond {
     ghost then = { λ _. sets_second };
 }
 
-pub(crate) struct ClaimsFirst;
+pub(crate) struct DemandsFirst;
 
-impl<T, C, P> Play<Option<Item<T, C, P>>, View<T, C, P>> for ClaimsFirst {
-    ghost then = { λ _. claims_first };
+impl<T, C, P> Play<Option<Item<T, C, P>>, View<T, C, P>> for DemandsFirst {
+    ghost then = { λ _. demands_first };
 }
 
-pub(crate) struct ClaimsResult;
+pub(crate) struct DemandsResult;
 
-impl<T, C, P> Play<Option<Item<T, C, P>>, View<T, C, P>> for ClaimsResult {
-    ghost then = { λ _. claims_result };
+impl<T, C, P> Play<Option<Item<T, C, P>>, View<T, C, P>> for DemandsResult {
+    ghost then = { λ _. demands_result };
 }
 
-pub(crate) struct ClaimsProxy;
+pub(crate) struct DemandsProxy;
 
-impl<T, C, P> Play<Option<Item<T, C, P>>, View<T, C, P>> for ClaimsProxy {
-    ghost then = { λ _. claims_proxy };
+impl<T, C, P> Play<Option<Item<T, C, P>>, View<T, C, P>> for DemandsProxy {
+    ghost then = { λ _. demands_proxy };
 }
 
 pub(crate) struct Leaves;

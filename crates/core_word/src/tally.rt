@@ -109,9 +109,11 @@ impl Tally {
         self.freed = self.freed.saturating_add(1);
     }
 
+    // A home that is reopened is that of a freed core.
     pub(crate) fn count_reopened(&mut self)
-        ensures { self.new ≡ record self.old { reopened = raised self.old.reopened } }
+        ensures { self.new ≡ record self.old { freed = raised self.old.freed; reopened = raised self.old.reopened } }
     {
+        self.freed = self.freed.saturating_add(1);
         self.reopened = self.reopened.saturating_add(1);
     }
 }

@@ -1,7 +1,8 @@
 ghost use Rattle.std.specs.Prelude.{◌≡◌, ◌<◌};
 
 use crate::{
-    Consumer, Home, Key, Landed, Left, Leftover, Met, Passed, Producer, State, Tally, Unspent,
+    Consumer, Home, Key, Landed, Left, LeftC, LeftP, Leftover, Met, Passed, Producer, Sight, State,
+    Tally, Unspent,
 };
 use fan_base::Try;
 use std::alloc::{AllocError, Global};
@@ -18,16 +19,19 @@ type Numbers = Home<u64, u64, u64>;
 #[derive(Debug, PartialEq, Eq, Drop)]
 enum Answer {
     Waiting,
-    Fire(u64, Try<u64>, u64),
-    Forward(u64, u64),
+    /// The core's number, the outcome, the callback, and whether it may run inline.
+    Fire(u64, Try<u64>, u64, bool),
+    /// The callback, the proxy, and whether the callback has the allowance.
+    Forward(u64, u64, bool),
 }
 
 fn landed(landed: Landed<u64, u64>, t: &mut Tally) -> Answer {
     match landed {
         Landed::Waiting => Answer::Waiting,
         Landed::Fire(fire) => {
+            let inline = fire.may_inline();
             let (no, outcome, callback) = fire.unpack(t);
-            Answer::Fire(no, outcome, callback)
+            Answer::Fire(no, outcome, callback, inline)
         }
     }
 }
@@ -36,8 +40,9 @@ fn passed(passed: Passed<u64, u64>, t: &mut Tally) -> Answer {
     match passed {
         Passed::Waiting => Answer::Waiting,
         Passed::Forward(forward) => {
+            let inline = forward.allows();
             let (callback, proxy) = forward.unpack(t);
-            Answer::Forward(callback, proxy)
+            Answer::Forward(callback, proxy, inline)
         }
     }
 }
@@ -46,12 +51,14 @@ fn met(met: Met<u64, u64, u64>, t: &mut Tally) -> Answer {
     match met {
         Met::Waiting => Answer::Waiting,
         Met::Fire(fire) => {
+            let inline = fire.may_inline();
             let (no, outcome, callback) = fire.unpack(t);
-            Answer::Fire(no, outcome, callback)
+            Answer::Fire(no, outcome, callback, inline)
         }
         Met::Forward(forward) => {
+            let inline = forward.allows();
             let (callback, proxy) = forward.unpack(t);
-            Answer::Forward(callback, proxy)
+            Answer::Forward(callback, proxy, inline)
         }
     }
 }
@@ -99,7 +106,7 @@ fn callback_first_then_result(rt: HostRuntime) -> Result<(), Fail> {
     let third = left(producer.leave(), &mut t);
     let fourth = left(consumer.leave(), &mut t);
     assert_eq!(rt; first, Answer::Waiting);
-    assert_eq!(rt; second, Answer::Fire(9, Try::Value(5), 7));
+    assert_eq!(rt; second, Answer::Fire(9, Try::Value(5), 7, false));
     assert_eq!(rt; third, None);
     assert_eq!(rt; fourth, Some(Leftover::Nothing));
     assert_eq!(rt; counts(&t), (1, 1, 0, 1, 0));
@@ -120,7 +127,7 @@ fn result_first_then_callback(rt: HostRuntime) -> Result<(), Fail> {
     let fourth = left(consumer.leave(), &mut t);
     assert_eq!(rt; first, Answer::Waiting);
     assert_eq!(rt; second, None);
-    assert_eq!(rt; third, Answer::Fire(9, Try::Value(5), 7));
+    assert_eq!(rt; third, Answer::Fire(9, Try::Value(5), 7, false));
     assert_eq!(rt; fourth, Some(Leftover::Nothing));
     assert_eq!(rt; counts(&t), (1, 1, 0, 1, 0));
     Ok(())
@@ -174,10 +181,128 @@ fn proxy_is_left_over_or_gets_the_callback(rt: HostRuntime) -> Result<(), Fail> 
     let third = left(consumer.leave(), &mut t);
     let fourth = left(producer.leave(), &mut t);
     assert_eq!(rt; first, Answer::Waiting);
-    assert_eq!(rt; second, Answer::Forward(7, 3));
+    assert_eq!(rt; second, Answer::Forward(7, 3, false));
     assert_eq!(rt; third, None);
     assert_eq!(rt; fourth, Some(Leftover::Nothing));
     assert_eq!(rt; counts(&t), (2, 0, 1, 2, 0));
+    Ok(())
+}
+
+// One use of a home: who acts first, and how.
+#[derive(Drop)]
+struct Case {
+    callback_first: bool,
+    inline: bool,
+    is_proxy: bool,
+}
+
+fn asked<'h>(
+    consumer: Consumer<'h, u64, u64, u64>,
+    inline: bool,
+    t: &mut Tally,
+) -> (Answer, LeftC<'h, u64, u64, u64>) {
+    let (answer, consumer) = if inline {
+        consumer.set_callback_inline(7)
+    } else {
+        consumer.set_callback(7)
+    };
+    (met(answer, t), consumer)
+}
+
+fn given<'h>(
+    producer: Producer<'h, u64, u64, u64>,
+    is_proxy: bool,
+    t: &mut Tally,
+) -> (Answer, LeftP<'h, u64, u64, u64>) {
+    if is_proxy {
+        let (answer, producer) = producer.set_proxy(3);
+        return (passed(answer, t), producer);
+    }
+    let (answer, producer) = producer.set_result(Try::Value(5));
+    (landed(answer, t), producer)
+}
+
+fn reopened<'h>(left: Left<'h, u64, u64, u64>, t: &mut Tally) -> Option<Key<'h, u64, u64, u64>> {
+    match left {
+        Left::First(_) => None,
+        Left::Last(_, husk) => Some(husk.reopen(t)),
+    }
+}
+
+// What the first and the second act answer, and the key of the next use.
+fn used_once<'h>(
+    key: Key<'h, u64, u64, u64>,
+    case: Case,
+    t: &mut Tally,
+) -> (Answer, Answer, Option<Key<'h, u64, u64, u64>>) {
+    let (producer, consumer) = key.start(9, t);
+    if case.callback_first {
+        let (first, consumer) = asked(consumer, case.inline, t);
+        let (second, producer) = given(producer, case.is_proxy, t);
+        let key = reopened(consumer.leave(), t);
+        return (first, second, key.or(reopened(producer.leave(), t)));
+    }
+    let (first, producer) = given(producer, case.is_proxy, t);
+    let (second, consumer) = asked(consumer, case.inline, t);
+    let key = reopened(producer.leave(), t);
+    (first, second, key.or(reopened(consumer.leave(), t)))
+}
+
+#[test]
+fn an_inline_allowance_goes_to_the_later_act(rt: HostRuntime) -> Result<(), Fail> {
+    let mut home = numbers(rt.alloc())?;
+    let mut t = Tally::new();
+    // Callback first, inline, proxy: the fire or the forward, with its allowance.
+    let fire = |inline| Answer::Fire(9, Try::Value(5), 7, inline);
+    let cases = [
+        (true, false, false, fire(false)),
+        (true, true, false, fire(true)),
+        (false, false, false, fire(false)),
+        (false, true, false, fire(false)),
+        (true, false, true, Answer::Forward(7, 3, false)),
+        (true, true, true, Answer::Forward(7, 3, true)),
+        (false, false, true, Answer::Forward(7, 3, false)),
+        (false, true, true, Answer::Forward(7, 3, true)),
+    ];
+    let mut next = home.key();
+    for (callback_first, inline, is_proxy, wanted) in cases {
+        let key = next.take().expect(&rt, "the home was reopened");
+        let case = Case {
+            callback_first,
+            inline,
+            is_proxy,
+        };
+        let (first, second, key) = used_once(key, case, &mut t);
+        next = key;
+        assert_eq!(rt; first, Answer::Waiting);
+        assert_eq!(rt; second, wanted);
+    }
+    drop(next);
+    assert_eq!(rt; counts(&t), (8, 4, 4, 8, 8));
+    assert_eq!(rt; rest(home), (None, None, None, State::Start, 2));
+    Ok(())
+}
+
+#[test]
+fn a_producer_learns_of_its_callback_before_it_acts(rt: HostRuntime) -> Result<(), Fail> {
+    let mut home = numbers(rt.alloc())?;
+    let mut t = Tally::new();
+    let (mut producer, consumer) = begun(&mut home, 9, &mut t)?;
+    let first = producer.look();
+    let (answer, consumer) = consumer.set_callback(7);
+    met(answer, &mut t);
+    let second = producer.look();
+    let third = left(consumer.leave(), &mut t);
+    let fourth = producer.look();
+    let (answer, producer) = producer.set_result(Try::Value(5));
+    let fifth = landed(answer, &mut t);
+    let sixth = left(producer.leave(), &mut t);
+    assert_eq!(rt; first, Sight::NoCallback);
+    assert_eq!(rt; second, Sight::Callback);
+    assert_eq!(rt; third, None);
+    assert_eq!(rt; fourth, Sight::CallbackLeft);
+    assert_eq!(rt; fifth, Answer::Fire(9, Try::Value(5), 7, false));
+    assert_eq!(rt; sixth, Some(Leftover::Nothing));
     Ok(())
 }
 
@@ -217,9 +342,11 @@ impl<'h> Driven<'h> {
     fn answered(&mut self, n: u64, answer: Answer) {
         let is_own = match answer {
             Answer::Waiting => true,
-            Answer::Fire(no, Try::Value(value), callback) => no == n && value == n && callback == n,
+            Answer::Fire(no, Try::Value(value), callback, _) => {
+                no == n && value == n && callback == n
+            }
             Answer::Fire(..) => false,
-            Answer::Forward(callback, proxy) => callback == n && proxy == n,
+            Answer::Forward(callback, proxy, _) => callback == n && proxy == n,
         };
         if !is_own {
             self.strangers = self.strangers.saturating_add(1);
@@ -403,10 +530,20 @@ fn outcome_spent(outcome: Try<Token>) -> u64 {
     }
 }
 
-fn slot_spent(slot: Option<Token>) -> u64 {
+// The outcome of tokens as one of numbers.
+fn outcome_read(outcome: Try<Token>) -> Try<u64> {
+    match outcome {
+        Try::Value(token) => Try::Value(spent(token)),
+        Try::Broken => Try::Broken,
+        Try::Memory => Try::Memory,
+        Try::Cancelled(n) => Try::Cancelled(n),
+    }
+}
+
+fn slot_read(slot: Option<Token>) -> Option<u64> {
     match slot {
-        Some(token) => spent(token),
-        None => 0,
+        Some(token) => Some(spent(token)),
+        None => None,
     }
 }
 
@@ -425,7 +562,9 @@ fn token_left(left: Left<'_, Token, Token, Token>, t: &mut Tally) -> u64 {
     }
 }
 
-fn closed(home: Home<Token, Token, Token>) -> (u64, u64, u64, State, u64) {
+type Rest = (Option<Try<u64>>, Option<u64>, Option<u64>, State, u64);
+
+fn closed(home: Home<Token, Token, Token>) -> Rest {
     let Unspent {
         outcome,
         callback,
@@ -434,13 +573,13 @@ fn closed(home: Home<Token, Token, Token>) -> (u64, u64, u64, State, u64) {
         attached,
     } = home.close();
     let outcome = match outcome {
-        Some(outcome) => outcome_spent(outcome),
-        None => 0,
+        Some(outcome) => Some(outcome_read(outcome)),
+        None => None,
     };
     (
         outcome,
-        slot_spent(callback),
-        slot_spent(proxy),
+        slot_read(callback),
+        slot_read(proxy),
         state,
         attached,
     )
@@ -490,16 +629,16 @@ fn values_that_cannot_be_dropped_come_out(rt: HostRuntime) -> Result<(), Fail> {
     let through = tokens_through(&mut home, false, &mut t);
     let rest = closed(home);
     assert_eq!(rt; through, (75, 0, 0));
-    assert_eq!(rt; rest, (0, 0, 0, State::Done, 0));
+    assert_eq!(rt; rest, (None, None, None, State::Done, 0));
 
     let mut home = Home::new(rt.alloc()).map_err(|_| AllocError)?;
     let through = tokens_through(&mut home, true, &mut t);
     let rest = closed(home);
     assert_eq!(rt; through, (0, 0, 5));
-    assert_eq!(rt; rest, (0, 0, 0, State::OnlyResult, 0));
+    assert_eq!(rt; rest, (None, None, None, State::OnlyResult, 0));
 
     let home = Home::new(rt.alloc()).map_err(|_| AllocError)?;
-    assert_eq!(rt; closed(home), (0, 0, 0, State::Start, 2));
+    assert_eq!(rt; closed(home), (None, None, None, State::Start, 2));
     assert_eq!(rt; counts(&t), (2, 1, 0, 2, 0));
     Ok(())
 }
@@ -508,8 +647,6 @@ fn values_that_cannot_be_dropped_come_out(rt: HostRuntime) -> Result<(), Fail> {
 fn forget<X>(value: X) {
     let _ = unsafe { ManuallyDrop::new_unchecked(value) };
 }
-
-type Rest = (Option<Try<u64>>, Option<u64>, Option<u64>, State, u64);
 
 fn rest(home: Numbers) -> Rest {
     let Unspent {
@@ -553,13 +690,12 @@ fn with_a_proxy(alloc: Global, leaves: bool) -> Result<Rest, AllocError> {
     Ok(rest(home))
 }
 
-fn with_a_callback(alloc: Global, leaves: bool) -> Result<Rest, AllocError> {
+fn with_a_callback(alloc: Global, inline: bool, leaves: bool) -> Result<Rest, AllocError> {
     let mut home = numbers(alloc)?;
     let mut t = Tally::new();
     let (producer, consumer) = begun(&mut home, 1, &mut t)?;
     forget(producer);
-    let (answer, consumer) = consumer.set_callback(7);
-    met(answer, &mut t);
+    let (_, consumer) = asked(consumer, inline, &mut t);
     if leaves {
         left(consumer.leave(), &mut t);
     } else {
@@ -582,12 +718,16 @@ fn what_waits_in_a_closed_home_comes_out(rt: HostRuntime) -> Result<(), Fail> {
         (result, None, None, State::OnlyResult, 1)
     );
     assert_eq!(rt;
-        with_a_callback(alloc, false)?,
+        with_a_callback(alloc, false, false)?,
         (None, Some(7), None, State::OnlyCallback, 2)
     );
     assert_eq!(rt;
-        with_a_callback(alloc, true)?,
+        with_a_callback(alloc, false, true)?,
         (None, Some(7), None, State::OnlyCallback, 1)
+    );
+    assert_eq!(rt;
+        with_a_callback(alloc, true, true)?,
+        (None, Some(7), None, State::OnlyCallbackAllowInline, 1)
     );
     assert_eq!(rt;
         with_a_proxy(alloc, false)?,

@@ -1,7 +1,7 @@
 use Rattle.core_state.proofs.Schedules.{folds, lawful_before, finds, stays, final_states}
 use Rattle.core_state.proofs.Orders.{one_later}
 use Rattle.core_state.proofs.Freeing.{last_finds_one}
-use Rattle.core_state.proofs.Handing.{results, proxies, callbacks, once, done_hands_over, empty_forwards, leaves_offer, accounted, finds_other}
+use Rattle.core_state.proofs.Handing.{results, proxies, callbacks, handed_once, once, done_hands_over, empty_forwards, leaves_offer, accounted, finds_other}
 use Rattle.core_state.proofs.law.schedule_law.Goals as goal
 
 pub returns-clause-folds : goal.returns-clause-folds
@@ -29,7 +29,7 @@ pub returns-clause-stays : goal.returns-clause-stays
 returns-clause-stays g c = stays
 
 pub returns-clause-handed : goal.returns-clause-handed
-returns-clause-handed g c acts lawful i j r d e f = one_later acts lawful i j _ _ e f
+returns-clause-handed g c = handed_once
 
 pub returns-clause-forwarded : goal.returns-clause-forwarded
 returns-clause-forwarded g c acts lawful i j k d e f = one_later acts lawful i j _ _ e f

@@ -17,7 +17,7 @@ join_seat-requires g c =
       sits.of_home ∙ same,
       ap (λ (m : Standing _ _ _). m.1) sits.stands,
       omega (arith, home.words),
-      halves_joined _ _ _ _ _ _ _ _ _ is_v is_w one_use _ _ c.depart.ensures.1,
+      halves_joined _ _ _ _ _ _ _ _ _ _ is_v is_w one_use _ _ c.depart.ensures.1,
     )
 
 pub load-requires : goal.load-requires
@@ -30,5 +30,5 @@ load-requires g c =
     let is_w = ap (λ (m : Standing _ _ _). m.0) sits.stands ∙ left in (
       c.join_seat.ensures.0 ∙ c.producer.invariant.2.of_home,
       omega (arith, home.words),
-      joined_looks _ _ _ _ _ _ _ _ _ is_v is_w one_use _ _ _ _ c.join_seat.ensures.2,
+      joined_looks _ _ _ _ _ _ _ _ _ _ is_v is_w one_use _ _ _ _ c.join_seat.ensures.2,
     )

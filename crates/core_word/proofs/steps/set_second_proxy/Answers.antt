@@ -1,4 +1,6 @@
-use Rattle.std.proofs.Common.{arith}
+use Rattle.std.proofs.Common.{ap, ◌∙◌, arith}
+use Rattle.core_state.specs.Table.{code_of}
+use Rattle.core_word.proofs.Owing.{head_rest}
 use Rattle.core_word.proofs.Setting.{sets_proxy_second}
 use Rattle.core_word.proofs.steps.set_second_proxy.Goals as goal
 
@@ -8,5 +10,10 @@ compare_exchange-requires g c =
     let aware = c.requires.aware in (
       aware.1.of_home,
       omega (arith, home.words),
-      sets_proxy_second _ _ _ _ _ aware.0 _ c.code-only_callback.ensures c.code-empty.ensures aware.1.stands,
+      sets_proxy_second _ _ _ _ _ _ aware.0 _ _ (c.code-waiting.ensures ∙ ap code_of c.waiting_with.ensures) c.code-empty.ensures aware.1.stands,
     )
+
+pub take_callback-request-requires : goal.take_callback-request-requires
+take_callback-request-requires g c =
+    let taken = c.compare_exchange.ensures.2 in
+    (c.compare_exchange.ensures.0 ∙ c.requires.aware.1.of_home, (taken.0, head_rest _ _ _ (ap (λ m. m.1) taken.1)))

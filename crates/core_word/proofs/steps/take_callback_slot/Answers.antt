@@ -1,5 +1,5 @@
 use Rattle.std.proofs.Common.{arith}
-use Rattle.core_word.proofs.Claiming.{takes_the_callback_slot}
+use Rattle.core_word.proofs.Demanding.{takes_the_callback_slot}
 use Rattle.core_word.proofs.steps.take_callback_slot.Goals as goal
 
 pub load-requires : goal.load-requires

@@ -7,5 +7,5 @@ load-requires g c =
     let home = c.requires.home in (
       c.requires.ready.of_home,
       omega (arith, home.words),
-      takes_result_slot _ _ _ _ c.requires.ready.stands,
+      takes_result_slot _ _ _ _ _ c.requires.ready.stands,
     )

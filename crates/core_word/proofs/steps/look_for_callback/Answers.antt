@@ -1,0 +1,11 @@
+use Rattle.std.proofs.Common.{arith}
+use Rattle.core_word.proofs.Setting.{looks_at_state}
+use Rattle.core_word.proofs.steps.look_for_callback.Goals as goal
+
+pub load-requires : goal.load-requires
+load-requires g c =
+    let home = c.requires.home in (
+      c.requires.ready.of_home,
+      omega (arith, home.words),
+      looks_at_state _ _ _ _ _ c.requires.ready.stands,
+    )
