@@ -1,21 +1,20 @@
--- What the receiver knows of all messages, once it has heard all ends and then found the queue empty.
+-- What the receiver knows of all messages, once it has taken in all ends and then found the queue empty.
 use Rattle.std.proofs.Common.{◌≡◌, ◌≢◌, ℕ, zero, suc, ◌+◌, ◌^◌, ◌<◌, ◌≤◌, cond, eqb, List, [], ◌∷◌, ◌++◌, length, map, get_or, sym, refl, ap, ◌∙◌, append-nil, arith}
 use Rattle.std.specs.List.{All, sum_by}
 use Rattle.std.proofs.lemmas.Bool.{eq-eqb, ne_eqb}
-use Rattle.std.proofs.lemmas.List.{length-append, length-map}
-use Rattle.std.proofs.lemmas.List.Elements.{All-nil}
-use Rattle.std.proofs.lemmas.List.Sums.{sum_by-cons}
+use Rattle.std.proofs.lemmas.List.{length-append, length-map, nil_from_length}
+use Rattle.std.proofs.lemmas.List.Elements.{All-nil, All-cons, All-rest}
+use Rattle.std.proofs.lemmas.List.Sums.{sum_by-cons, sum_by-append}
 use mathlib.Core.Logic.{dite}
 use native.Mathlib.Decide.{ℕ_discrete}
-use Rattle.notify_queue.specs.declared.delivery.Told.{Told}
+use Rattle.notify_queue.specs.declared.delivery.EndedSender.{EndedSender}
 use Rattle.notify_queue.specs.declared.stamp.Stamped.{Stamped}
 use Rattle.notify_queue.specs.Delivery.{Shows, receiving}
-use Rattle.notify_queue.specs.Ends.{Receiving, Sending, IsDry, AreAllEnds, told_by}
+use Rattle.notify_queue.specs.Ends.{Receiving, Sending, IsDry, AreAllEnds, whole_of}
 use Rattle.notify_queue.specs.Stamps.{stamped_of, messages_of, IsInOrder}
-use Rattle.notify_queue.proofs.Counts.{sum_below, sum_below-none, length-by_sender, length-few}
+use Rattle.notify_queue.proofs.Counts.{sum_below, sum_below-none, length-by_sender, weight-by_sender, length-few}
 use Rattle.notify_queue.proofs.Histories.{messages_of-append}
-use Rattle.notify_queue.proofs.Lists.{All-first, All-others, All-cons}
-use Rattle.notify_queue.proofs.Receivings.{all_any}
+use Rattle.notify_queue.proofs.Lists.{All-first, All-front, All-back, all_any}
 
 -- how often a number stands in the list
 times : ℕ → List ℕ → ℕ
@@ -83,21 +82,8 @@ All-of_map P f [] all k d lt = absurd (omega arith)
 All-of_map P f (x ∷ xs) all zero d lt = all 0 (f d) (omega arith)
 All-of_map P f (x ∷ xs) all (suc k) d lt = All-of_map P f xs (λ i e h. all (suc i) e (omega arith)) k d (omega arith)
 
-All-front : {X : Type 0} (P : X → Type 0) (xs ys : List X) → All P (xs ++ ys) → All P xs
-All-front P [] ys all k d lt = absurd (omega arith)
-All-front P (x ∷ xs) ys all zero d lt = all 0 d (omega arith)
-All-front P (x ∷ xs) ys all (suc k) d lt = All-front P xs ys (λ i e h. all (suc i) e (omega arith)) k d (omega arith)
-
-All-back : {X : Type 0} (P : X → Type 0) (xs ys : List X) → All P (xs ++ ys) → All P ys
-All-back P [] ys all = all
-All-back P (x ∷ xs) ys all = All-back P xs ys (λ i e h. all (suc i) e (omega arith))
-
 none : {A : Type 0} (xs ys : List A) → xs ++ ys ≡ xs → length ys ≡ 0
 none xs ys e = omega (arith, ap length e, length-append xs ys)
-
-empty : {A : Type 0} (xs : List A) → length xs ≡ 0 → xs ≡ []
-empty [] e = refl
-empty (x ∷ xs) e = absurd (omega arith)
 
 -- the number of the end at a place
 number_at : {M : Type 0} (ends : List (Sending M)) (k s : ℕ) (e : Sending M) → k < length ends → get_or ends k e ≡ e → e.number ≡ s → get_or (map (λ x. x.number) ends) k s ≡ s
@@ -106,9 +92,9 @@ number_at (x ∷ ends) zero s e lt at is = ap (λ (y : Sending _). y.number) at 
 number_at (x ∷ ends) (suc k) s e lt at is = number_at ends k s e (omega arith) at is
 
 module _ {M : Type 0} where
-  -- what the receiver knows once it has heard the ends and taken the rest
+  -- what the receiver knows once it has taken in the ends and taken the rest
   abbrev pub Closes : Receiving M → List (Sending M) → List (Stamped M) → Type 0
-  Closes r ends rest = Shows (receiving r.senders (r.ended ++ map told_by ends) r.heard (r.taken ++ rest)) []
+  Closes r ends rest = Shows (receiving r.senders (r.ended ++ map whole_of ends) (r.taken ++ rest)) []
 
   pub from_senders : (r : Receiving M) (ends : List (Sending M)) (rest : List (Stamped M)) → Closes r ends rest → All (λ x. x.stamp.sender < r.senders) (r.taken ++ rest)
   from_senders r ends rest c = rw append-nil at c.from_senders
@@ -117,37 +103,47 @@ module _ {M : Type 0} where
   few r ends rest c =
       length-few r.senders (r.taken ++ rest) c.few (from_senders r ends rest c) (λ s. rw append-nil at (c.short s))
 
-  -- all that was told of the senders
-  told_of : (r : Receiving M) (ends : List (Sending M)) (rest : List (Stamped M)) → Closes r ends rest → All (λ t. messages_of t.sender (r.taken ++ rest) ≡ t.put) (r.ended ++ map told_by ends)
-  told_of r ends rest c = rw append-nil at c.told
+  -- all that was put by the senders
+  put_by : (r : Receiving M) (ends : List (Sending M)) (rest : List (Stamped M)) → Closes r ends rest → All (λ t. messages_of t.sender (r.taken ++ rest) ≡ t.put) (r.ended ++ map whole_of ends)
+  put_by r ends rest c = rw append-nil at c.whole
 
   pub whole : (r : Receiving M) (ends : List (Sending M)) (rest : List (Stamped M)) → Closes r ends rest → All (λ e. messages_of e.number (r.taken ++ rest) ≡ e.sent) ends
   whole r ends rest c =
-      let P : Told M → Type 0 = λ t. messages_of t.sender (r.taken ++ rest) ≡ t.put in
-      All-of_map P told_by ends (All-back P r.ended (map told_by ends) (told_of r ends rest c))
+      let P : EndedSender M → Type 0 = λ t. messages_of t.sender (r.taken ++ rest) ≡ t.put in
+      All-of_map P whole_of ends (All-back P r.ended (map whole_of ends) (put_by r ends rest c))
+
+  -- what is so much for each end is so much for each sender
+  all_senders : (r : Receiving M) (ends : List (Sending M)) → AreAllEnds r ends → (f : ℕ → ℕ) (g : Sending M → ℕ) → All (λ e. g e ≡ f e.number) ends → sum_by g ends ≡ sum_below f r.senders
+  all_senders r ends all f g same =
+      let numbers : List ℕ = map (λ (e : Sending M). e.number) ends in
+      let weights : sum_by g ends ≡ sum_by f numbers = sum_by-map f (λ (e : Sending M). e.number) g ends same in
+      let some : (s : ℕ) → s < r.senders → 0 < times s numbers = λ s lt. let e = all.each s lt in
+      times_some s numbers e.0 (omega (arith, e.2, length-map ends (λ (e : Sending M). e.number))) (number_at ends e.0 s e.1 e.2 e.3 e.4) in
+      weights ∙ covers f r.senders numbers (length-map ends (λ (e : Sending M). e.number) ∙ all.as_many) some
 
   pub total : (r : Receiving M) (ends : List (Sending M)) (rest : List (Stamped M)) → AreAllEnds r ends → Closes r ends rest → length (r.taken ++ rest) ≡ sum_by (λ e. length e.sent) ends
   total r ends rest all c =
       let xs = r.taken ++ rest in
-      let f : ℕ → ℕ = λ s. length (messages_of s xs) in
-      let numbers : List ℕ = map (λ (e : Sending M). e.number) ends in
-      let by_sender : length xs ≡ sum_below f r.senders = length-by_sender r.senders xs (from_senders r ends rest c) in
-      let weights : sum_by (λ (e : Sending M). length e.sent) ends ≡ sum_by f numbers =
-      sum_by-map f (λ (e : Sending M). e.number) (λ (e : Sending M). length e.sent) ends (λ k d lt. sym (ap length (whole r ends rest c k d lt))) in
-      let some : (s : ℕ) → s < r.senders → 0 < times s numbers = λ s lt. let e = all.each s lt in
-      times_some s numbers e.0 (omega (arith, e.2, length-map ends (λ (e : Sending M). e.number))) (number_at ends e.0 s e.1 e.2 e.3 e.4) in
-      by_sender ∙ sym (covers f r.senders numbers (length-map ends (λ (e : Sending M). e.number) ∙ all.as_many) some) ∙ sym weights
+      length-by_sender r.senders xs (from_senders r ends rest c)
+      ∙ sym (all_senders r ends all (λ s. length (messages_of s xs)) (λ (e : Sending M). length e.sent) (λ k d lt. sym (ap length (whole r ends rest c k d lt))))
+
+  pub account : (r : Receiving M) (ends : List (Sending M)) (rest : List (Stamped M)) → AreAllEnds r ends → Closes r ends rest → (weight : M → ℕ)
+      → sum_by (λ x. weight x.message) r.taken + sum_by (λ x. weight x.message) rest ≡ sum_by (λ e. sum_by weight e.sent) ends
+  account r ends rest all c weight =
+      let xs = r.taken ++ rest in
+      sym (sum_by-append (λ (x : Stamped M). weight x.message) r.taken rest) ∙ weight-by_sender weight r.senders xs (from_senders r ends rest c)
+      ∙ sym (all_senders r ends all (λ s. sum_by weight (messages_of s xs)) (λ (e : Sending M). sum_by weight e.sent) (λ k d lt. sym (ap (sum_by weight) (whole r ends rest c k d lt))))
 
   pub dry : (r : Receiving M) (ends : List (Sending M)) (rest : List (Stamped M)) → Closes r ends rest → IsDry r → rest ≡ []
   dry r ends rest c d =
-      let P : Told M → Type 0 = λ t. messages_of t.sender (r.taken ++ rest) ≡ t.put in
-      let told = All-front P r.ended (map told_by ends) (told_of r ends rest c) in
+      let P : EndedSender M → Type 0 = λ t. messages_of t.sender (r.taken ++ rest) ≡ t.put in
+      let known = All-front P r.ended (map whole_of ends) (put_by r ends rest c) in
       let nothing : (s : ℕ) → s < r.senders → length (messages_of s rest) ≡ 0 = λ s lt.
-      let t = all_any {P = λ (t : Told M). (messages_of t.sender (r.taken ++ rest) ≡ t.put) × (messages_of t.sender r.taken ≡ t.put)} {Q = λ (t : Told M). t.sender ≡ s}
-      r.ended (λ k e h. (told k e h, d.drained k e h)) (d.ended s lt) in
+      let t = all_any {P = λ (t : EndedSender M). (messages_of t.sender (r.taken ++ rest) ≡ t.put) × (messages_of t.sender r.taken ≡ t.put)} {Q = λ (t : EndedSender M). t.sender ≡ s}
+      r.ended (λ k e h. (known k e h, d.drained k e h)) (d.ended s lt) in
       rw (← t.2) (none (messages_of t.0.sender r.taken) (messages_of t.0.sender rest) (sym (messages_of-append t.0.sender r.taken rest) ∙ t.1.0 ∙ sym t.1.1)) in
       let below = All-back (λ (x : Stamped M). x.stamp.sender < r.senders) r.taken rest (from_senders r ends rest c) in
-      empty rest (length-by_sender r.senders rest below ∙ sum_below-none (λ s. length (messages_of s rest)) r.senders nothing)
+      nil_from_length rest (length-by_sender r.senders rest below ∙ sum_below-none (λ s. length (messages_of s rest)) r.senders nothing)
 
   pub in_order : (r : Receiving M) (ends : List (Sending M)) (rest : List (Stamped M)) → Closes r ends rest → IsInOrder (r.taken ++ rest)
   in_order r ends rest c = rw append-nil at (rw c.put_is at c.lawful.in_order)
@@ -162,7 +158,7 @@ module _ {M : Type 0} where
       ap (λ b. P (cond b (x ∷ stamped_of x.stamp.sender xs) (stamped_of x.stamp.sender xs))) (eq-eqb x.stamp.sender x.stamp.sender refl) in
       let first : Q x.message = All-first Q (messages_of x.stamp.sender (x ∷ xs)) x.message (messages_of x.stamp.sender xs) here (each x.stamp.sender from) in
       let others : (s : ℕ) → s < n → All Q (messages_of s xs) = λ s lt. dite (ℕ_discrete x.stamp.sender s)
-      (λ e. All-others Q (messages_of s (x ∷ xs)) x.message (messages_of s xs) (ap (λ b. P (cond b (x ∷ stamped_of s xs) (stamped_of s xs))) (eq-eqb x.stamp.sender s e)) (each s lt))
+      (λ e. All-rest Q x.message (messages_of s xs) (messages_of s (x ∷ xs)) (ap (λ b. P (cond b (x ∷ stamped_of s xs) (stamped_of s xs))) (eq-eqb x.stamp.sender s e)) (each s lt))
       (λ ne. let same : messages_of s (x ∷ xs) ≡ messages_of s xs = ap (λ b. P (cond b (x ∷ stamped_of s xs) (stamped_of s xs))) (ne_eqb x.stamp.sender s ne) in rw same at (each s lt)) in
       All-cons (λ (y : Stamped M). Q y.message) x xs first (All-by_sender Q n xs (λ k d lt. below (suc k) d (omega arith)) others)
 

@@ -9,17 +9,17 @@ use mathlib.Core.Option.{some, some-injective, some-ne-none}
 use mathlib.Core.Logic.{dite}
 use native.Mathlib.Decide.{ℕ_discrete}
 use lib.ListN.{get_elem?}
-use Rattle.crossbeam_queue.specs.Fifo.{Pushes, Pops, Forks, Merges, Learns}
+use Rattle.crossbeam_queue.specs.Fifo.{Pushes, Pops, PopsMany, Forks, Merges, Admits, Learns}
 use Rattle.crossbeam_queue.proofs.Lists.{at_set}
 use Rattle.notify_queue.specs.declared.delivery.Knowledge.{Knowledge}
-use Rattle.notify_queue.specs.declared.delivery.Told.{Told}
+use Rattle.notify_queue.specs.declared.delivery.EndedSender.{EndedSender}
 use Rattle.notify_queue.specs.declared.stamp.Stamped.{Stamped}
-use Rattle.notify_queue.specs.Delivery.{Delivers, IsKnown, IsTold, IsHeard, Took, Shows, idle, sending, telling, noting, receiving, told}
+use Rattle.notify_queue.specs.Delivery.{Delivers, IsKnown, IsWhole, Takes, Shows, idle, sending, ending, receiving, ended_sender}
 use Rattle.notify_queue.specs.History.{Event, put, taken, puts, takes}
 use Rattle.notify_queue.specs.Stamps.{stamped_of, messages_of}
 use Rattle.notify_queue.proofs.Counts.{length-few}
-use Rattle.notify_queue.proofs.Lists.{some_is, none_some, All-one, All-seam, all_set, all_more, length_set}
-use Rattle.notify_queue.proofs.Histories.{puts-append, takes-append, prefix_more, messages_of-append, messages_of-same, messages_of-other, in_order_front, lawful_put, lawful_take}
+use Rattle.notify_queue.proofs.Lists.{some_is, none_some, All-one, All-front, All-back, all_set, all_more, length_set}
+use Rattle.notify_queue.proofs.Histories.{puts-append, takes-append, messages_of-append, messages_of-same, messages_of-other, in_order_front, puts-taken, takes-taken, lawful_put, lawful_takes}
 
 -- of a sender that is yet to be made there are no messages
 none_of : {M : Type 0} (s : ℕ) (xs : List (Stamped M)) → All (λ x. x.stamp.sender < s) xs → messages_of s xs ≡ []
@@ -30,21 +30,14 @@ none_of s (x ∷ xs) all =
     ∙ none_of s xs (λ k d lt. all (suc k) d (omega arith))
 
 module _ {M : Type 0} where
-  -- what is told stays so where the senders that have ended keep their messages
-  told_stays : (h k : List (Event M)) (p q : ℕ → Option ℕ) (m n : ℕ) (ts : List (Told M)) → m ≤ n
-      → ((t : Told M) → IsTold h p m t → (q t.sender ≡ None) × (messages_of t.sender (puts k) ≡ messages_of t.sender (puts h))) → All (IsTold h p m) ts → All (IsTold k q n) ts
-  told_stays h k p q m n ts le same all i d lt =
+  -- what is known of senders that have ended stays so where they keep their messages
+  whole_stays : (h k : List (Event M)) (p q : ℕ → Option ℕ) (m n : ℕ) (ts : List (EndedSender M)) → m ≤ n
+      → ((t : EndedSender M) → IsWhole h p m t → (q t.sender ≡ None) × (messages_of t.sender (puts k) ≡ messages_of t.sender (puts h))) → All (IsWhole h p m) ts → All (IsWhole k q n) ts
+  whole_stays h k p q m n ts le same all i d lt =
       let t = get_or ts i d in
       let was = all i d lt in
       let is = same t was in
       record { ended = is.0; made_before = omega (arith, was.made_before); whole = is.1 ∙ was.whole }
-
-  -- what is heard stays so where more is put
-  heard_stays : (h k : List (Event M)) (more : List (Stamped M)) (ts : List (Told M)) → puts k ≡ puts h ++ more → All (IsHeard h) ts → All (IsHeard k) ts
-  heard_stays h k more ts is all i d lt =
-      let t = get_or ts i d in
-      subst (λ (l : List M). IsPrefix t.put l) (sym (messages_of-append t.sender (puts h) more) ∙ ap (messages_of t.sender) (sym is))
-      (prefix_more t.put (messages_of t.sender (puts h)) (messages_of t.sender more) (all i d lt))
 
   -- a sender puts a message
   pub pushes : (n pass : ℕ) (v : Knowledge M) (x : Stamped M) → v.sends ≡ true → x.stamp.sender ≡ v.number → x.stamp.index ≡ length v.put → length v.put + 1 < 2 ^ 32
@@ -59,7 +52,7 @@ module _ {M : Type 0} where
       ap (messages_of v.number) put_is ∙ messages_of-same v.number (puts d.history) x from ∙ ap (λ l. l ++ x.message ∷ []) mine.2 in
       let others : (s : ℕ) → s ≢ v.number → messages_of s (puts history) ≡ messages_of s (puts d.history) =
       λ s ne. ap (messages_of s) put_is ∙ messages_of-other s (puts d.history) x (λ e. ne (sym e ∙ from)) in
-      let none : (t : Told M) → IsTold d.history d.pass_of d.made t → (d.pass_of t.sender ≡ None) × (messages_of t.sender (puts history) ≡ messages_of t.sender (puts d.history)) =
+      let none : (t : EndedSender M) → IsWhole d.history d.pass_of d.made t → (d.pass_of t.sender ≡ None) × (messages_of t.sender (puts history) ≡ messages_of t.sender (puts d.history)) =
       λ t is. (is.ended, others t.sender (λ e. none_some (sym is.ended ∙ ap d.pass_of e ∙ mine.0))) in
       let Now : ℕ → Knowledge M → Type 0 = IsKnown history d.pass_of d.made in (
         w,
@@ -79,37 +72,35 @@ module _ {M : Type 0} where
           known = all_set Now views pass w
               record {
                 sends = λ _. (mine.0, mine.1, own);
-                told = All-nil (IsTold history d.pass_of d.made);
-                heard = All-nil (IsHeard history);
+                ended = All-nil (IsWhole history d.pass_of d.made);
                 receives = λ first. absurd (true≢false (sym may ∙ ((d.known pass v here).receives first).0));
               }
               (λ j u apart e.
               let k = d.known j u e in
               record {
                 sends = λ s. let o = k.sends s in (o.0, o.1, others u.number (λ same. apart (some_is (sym o.0 ∙ ap d.pass_of same ∙ mine.0))) ∙ o.2);
-                told = told_stays d.history history d.pass_of d.pass_of d.made d.made u.told (omega arith) none k.told;
-                heard = heard_stays d.history history (x ∷ []) u.heard put_is k.heard;
+                ended = whole_stays d.history history d.pass_of d.pass_of d.made d.made u.ended (omega arith) none k.ended;
                 receives = λ first. let o = k.receives first in (o.0, o.1 ∙ sym taken_is, o.2);
               });
         },
         refl,
       )
 
-  -- the receiver takes the message in front
-  pub pops : (v : Knowledge M) → Pops Delivers 0 v (Took v)
-  pops v x items views d here =
-      let w : Knowledge M = receiving v.made v.told v.heard (v.taken ++ x ∷ []) in
+  -- the receiver takes messages in front
+  pub pops_many : (v : Knowledge M) (n : ℕ) → PopsMany Delivers 0 v n (Takes v)
+  pops_many v n xs items views _ d here =
+      let w : Knowledge M = receiving v.made v.ended (v.taken ++ xs) in
       let mine = (d.known 0 v here).receives refl in
-      let history = d.history ++ taken x ∷ [] in
-      let put_is : puts history ≡ puts d.history = puts-append d.history (taken x ∷ []) ∙ append-nil (puts d.history) in
-      let taken_is : takes history ≡ takes d.history ++ x ∷ [] = takes-append d.history (taken x ∷ []) in
-      let held : puts d.history ≡ (v.taken ++ x ∷ []) ++ items = d.held ∙ ap (λ l. l ++ x ∷ items) (sym mine.1) ∙ sym (append_assoc v.taken (x ∷ []) items) in
-      let lawful = lawful_take d.history x items d.lawful d.held in
+      let history = d.history ++ map taken xs in
+      let put_is : puts history ≡ puts d.history = puts-append d.history (map taken xs) ∙ ap (λ l. puts d.history ++ l) (puts-taken xs) ∙ append-nil (puts d.history) in
+      let taken_is : takes history ≡ takes d.history ++ xs = takes-append d.history (map taken xs) ∙ ap (λ l. takes d.history ++ l) (takes-taken xs) in
+      let held : puts d.history ≡ (v.taken ++ xs) ++ items = d.held ∙ ap (λ l. l ++ (xs ++ items)) (sym mine.1) ∙ sym (append_assoc v.taken xs items) in
+      let lawful = lawful_takes d.history xs items d.lawful d.held in
       let same : (s : ℕ) → messages_of s (puts history) ≡ messages_of s (puts d.history) = λ s. ap (messages_of s) put_is in
-      let stays : (t : Told M) → IsTold d.history d.pass_of d.made t → (d.pass_of t.sender ≡ None) × (messages_of t.sender (puts history) ≡ messages_of t.sender (puts d.history)) =
+      let stays : (t : EndedSender M) → IsWhole d.history d.pass_of d.made t → (d.pass_of t.sender ≡ None) × (messages_of t.sender (puts history) ≡ messages_of t.sender (puts d.history)) =
       λ t is. (is.ended, same t.sender) in
-      let told = told_stays d.history history d.pass_of d.pass_of d.made d.made v.told (omega arith) stays (d.known 0 v here).told in
-      let no_more : puts history ≡ puts d.history ++ [] = puts-append d.history (taken x ∷ []) in
+      let ended = whole_stays d.history history d.pass_of d.pass_of d.made d.made v.ended (omega arith) stays (d.known 0 v here).ended in
+      let senders : All (λ (y : Stamped M). y.stamp.sender < d.made) ((v.taken ++ xs) ++ items) = rw held at d.from_senders in
       let Now : ℕ → Knowledge M → Type 0 = IsKnown history d.pass_of d.made in (
         w,
         record {
@@ -117,7 +108,7 @@ module _ {M : Type 0} where
           pass_of = d.pass_of;
           made = d.made;
           lawful = lawful;
-          held = put_is ∙ held ∙ ap (λ l. (l ++ x ∷ []) ++ items) mine.1 ∙ ap (λ l. l ++ items) (sym taken_is);
+          held = put_is ∙ held ∙ ap (λ l. (l ++ xs) ++ items) mine.1 ∙ ap (λ l. l ++ items) (sym taken_is);
           few = d.few;
           from_senders = rw put_is d.from_senders;
           short = λ s. rw (same s) (d.short s);
@@ -125,32 +116,57 @@ module _ {M : Type 0} where
           known = all_set Now views 0 w
               record {
                 sends = λ s. absurd (true≢false (sym s));
-                told = told;
-                heard = heard_stays d.history history [] v.heard no_more (d.known 0 v here).heard;
-                receives = λ _. (refl, ap (λ l. l ++ x ∷ []) mine.1 ∙ sym taken_is, mine.2);
+                ended = ended;
+                receives = λ _. (refl, ap (λ l. l ++ xs) mine.1 ∙ sym taken_is, mine.2);
               }
               (λ j u apart e.
               let k = d.known j u e in
               record {
                 sends = λ s. let o = k.sends s in (o.0, o.1, same u.number ∙ o.2);
-                told = told_stays d.history history d.pass_of d.pass_of d.made d.made u.told (omega arith) stays k.told;
-                heard = heard_stays d.history history [] u.heard no_more k.heard;
+                ended = whole_stays d.history history d.pass_of d.pass_of d.made d.made u.ended (omega arith) stays k.ended;
                 receives = λ first. absurd (apart first);
               });
         },
         record {
           view = refl;
-          in_order = in_order_front (v.taken ++ x ∷ []) items (rw held at d.lawful.in_order);
+          in_order = in_order_front (v.taken ++ xs) items (rw held at d.lawful.in_order);
           few =
               let all = length-few d.made (puts d.history) d.few d.from_senders d.short in
-              omega (arith, all, ap length held, length-append (v.taken ++ x ∷ []) items, length-append v.taken (x ∷ []));
-          from_sender = rw mine.2 (All-seam (λ (y : Stamped M). y.stamp.sender < d.made) (takes d.history) x items (rw d.held at d.from_senders));
+              omega (arith, all, ap length held, length-append (v.taken ++ xs) items);
+          from_senders = rw mine.2 (All-back (λ (y : Stamped M). y.stamp.sender < d.made) v.taken xs (All-front (λ (y : Stamped M). y.stamp.sender < d.made) (v.taken ++ xs) items senders));
           within = λ i e lt.
-              let t = get_or v.told i e in
-              let is = (d.known 0 v here).told i e lt in
-              (messages_of t.sender items, sym (messages_of-append t.sender (v.taken ++ x ∷ []) items) ∙ ap (messages_of t.sender) (sym held) ∙ is.whole);
+              let t = get_or v.ended i e in
+              let is = (d.known 0 v here).ended i e lt in
+              (messages_of t.sender items, sym (messages_of-append t.sender (v.taken ++ xs) items) ∙ ap (messages_of t.sender) (sym held) ∙ is.whole);
         },
       )
+
+  -- the message in front
+  pub pops : (v : Knowledge M) → Pops Delivers 0 v (λ x w. Takes v (x ∷ []) w)
+  pops v x items views d here = pops_many v 1 (x ∷ []) items views refl d here
+
+  -- a pass that knows nothing may come
+  pub admits : Admits {T = Stamped M} Delivers idle
+  admits items views d =
+      let Now : ℕ → Knowledge M → Type 0 = IsKnown d.history d.pass_of d.made in
+      record {
+        history = d.history;
+        pass_of = d.pass_of;
+        made = d.made;
+        lawful = d.lawful;
+        held = d.held;
+        few = d.few;
+        from_senders = d.from_senders;
+        short = d.short;
+        has_pass = omega (arith, d.has_pass, length-append views (idle ∷ []));
+        known = all_more Now views idle
+            record {
+              sends = λ s. absurd (true≢false (sym s));
+              ended = All-nil (IsWhole d.history d.pass_of d.made);
+              receives = λ first. absurd (omega (arith, first, d.has_pass));
+            }
+            d.known;
+      }
 
   -- the receiver looks at what the queue holds
   pub shows : (v : Knowledge M) → Learns Delivers 0 v (Shows v)
@@ -162,25 +178,22 @@ module _ {M : Type 0} where
         lawful = d.lawful;
         taken_is = sym mine.1;
         put_is = put_is;
-        told = λ i e lt. ap (messages_of (get_or v.told i e).sender) (sym put_is) ∙ ((d.known 0 v here).told i e lt).whole;
-        heard = λ i e lt.
-            let t = get_or v.heard i e in
-            subst (λ (l : List (Stamped M)). IsPrefix t.put (messages_of t.sender l)) put_is ((d.known 0 v here).heard i e lt);
+        whole = λ i e lt. ap (messages_of (get_or v.ended i e).sender) (sym put_is) ∙ ((d.known 0 v here).ended i e lt).whole;
         from_senders = rw (← put_is, mine.2) d.from_senders;
         short = λ s. rw (← put_is) (d.short s);
         few = rw mine.2 d.few;
       }
 
   -- the receiver makes a sender
-  pub makes : (v : Knowledge M) → v.made < 64 → Forks Delivers 0 v (receiving (v.made + 1) v.told v.heard v.taken) (sending v.made [])
+  pub makes : (v : Knowledge M) → v.made < 64 → Forks Delivers 0 v (receiving (v.made + 1) v.ended v.taken) (sending v.made [])
   makes v room items views d here =
-      let left : Knowledge M = receiving (v.made + 1) v.told v.heard v.taken in
+      let left : Knowledge M = receiving (v.made + 1) v.ended v.taken in
       let right : Knowledge M = sending v.made [] in
       let mine = (d.known 0 v here).receives refl in
       let after = set views 0 left in
       let pass_of : ℕ → Option ℕ = λ s. cond (eqb s v.made) (Some (length after)) (d.pass_of s) in
       let before : (s : ℕ) → s < d.made → pass_of s ≡ d.pass_of s = λ s lt. ap (λ b. cond b (Some (length after)) (d.pass_of s)) (ne_eqb s v.made (λ e. omega (arith, mine.2))) in
-      let stays : (t : Told M) → IsTold d.history d.pass_of d.made t → (pass_of t.sender ≡ None) × (messages_of t.sender (puts d.history) ≡ messages_of t.sender (puts d.history)) =
+      let stays : (t : EndedSender M) → IsWhole d.history d.pass_of d.made t → (pass_of t.sender ≡ None) × (messages_of t.sender (puts d.history) ≡ messages_of t.sender (puts d.history)) =
       λ t is. (before t.sender is.made_before ∙ is.ended, refl) in
       let Now : ℕ → Knowledge M → Type 0 = IsKnown d.history pass_of (v.made + 1) in
       record {
@@ -196,39 +209,36 @@ module _ {M : Type 0} where
         known = all_more Now after right
             record {
               sends = λ _. (ap (λ b. cond b (Some (length after)) (d.pass_of v.made)) (eq-eqb v.made v.made refl), omega arith, none_of v.made (puts d.history) (rw mine.2 d.from_senders));
-              told = All-nil (IsTold d.history pass_of (v.made + 1));
-              heard = All-nil (IsHeard d.history);
+              ended = All-nil (IsWhole d.history pass_of (v.made + 1));
               receives = λ first. absurd (omega (arith, length_set views 0 left d.has_pass));
             }
             (all_set Now views 0 left
             record {
               sends = λ s. absurd (true≢false (sym s));
-              told = told_stays d.history d.history d.pass_of pass_of d.made (v.made + 1) v.told (omega (arith, mine.2)) stays (d.known 0 v here).told;
-              heard = (d.known 0 v here).heard;
+              ended = whole_stays d.history d.history d.pass_of pass_of d.made (v.made + 1) v.ended (omega (arith, mine.2)) stays (d.known 0 v here).ended;
               receives = λ _. (refl, mine.1, refl);
             }
             (λ j u apart e.
             let k = d.known j u e in
             record {
               sends = λ s. let o = k.sends s in (before u.number o.1 ∙ o.0, omega (arith, o.1, mine.2), o.2);
-              told = told_stays d.history d.history d.pass_of pass_of d.made (v.made + 1) u.told (omega (arith, mine.2)) stays k.told;
-              heard = k.heard;
+              ended = whole_stays d.history d.history d.pass_of pass_of d.made (v.made + 1) u.ended (omega (arith, mine.2)) stays k.ended;
               receives = λ first. absurd (apart first);
             }));
       }
 
   -- a sender ends
-  pub ends : (pass : ℕ) (v : Knowledge M) → v.sends ≡ true → Forks Delivers pass v (telling v.number v.put) (telling v.number v.put)
+  pub ends : (pass : ℕ) (v : Knowledge M) → v.sends ≡ true → Forks Delivers pass v (ending v.number v.put) (ending v.number v.put)
   ends pass v may items views d here =
-      let w : Knowledge M = telling v.number v.put in
+      let w : Knowledge M = ending v.number v.put in
       let mine = (d.known pass v here).sends may in
       let after = set views pass w in
       let pass_of : ℕ → Option ℕ = λ s. cond (eqb s v.number) None (d.pass_of s) in
       let here_none : pass_of v.number ≡ None = ap (λ b. cond b None (d.pass_of v.number)) (eq-eqb v.number v.number refl) in
       let else_same : (s : ℕ) → s ≢ v.number → pass_of s ≡ d.pass_of s = λ s ne. ap (λ b. cond b None (d.pass_of s)) (ne_eqb s v.number ne) in
-      let stays : (t : Told M) → IsTold d.history d.pass_of d.made t → (pass_of t.sender ≡ None) × (messages_of t.sender (puts d.history) ≡ messages_of t.sender (puts d.history)) =
+      let stays : (t : EndedSender M) → IsWhole d.history d.pass_of d.made t → (pass_of t.sender ≡ None) × (messages_of t.sender (puts d.history) ≡ messages_of t.sender (puts d.history)) =
       λ t is. (else_same t.sender (λ e. none_some (sym is.ended ∙ ap d.pass_of e ∙ mine.0)) ∙ is.ended, refl) in
-      let told = All-one (IsTold d.history pass_of d.made) (told v.number v.put) record { ended = here_none; made_before = mine.1; whole = mine.2 } in
+      let ended = All-one (IsWhole d.history pass_of d.made) (ended_sender v.number v.put) record { ended = here_none; made_before = mine.1; whole = mine.2 } in
       let Now : ℕ → Knowledge M → Type 0 = IsKnown d.history pass_of d.made in
       record {
         history = d.history;
@@ -243,58 +253,28 @@ module _ {M : Type 0} where
         known = all_more Now after w
             record {
               sends = λ s. absurd (true≢false (sym s));
-              told = told;
-              heard = All-nil (IsHeard d.history);
+              ended = ended;
               receives = λ first. absurd (omega (arith, length_set views pass w d.has_pass));
             }
             (all_set Now views pass w
             record {
               sends = λ s. absurd (true≢false (sym s));
-              told = told;
-              heard = All-nil (IsHeard d.history);
+              ended = ended;
               receives = λ first. absurd (true≢false (sym may ∙ ((d.known pass v here).receives first).0));
             }
             (λ j u apart e.
             let k = d.known j u e in
             record {
               sends = λ s. let o = k.sends s in (else_same u.number (λ same. apart (some_is (sym o.0 ∙ ap d.pass_of same ∙ mine.0))) ∙ o.0, o.1, o.2);
-              told = told_stays d.history d.history d.pass_of pass_of d.made d.made u.told (omega arith) stays k.told;
-              heard = k.heard;
+              ended = whole_stays d.history d.history d.pass_of pass_of d.made d.made u.ended (omega arith) stays k.ended;
               receives = k.receives;
             }));
       }
 
-  -- a sender makes a note of what it has put
-  pub notes : (pass : ℕ) (v : Knowledge M) → v.sends ≡ true → Forks Delivers pass v v (noting v.number v.put)
-  notes pass v may items views d here =
-      let w : Knowledge M = noting v.number v.put in
-      let mine = (d.known pass v here).sends may in
-      let after = set views pass v in
-      let Now : ℕ → Knowledge M → Type 0 = IsKnown d.history d.pass_of d.made in
-      record {
-        history = d.history;
-        pass_of = d.pass_of;
-        made = d.made;
-        lawful = d.lawful;
-        held = d.held;
-        few = d.few;
-        from_senders = d.from_senders;
-        short = d.short;
-        has_pass = omega (arith, length-append after (w ∷ []));
-        known = all_more Now after w
-            record {
-              sends = λ s. absurd (true≢false (sym s));
-              told = All-nil (IsTold d.history d.pass_of d.made);
-              heard = All-one (IsHeard d.history) (told v.number v.put) ([], append-nil v.put ∙ sym mine.2);
-              receives = λ first. absurd (omega (arith, length_set views pass v d.has_pass));
-            }
-            (all_set Now views pass v (d.known pass v here) (λ j u apart e. d.known j u e));
-      }
-
-  -- the receiver is told what another pass tells
-  pub joins : (v : Knowledge M) (other : ℕ) (u : Knowledge M) → Merges Delivers 0 v other u (receiving v.made (v.told ++ u.told) (v.heard ++ u.heard) v.taken) idle
+  -- the receiver takes in the pass of a sender that has ended
+  pub joins : (v : Knowledge M) (other : ℕ) (u : Knowledge M) → Merges Delivers 0 v other u (receiving v.made (v.ended ++ u.ended) v.taken) idle
   joins v other u items views d here two there =
-      let both : Knowledge M = receiving v.made (v.told ++ u.told) (v.heard ++ u.heard) v.taken in
+      let both : Knowledge M = receiving v.made (v.ended ++ u.ended) v.taken in
       let mine = d.known 0 v here in
       let after = set views 0 both in
       let was : get_elem? views other ≡ some u = ⊎_elim (λ (x : (other ≡ 0) × (both ≡ u)). absurd (two x.0)) (λ (x : (other ≢ 0) × (get_elem? views other ≡ some u)). x.1) (at_set views 0 other both u there) in
@@ -312,15 +292,13 @@ module _ {M : Type 0} where
         known = all_set Now after other idle
             record {
               sends = λ s. absurd (true≢false (sym s));
-              told = All-nil (IsTold d.history d.pass_of d.made);
-              heard = All-nil (IsHeard d.history);
+              ended = All-nil (IsWhole d.history d.pass_of d.made);
               receives = λ first. absurd (two first);
             }
             (λ j y _ e. all_set Now views 0 both
             record {
               sends = λ s. absurd (true≢false (sym s));
-              told = All-append (IsTold d.history d.pass_of d.made) v.told u.told mine.told (d.known other u was).told;
-              heard = All-append (IsHeard d.history) v.heard u.heard mine.heard (d.known other u was).heard;
+              ended = All-append (IsWhole d.history d.pass_of d.made) v.ended u.ended mine.ended (d.known other u was).ended;
               receives = λ first. let r = mine.receives first in (refl, r.1, r.2);
             }
             (λ i z _ at. d.known i z at) j y e);
@@ -334,8 +312,7 @@ knows_nothing : {M : Type 0} (pass : ℕ) (v : Knowledge M) → get_elem? (idle 
 knows_nothing {M} zero v e = subst (IsKnown [] (λ _. None) 0 0) (some-injective idle v e)
     record {
       sends = λ s. absurd (true≢false (sym s));
-      told = All-nil (IsTold {M = M} [] (λ _. None) 0);
-      heard = All-nil (IsHeard {M = M} []);
+      ended = All-nil (IsWhole {M = M} [] (λ _. None) 0);
       receives = λ _. (refl, refl, refl);
     }
 knows_nothing (suc pass) v e = absurd (some-ne-none v (sym e))

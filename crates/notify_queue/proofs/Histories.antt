@@ -1,9 +1,10 @@
 -- Lists of stamped messages, and a history that gets longer by one event.
-use Rattle.std.proofs.Common.{◌≡◌, ◌≢◌, ℕ, zero, suc, ◌⊎◌, cond, eqb, List, [], ◌∷◌, ◌++◌, length, map, take, Some, sym, refl, ap, ◌∙◌, inl, inr, ⊎_elim, append_assoc, append-nil, arith}
+use Rattle.std.proofs.Common.{◌≡◌, ◌≢◌, ℕ, zero, suc, ◌+◌, ◌≤◌, ◌⊎◌, Bool, not, cond, eqb, List, [], ◌∷◌, ◌++◌, length, map, take, Some, sym, refl, ap, ◌∙◌, subst, inl, inr, ⊎_elim, append_assoc, append-nil, arith}
 use Rattle.std.specs.List.{slice_get}
 use Rattle.std.proofs.lemmas.Bool.{eq-eqb, ne_eqb}
 use Rattle.std.proofs.lemmas.List.{take-append-le, take_all, map-append, length-map, length-append}
 use Rattle.std.proofs.lemmas.List.Elements.{filter-append}
+use Rattle.std.proofs.lemmas.List.Filters.{length-filter_both}
 use mathlib.Core.List.{IsPrefix}
 use mathlib.Core.Logic.{dite}
 use native.Mathlib.Decide.{dec_le, ℕ_discrete}
@@ -99,3 +100,23 @@ module _ {M : Type 0} where
     oldest_first = moments h (taken x) q.oldest_first
         (rw (puts-append h (taken x ∷ []), takes-append h (taken x ∷ []), append-nil) (items, append_assoc (takes h) (x ∷ []) items ∙ sym held));
   }
+
+  pub puts-taken : (xs : List (Stamped M)) → puts (map taken xs) ≡ []
+  puts-taken [] = refl
+  puts-taken (x ∷ xs) = puts-taken xs
+
+  pub takes-taken : (xs : List (Stamped M)) → takes (map taken xs) ≡ xs
+  takes-taken [] = refl
+  takes-taken (x ∷ xs) = ap (λ l. x ∷ l) (takes-taken xs)
+
+  pub lawful_takes : (h : List (Event M)) (xs items : List (Stamped M)) → QueueHistory h → puts h ≡ takes h ++ (xs ++ items) → QueueHistory (h ++ map taken xs)
+  lawful_takes h [] items q held = rw append-nil q
+  lawful_takes h (x ∷ xs) items q held =
+      let more : List (Event M) = h ++ taken x ∷ [] in
+      let now : puts more ≡ takes more ++ (xs ++ items) = puts-append h (taken x ∷ []) ∙ append-nil (puts h) ∙ held ∙ sym (append_assoc (takes h) (x ∷ []) (xs ++ items)) ∙ ap (λ l. l ++ (xs ++ items)) (sym (takes-append h (taken x ∷ []))) in
+      subst (λ (l : List (Event M)). QueueHistory l) (append_assoc h (taken x ∷ []) (map taken xs)) (lawful_takes more xs items (lawful_take h x (xs ++ items) q held) now)
+
+  pub length-messages_of-le : (s : ℕ) (xs : List (Stamped M)) → length (messages_of s xs) ≤ length xs
+  length-messages_of-le s xs =
+      let p : Stamped M → Bool = λ x. eqb x.stamp.sender s in
+      omega (arith, length-messages_of s xs, length-filter_both p (λ x. not (p x)) (λ x. refl) xs)

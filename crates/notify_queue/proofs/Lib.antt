@@ -1,3 +1,4 @@
+pub mod Batches
 pub mod Closings
 pub mod Counts
 pub mod Crossings
@@ -6,3 +7,4 @@ pub mod Histories
 pub mod Lists
 pub mod Markings
 pub mod Receivings
+pub mod Takings

@@ -6,50 +6,41 @@ use mathlib.Core.Option.{some}
 use lib.ListN.{get_elem?}
 use Rattle.notify_queue.specs.declared.stamp.Stamped.{Stamped}
 use Rattle.notify_queue.specs.declared.delivery.Knowledge.{Knowledge}
-use Rattle.notify_queue.specs.declared.delivery.Told.{Told}
+use Rattle.notify_queue.specs.declared.delivery.EndedSender.{EndedSender}
 use Rattle.notify_queue.specs.Stamps.{messages_of, IsInOrder}
 use Rattle.notify_queue.specs.History.{Event, puts, takes, QueueHistory}
 
 module _ {M : Type 0} where
-  abbrev pub told : ℕ → List M → Told M
-  told sender put = record { sender = sender; put = put }
+  abbrev pub ended_sender : ℕ → List M → EndedSender M
+  ended_sender sender put = record { sender = sender; put = put }
 
   -- a pass that knows nothing
   abbrev pub idle : Knowledge M
-  idle = record { sends = false; number = 0; put = []; told = []; heard = []; taken = []; made = 0 }
+  idle = record { sends = false; number = 0; put = []; ended = []; taken = []; made = 0 }
 
   -- the pass of a sender
   abbrev pub sending : ℕ → List M → Knowledge M
-  sending number put = record { sends = true; number = number; put = put; told = []; heard = []; taken = []; made = 0 }
+  sending number put = record { sends = true; number = number; put = put; ended = []; taken = []; made = 0 }
 
-  -- a pass that tells what a sender put, which has ended
-  abbrev pub telling : ℕ → List M → Knowledge M
-  telling number put = record { sends = false; number = number; put = put; told = told number put ∷ []; heard = []; taken = []; made = 0 }
-
-  -- a pass that tells what a sender has put so far
-  abbrev pub noting : ℕ → List M → Knowledge M
-  noting number put = record { sends = false; number = number; put = put; told = []; heard = told number put ∷ []; taken = []; made = 0 }
+  -- the pass of a sender that has ended, or its copy
+  abbrev pub ending : ℕ → List M → Knowledge M
+  ending number put = record { sends = false; number = number; put = put; ended = ended_sender number put ∷ []; taken = []; made = 0 }
 
   -- the pass of the receiver
-  abbrev pub receiving : ℕ → List (Told M) → List (Told M) → List (Stamped M) → Knowledge M
-  receiving made told heard taken = record { sends = false; number = 0; put = []; told = told; heard = heard; taken = taken; made = made }
+  abbrev pub receiving : ℕ → List (EndedSender M) → List (Stamped M) → Knowledge M
+  receiving made ended taken = record { sends = false; number = 0; put = []; ended = ended; taken = taken; made = made }
 
   -- the sender has no pass any more, and this is all that it put
-  pub record IsTold (history : List (Event M)) (pass_of : ℕ → Option ℕ) (made : ℕ) (t : Told M) : Type 0 where
-    pub ended : pass_of t.sender ≡ None
-    pub made_before : t.sender < made
-    pub whole : messages_of t.sender (puts history) ≡ t.put
-
-  -- the sender has put this, and perhaps more since
-  abbrev pub IsHeard : List (Event M) → Told M → Type 0
-  IsHeard history t = IsPrefix t.put (messages_of t.sender (puts history))
+  pub record IsWhole (history : List (Event M)) (pass_of : ℕ → Option ℕ) (made : ℕ) (e : EndedSender M) : Type 0 where
+    pub ended : pass_of e.sender ≡ None
+    pub made_before : e.sender < made
+    pub whole : messages_of e.sender (puts history) ≡ e.put
 
   -- what a pass knows is so
   pub record IsKnown (history : List (Event M)) (pass_of : ℕ → Option ℕ) (made : ℕ) (pass : ℕ) (v : Knowledge M) : Type 0 where
     -- a sender has one pass, which knows all that it has put
     pub sends : v.sends ≡ true → (pass_of v.number ≡ Some pass) × (v.number < made) × (messages_of v.number (puts history) ≡ v.put)
-    pub told : All (IsTold history pass_of made) v.told
-    pub heard : All (IsHeard history) v.heard
+    pub ended : All (IsWhole history pass_of made) v.ended
     -- the receiver knows all that was taken, and how many senders there are. It is none of them
     pub receives : pass ≡ 0 → (v.sends ≡ false) × (v.taken ≡ takes history) × (v.made ≡ made)
 
@@ -66,13 +57,13 @@ module _ {M : Type 0} where
     pub has_pass : 0 < length views
     pub known : (pass : ℕ) (v : Knowledge M) → get_elem? views pass ≡ some v → IsKnown history pass_of made pass v
 
-  -- what a take tells: the message stands behind those that were taken, and what was taken is in order. Of a sender that has ended no more is taken than it put
-  pub record Took (v : Knowledge M) (x : Stamped M) (w : Knowledge M) : Type 0 where
-    pub view : w ≡ receiving v.made v.told v.heard (v.taken ++ x ∷ [])
-    pub in_order : IsInOrder (v.taken ++ x ∷ [])
-    pub few : length v.taken < 2 ^ 38
-    pub from_sender : x.stamp.sender < v.made
-    pub within : All (λ t. IsPrefix (messages_of t.sender (v.taken ++ x ∷ [])) t.put) v.told
+  -- what a take of one message or more tells: they stand behind those that were taken, and what was taken is in order. Of a sender that has ended no more is taken than it put
+  pub record Takes (v : Knowledge M) (xs : List (Stamped M)) (w : Knowledge M) : Type 0 where
+    pub view : w ≡ receiving v.made v.ended (v.taken ++ xs)
+    pub in_order : IsInOrder (v.taken ++ xs)
+    pub few : length (v.taken ++ xs) ≤ 2 ^ 38
+    pub from_senders : All (λ x. x.stamp.sender < v.made) xs
+    pub within : All (λ e. IsPrefix (messages_of e.sender (v.taken ++ xs)) e.put) v.ended
 
   -- what a look tells of what was taken and what the queue holds at that moment
   pub record Shows (v : Knowledge M) (items : List (Stamped M)) : Type 0 where
@@ -80,8 +71,7 @@ module _ {M : Type 0} where
     pub lawful : QueueHistory history
     pub taken_is : takes history ≡ v.taken
     pub put_is : puts history ≡ v.taken ++ items
-    pub told : All (λ t. messages_of t.sender (v.taken ++ items) ≡ t.put) v.told
-    pub heard : All (λ t. IsPrefix t.put (messages_of t.sender (v.taken ++ items))) v.heard
+    pub whole : All (λ e. messages_of e.sender (v.taken ++ items) ≡ e.put) v.ended
     pub from_senders : All (λ x. x.stamp.sender < v.made) (v.taken ++ items)
     pub short : (sender : ℕ) → length (messages_of sender (v.taken ++ items)) < 2 ^ 32
     pub few : v.made ≤ 64

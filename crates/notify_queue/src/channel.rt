@@ -1,10 +1,12 @@
 //! What the ends of a queue share, and the steps that they make on it.
-ghost use Rattle.std.specs.Prelude.{◌≡◌};
+ghost use Rattle.std.specs.Prelude.{◌≡◌, ◌≤◌};
+ghost use Rattle.notify_queue.specs.Marks.{place};
 
 use crate::delivery::Line;
 use crate::marks::Marks;
 use crossbeam_utils::sync::Unparker;
 
+mod batches;
 mod steps;
 
 pub(crate) struct Channel<M> {
@@ -12,7 +14,8 @@ pub(crate) struct Channel<M> {
     pub(crate) marks: Marks<M>,
     pub(crate) wake: Unparker,
     ghost of_queue: { marks.shared.key ≡ line },
-    ghost one_slot_each: { marks.shared.table_id.slots ≡ marks.shared.table_id.words },
+    ghost a_place_each: { marks.shared.table_id.words ≡ place marks.shared.table_id.slots },
+    ghost few: { marks.shared.table_id.slots ≤ 64 },
 }
 
 impl<M> Drop for Channel<M> {

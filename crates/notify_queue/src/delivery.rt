@@ -1,12 +1,13 @@
 //! The rule of the queue, and what each step on it tells.
 use crate::stamp::Stamped;
-use crossbeam_queue::protocol::{Join, Lesson, Outcome, Protocol, Split};
-use crossbeam_queue::{RuledSegQueue, SegPass};
+use crossbeam_queue::protocol::{Join, Lesson, Outcome, Outcomes, Protocol, Split};
+use crossbeam_queue::{RuledSegQueue, SegBatch, SegPass};
 use fan_base::Parcel;
+use std::alloc::Global;
 use std::collections::LinkedList;
 
-/// A sender, and what it put: in all, where it has ended, or before it made a note.
-pub(crate) struct Told<M> {
+/// A sender that has ended, and all that it put.
+pub(crate) struct EndedSender<M> {
     pub sender: u32,
     pub put: LinkedList<M>,
 }
@@ -14,13 +15,12 @@ pub(crate) struct Told<M> {
 /// What a pass knows. No value of it is made.
 ///
 /// The pass of a sender has its number and what it has put. Pass 0 is the receiver's: it has what was taken, how many
-/// senders were made, what the ended ones that it was told of had put, and what it has heard that others had put.
+/// senders were made, and what those that it found ended had put.
 pub(crate) struct Knowledge<M> {
     pub sends: bool,
     pub number: u32,
     pub put: LinkedList<M>,
-    pub told: LinkedList<Told<M>>,
-    pub heard: LinkedList<Told<M>>,
+    pub ended: LinkedList<EndedSender<M>>,
     pub taken: LinkedList<Stamped<M>>,
     pub made: u32,
 }
@@ -28,6 +28,8 @@ pub(crate) struct Knowledge<M> {
 pub(crate) type Line<M> = RuledSegQueue<Parcel<Stamped<M>>, Knowledge<M>, Delivery>;
 
 pub(crate) type Pass<M> = SegPass<Parcel<Stamped<M>>, Knowledge<M>>;
+
+pub(crate) type Batch<M> = SegBatch<Parcel<Stamped<M>>, Knowledge<M>, Global>;
 
 pub(crate) struct Delivery;
 
@@ -46,7 +48,7 @@ impl<M> Split<Knowledge<M>> for AnotherSender {
     ghost use Rattle.std.specs.Prelude.{◌+◌, []};
     ghost use Rattle.notify_queue.specs.Delivery.{receiving, sending};
 
-    ghost left = { λ v. receiving (v.made + 1) v.told v.heard v.taken };
+    ghost left = { λ v. receiving (v.made + 1) v.ended v.taken };
 
     ghost right = { λ v. sending v.made [] };
 }
@@ -61,13 +63,20 @@ impl<M> Outcome<Parcel<Stamped<M>>, Knowledge<M>> for Put {
     ghost then = { λ v x w. w ≡ sending v.number (v.put ++ x.message ∷ []) };
 }
 
-/// The receiver takes a message, or finds the queue empty.
+/// The receiver takes messages in front, or finds the queue empty.
 pub(crate) struct Take;
 
 impl<M> Outcome<Parcel<Stamped<M>>, Knowledge<M>> for Take {
-    ghost use Rattle.notify_queue.specs.Delivery.{Took};
+    ghost use Rattle.std.specs.Prelude.{◌∷◌, []};
+    ghost use Rattle.notify_queue.specs.Delivery.{Takes};
 
-    ghost then = { Took };
+    ghost then = { λ v x w. Takes v (x ∷ []) w };
+}
+
+impl<M> Outcomes<Parcel<Stamped<M>>, Knowledge<M>> for Take {
+    ghost use Rattle.notify_queue.specs.Delivery.{Takes};
+
+    ghost then_all = { Takes };
 }
 
 impl<M> Lesson<Parcel<Stamped<M>>, Knowledge<M>> for Take {
@@ -76,36 +85,25 @@ impl<M> Lesson<Parcel<Stamped<M>>, Knowledge<M>> for Take {
     ghost fact = { Shows };
 }
 
-/// A sender ends: its pass and a copy of it tell what it put.
+/// A sender ends: its pass and a copy of it say what it put.
 pub(crate) struct End;
 
 impl<M> Split<Knowledge<M>> for End {
-    ghost use Rattle.notify_queue.specs.Delivery.{telling};
+    ghost use Rattle.notify_queue.specs.Delivery.{ending};
 
-    ghost left = { λ v. telling v.number v.put };
+    ghost left = { λ v. ending v.number v.put };
 
-    ghost right = { λ v. telling v.number v.put };
+    ghost right = { λ v. ending v.number v.put };
 }
 
-/// A sender makes a note of what it has put.
-pub(crate) struct Noting;
+/// The receiver takes in the pass of a sender that has ended.
+pub(crate) struct JoinEnd;
 
-impl<M> Split<Knowledge<M>> for Noting {
-    ghost use Rattle.notify_queue.specs.Delivery.{noting};
-
-    ghost left = { λ v. v };
-
-    ghost right = { λ v. noting v.number v.put };
-}
-
-/// The receiver is told of an end, or of a note.
-pub(crate) struct Hear;
-
-impl<M> Join<Knowledge<M>> for Hear {
+impl<M> Join<Knowledge<M>> for JoinEnd {
     ghost use Rattle.std.specs.Prelude.{◌++◌};
     ghost use Rattle.notify_queue.specs.Delivery.{receiving, idle};
 
-    ghost both = { λ v w. receiving v.made (v.told ++ w.told) (v.heard ++ w.heard) v.taken };
+    ghost both = { λ v w. receiving v.made (v.ended ++ w.ended) v.taken };
 
     ghost spent = { idle };
 }

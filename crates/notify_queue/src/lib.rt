@@ -4,7 +4,7 @@
 pub use opening::queue;
 pub use receiver::Receiver;
 pub use rest::{QueueEnd, Rest};
-pub use sender::{Note, Sender, SenderEnd};
+pub use sender::{Sender, SenderEnd};
 pub use stamp::{Stamp, Stamped};
 
 mod channel;

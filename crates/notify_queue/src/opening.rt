@@ -1,32 +1,34 @@
 //! How a queue is made.
 ghost use Rattle.std.specs.Prelude.{◌≡◌, ℕ, ◌+◌, ◌<◌, ◌≤◌, [], length, Some, IfOk, OnOk, slice_get};
 ghost use Rattle.std.specs.Arc.{arc_value};
-ghost use Rattle.crossbeam_queue.specs.SegTies.{IsSegPassOf};
 ghost use Rattle.notify_queue.specs.Delivery.{receiving};
-ghost use Rattle.notify_queue.specs.Ends.{new_receiver, new_sender};
+ghost use Rattle.notify_queue.specs.Ends.{AreAllUnused, new_receiver, new_sender};
 ghost use Rattle.notify_queue.specs.Marks.{reading};
+ghost use Rattle.notify_queue.specs.Passes.{IsFirstPassOf, known_by};
 
 use crate::channel::Channel;
 use crate::delivery::Pass;
 use crate::marks::MarkSeat;
-use crate::receiver::Receiver;
-use crate::sender::Sender;
+use crate::receiver::{Receiver, no_counts};
+use crate::sender::{Sender, abandon_all};
 use fan_base::Memory;
 use std::alloc::Global;
 use std::sync::Arc;
 
 /// A queue of so many senders, which have the numbers from 0 on. `Memory` comes where there is none for the queue, its marks,
-/// its parker or the list of senders.
+/// its parker, its counts or the list of senders.
 pub fn queue<M>(alloc: Global, senders: u32) -> Result<(Receiver<M>, Vec<Sender<M>>), Memory>
     requires some { 1 ≤ senders }
     requires few { senders ≤ 64 }
     ensures receiver { IfOk result (λ q. q.0 ≡ new_receiver q.0.queue senders) }
+    ensures unused { IfOk result (λ q. AreAllUnused q.0 q.1.items) }
     ensures senders { IfOk result (λ q. (length q.1.items ≡ senders) × ((number : ℕ) → number < senders → slice_get q.1.items number ≡ Some (new_sender q.0.queue number))) }
 {
+    let counts = no_counts(alloc, senders)?;
     let (channel, mut pass, mut seat, parker) = Channel::open(alloc, senders)?;
     let channel = Arc::new(alloc, channel).map_err(|_| Memory)?;
     let made = senders_of(alloc, &channel, senders, &mut pass, &mut seat)?;
-    let receiver = Receiver::new(alloc, channel, pass, seat, parker, senders);
+    let receiver = Receiver::new(alloc, channel, pass, seat, parker, senders, counts);
     Ok((receiver, made))
 }
 
@@ -38,11 +40,11 @@ fn senders_of<M>(
     seat: &mut MarkSeat<M>,
 ) -> Result<Vec<Sender<M>>, Memory>
     requires few { senders ≤ 64 }
-    requires pass { IsSegPassOf (arc_value channel.now).line pass.old × (pass.old.id ≡ 0) × (pass.old.me.view.client ≡ receiving 0 [] [] []) }
-    requires seat { (seat.old.table_id ≡ (arc_value channel.now).marks.shared.table_id) × (seat.old.id ≡ 0) × (seat.old.me.0 ≡ reading (arc_value channel.now).line 0 0 []) × (seat.old.table_id.words ≡ senders) }
+    requires pass { IsFirstPassOf (arc_value channel.now).line pass.old × (known_by pass.old ≡ receiving 0 [] []) }
+    requires seat { (seat.old.table_id ≡ (arc_value channel.now).marks.shared.table_id) × (seat.old.id ≡ 0) × (seat.old.me.0 ≡ reading (arc_value channel.now).line 0 0 []) × (seat.old.table_id.slots ≡ senders) }
     ensures count { IfOk result (λ made. length made.items ≡ senders) }
     ensures made { IfOk result (λ made. (number : ℕ) → number < senders → slice_get made.items number ≡ Some (new_sender (record { line = (arc_value channel.now).line }) number)) }
-    ensures pass { OnOk result (IsSegPassOf (arc_value channel.now).line pass.new × (pass.new.id ≡ 0) × (pass.new.me.view.client ≡ receiving senders [] [] [])) }
+    ensures pass { OnOk result (IsFirstPassOf (arc_value channel.now).line pass.new × (known_by pass.new ≡ receiving senders [] [])) }
     ensures seat { OnOk result ((seat.new.table_id ≡ seat.old.table_id) × (seat.new.id ≡ 0) × (seat.new.me.0 ≡ reading (arc_value channel.now).line senders 0 [])) }
 {
     let mut made = Vec::with_capacity(alloc, senders as usize)?;
@@ -50,17 +52,10 @@ fn senders_of<M>(
         match Sender::another(channel, alloc, number, pass, seat) {
             Ok(sender) => made.push_reserved(sender),
             Err(memory) => {
-                abandon(made);
+                abandon_all(made);
                 return Err(memory);
             }
         }
     }
     Ok(made)
-}
-
-fn abandon<M>(mut made: Vec<Sender<M>>) {
-    while let Some(sender) = made.pop() {
-        sender.abandon();
-    }
-    made.destroy_empty();
 }

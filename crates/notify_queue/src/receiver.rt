@@ -1,12 +1,15 @@
 use crate::channel::Channel;
 use crate::delivery::Pass;
 use crate::marks::MarkSeat;
+pub(crate) use counts::no_counts;
 use crossbeam_utils::sync::Parker;
 use std::alloc::Global;
 use std::marker::Model;
 use std::sync::Arc;
 
 mod calls;
+mod counts;
+mod steps;
 
 /// The one that takes the messages. It must be spent by [`Receiver::close`].
 pub struct Receiver<M> {
@@ -18,6 +21,8 @@ pub struct Receiver<M> {
     // How many senders it has found ended: those with the numbers below.
     found: u32,
     taken: u64,
+    // How many of each sender.
+    counts: Vec<u64>,
     alloc: Global,
 }
 

@@ -1,6 +1,7 @@
 use crate::channel::Channel;
 use crate::delivery::Pass;
 use crate::marks::MarkSeat;
+pub(crate) use calls::abandon_all;
 use std::alloc::Global;
 use std::marker::Model;
 use std::sync::Arc;
@@ -26,30 +27,6 @@ impl<M> Model for Sender<M> {
     ghost view = { sending_of };
 
     ghost invariant = { IsSender };
-}
-
-/// That a sender had put so many messages. It may cross to the receiver's thread with what else tells of them, and it
-/// may be dropped.
-pub struct Note<M> {
-    pass: Pass<M>,
-    number: u32,
-}
-
-impl<M> Model for Note<M> {
-    ghost use Rattle.notify_queue.specs.Ends.{Sending};
-    ghost use Rattle.notify_queue.specs.Senders.{note_of, IsNote};
-
-    ghost Value = { Sending M };
-
-    ghost view = { note_of };
-
-    ghost invariant = { IsNote };
-}
-
-impl<M> Drop for Note<M> {
-    fn drop(self) {
-        let Note { pass: _, number: _ } = self;
-    }
 }
 
 /// What is left of a sender after its end. [`crate::Receiver::close`] asks for the ends of all senders.

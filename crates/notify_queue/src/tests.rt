@@ -1,4 +1,4 @@
-ghost use Rattle.std.specs.Prelude.{◌≡◌, ◌+◌, ◌^◌, ◌<◌, ◌≤◌, [], length};
+ghost use Rattle.std.specs.Prelude.{◌≡◌, ◌+◌, ◌^◌, ◌<◌, ◌≤◌, [], length, vec_capacity};
 ghost use Rattle.notify_queue.specs.Ends.{new_receiver, new_sender};
 
 use super::*;
@@ -60,8 +60,6 @@ fn two_senders_and_what_is_left(rt: HostRuntime) {
     assert_eq!(rt; put(&rt, &mut second, 'y'), (1, 0));
     assert_eq!(rt; put(&rt, &mut first, 'z'), (0, 1));
     assert_eq!(rt; first.puts(), 2);
-    receiver.hear(first.note());
-    receiver.hear(second.note());
     let got = receiver.take_up_to(&rt, 2).expect(&rt, "memory");
     let expected = [message(0, 0, 'x'), message(1, 0, 'y')];
     assert_eq!(rt; got.as_slice(), expected.as_slice());
@@ -182,35 +180,29 @@ fn two_threads_put_and_one_takes(rt: HostRuntime) {
     assert_eq!(rt; (put, taken, rest.len()), (2 * MANY, 2 * MANY, 0));
 }
 
-// Puts a thousand messages and makes a note of them.
-fn put_noted<R: Abort + Wait>(rt: &R, mut sender: Sender<u64>) -> (Sender<u64>, Note<u64>)
-    ensures sender { (result.0.queue ≡ sender.queue) × (result.0.number ≡ sender.number) }
-    ensures note { result.1.queue ≡ sender.queue }
+// Puts a thousand messages.
+fn put_thousand<R: Abort + Wait>(rt: &R, mut sender: Sender<u64>) -> Sender<u64>
+    ensures { (result.queue ≡ sender.queue) × (result.number ≡ sender.number) }
 {
     assert!(rt; sender.puts() == 0);
     for number in 0..1000 {
         sender.put(rt, number).expect(rt, "memory");
     }
-    let note = sender.note();
-    (sender, note)
+    sender
 }
 
 #[test]
-fn all_that_was_heard_comes_before_none(rt: HostRuntime) {
+fn all_that_was_put_comes_before_none(rt: HostRuntime) {
     let alloc = rt.alloc();
     let (mut receiver, first, second) = two_senders::<u64, _>(&rt, alloc);
     let first = wrapped(&rt, alloc, first);
     let second = wrapped(&rt, alloc, second);
-    let (one, other) = join(
+    let (first, second) = join(
         &rt,
-        move || put_noted(&rt, first.open()),
-        move || put_noted(&rt, second.open()),
+        move || put_thousand(&rt, first.open()),
+        move || put_thousand(&rt, second.open()),
     );
-    let (first, note) = one;
-    receiver.hear(note);
-    let (second, note) = other;
-    receiver.hear(note);
-    let got = receiver.take_up_to(&rt, 2000).expect(&rt, "memory");
+    let got = receiver.take_up_to(&rt, 3000).expect(&rt, "memory");
     assert_eq!(rt; got.len(), 2000);
     assert_eq!(rt; receiver.take(&rt), None);
     let end = close_two(&rt, alloc, receiver, first.end(&rt), second.end(&rt));
@@ -256,6 +248,16 @@ fn no_message_is_slept_through(rt: HostRuntime) {
     let pings = close_two(&rt, alloc, pings, ping, other_ping.end(&rt));
     let pongs = close_two(&rt, alloc, pongs, pong, other_pong.end(&rt));
     assert_eq!(rt; (pings.rest.len(), pongs.rest.len()), (1, 0));
+}
+
+// Where there is no memory for what stands on it, a queue is given up.
+#[test]
+fn an_unused_queue_is_given_up(rt: HostRuntime) {
+    let alloc = rt.alloc();
+    if let Ok((receiver, senders)) = queue::<Pledge>(alloc, 3) {
+        assert_eq!(rt; senders.len(), 3);
+        receiver.abandon(senders);
+    }
 }
 
 // A message that must be spent.
@@ -313,11 +315,26 @@ fn take_three<R: Wait>(rt: &R, receiver: &mut Receiver<Pledge>) -> u64
     }
 }
 
+// Closes a queue of one sender. It takes no memory.
+fn close_one<R: Wait>(
+    rt: &R,
+    receiver: Receiver<Pledge>,
+    mut ends: Vec<SenderEnd<Pledge>>,
+    end: SenderEnd<Pledge>,
+) -> QueueEnd<Pledge>
+    requires receiver { receiver.senders ≡ 1 }
+    requires ends { (ends.items ≡ []) × (1 ≤ vec_capacity ends) }
+    requires end { (end.queue ≡ receiver.queue) × (end.number ≡ 0) }
+{
+    ends.push_reserved(end);
+    receiver.close(rt, ends)
+}
+
 // Each call that takes memory is refused where an allocation fails, and all else goes on.
 #[test]
 fn a_refused_message_comes_back(rt: HostRuntime) {
     let alloc = rt.alloc();
-    let Ok(mut ends) = Vec::with_capacity(alloc, 1) else {
+    let Ok(ends) = Vec::with_capacity(alloc, 1) else {
         return;
     };
     let Ok((mut receiver, mut senders)) = queue::<Pledge>(alloc, 1) else {
@@ -330,12 +347,11 @@ fn a_refused_message_comes_back(rt: HostRuntime) {
     let first = receiver.take(&rt).expect(&rt, "a message");
     assert_eq!(rt; first.stamp.index, had);
     first.message.spend();
-    ends.push_reserved(sender.end(&rt));
     let QueueEnd {
         put,
         taken,
         mut rest,
-    } = receiver.close(&rt, ends);
+    } = close_one(&rt, receiver, ends, sender.end(&rt));
     assert_eq!(rt; (put, taken), (kept, had + 1));
     let next = rest.pop().expect(&rt, "a message");
     assert_eq!(rt; next.stamp.index, taken);

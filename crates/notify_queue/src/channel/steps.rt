@@ -1,13 +1,18 @@
-ghost use Rattle.std.specs.Prelude.{◌≡◌, ℕ, ◌+◌, ◌^◌, ◌<◌, ◌≤◌, ◌++◌, ◌∷◌, [], length, map, true, MatchResult, MatchOption, IfOk};
+//! Each step that the ends of a queue make on it.
+ghost use Rattle.std.specs.Prelude.{◌≡◌, ℕ, ◌+◌, ◌-◌, ◌^◌, ◌<◌, ◌≤◌, ◌++◌, ◌∷◌, [], length, map, true, false, IfOk, MatchResult, MatchOption};
 ghost use Rattle.std.specs.List.{All};
 ghost use Rattle.crossbeam_queue.specs.SegTies.{IsSegPassOf};
-ghost use Rattle.notify_queue.specs.Delivery.{sending, receiving, telling, noting, idle, Took, Shows};
-ghost use Rattle.notify_queue.specs.Ends.{told_by};
-ghost use Rattle.notify_queue.specs.Marks.{HasMarked, Tells, reading, marks_sending};
+ghost use Rattle.notify_queue.specs.declared.marks.Look.{Look};
+ghost use Rattle.notify_queue.specs.Delivery.{sending, receiving, ending, idle, Takes, Shows};
+ghost use Rattle.notify_queue.specs.Ends.{whole_of};
+ghost use Rattle.notify_queue.specs.Marks.{HasLooked, HasShown, HasMarked, KnowsAll, place, reading, marks_sending};
+ghost use Rattle.notify_queue.specs.Passes.{IsFirstPassOf, known_by};
 
 use super::Channel;
-use crate::delivery::{AnotherSender, End, Hear, Line, Noting, Pass, Put, Take};
-use crate::marks::{AnotherMark, MarkSeat, Marks, ReadMark, SetMark, TakeSlot};
+use crate::delivery::{AnotherSender, End, JoinEnd, Line, Pass, Put, Take};
+use crate::marks::{
+    AnotherMark, LookAt, MarkSeat, Marks, ReadMark, SetMark, ShowPut, TakeSlot, word_of,
+};
 use crate::sender::SenderEnd;
 use crate::stamp::Stamped;
 use crossbeam_utils::sync::Parker;
@@ -22,105 +27,120 @@ fn clear_marks<M>(
     line: &Line<M>,
 ) -> Result<(Marks<M>, MarkSeat<M>), AllocError>
     requires { senders ≤ 64 }
-    ensures marks { IfOk result (λ r. (r.0.shared.key ≡ line.now) × (r.0.shared.table_id.words ≡ senders) × (r.0.shared.table_id.slots ≡ senders)) }
+    ensures marks { IfOk result (λ r. (r.0.shared.key ≡ line.now) × (r.0.shared.table_id.words ≡ place senders) × (r.0.shared.table_id.slots ≡ senders)) }
     ensures seat { IfOk result (λ r. (r.1.table_id ≡ r.0.shared.table_id) × (r.1.id ≡ 0) × (r.1.me.0 ≡ reading line.now 0 0 [])) }
 {
-    let words = [0; 64];
+    let words = [0; 512];
     let count = senders as usize;
-    Marks::vacant(alloc, &words[..count], count, line)
+    Marks::vacant(alloc, &words[..word_of(senders)], count, line)
 }
 
 impl<M> Channel<M> {
-    /// Puts a message of the pass's sender behind the others, and wakes the receiver.
+    /// Puts a message of the pass's sender behind the others.
     pub(crate) fn put<R: Wait>(
         &self,
         rt: &R,
         pass: &mut Pass<M>,
         parcel: Parcel<Stamped<M>>,
     ) -> Result<(), Parcel<Stamped<M>>>
-        requires pass { IsSegPassOf self.now.line pass.old × (pass.old.me.view.client.sends ≡ true) }
-        requires stamp { (parcel.stamp.sender ≡ pass.old.me.view.client.number) × (parcel.stamp.index ≡ length pass.old.me.view.client.put) × (length pass.old.me.view.client.put + 1 < 2 ^ 32) }
+        requires pass { IsSegPassOf self.now.line pass.old × ((known_by pass.old).sends ≡ true) }
+        requires sender { parcel.stamp.sender ≡ (known_by pass.old).number }
+        requires index { parcel.stamp.index ≡ length (known_by pass.old).put }
+        requires room { length (known_by pass.old).put + 1 < 2 ^ 32 }
         ensures pass { IsSegPassOf self.now.line pass.new × (pass.new.id ≡ pass.old.id) }
-        ensures put { MatchResult result (λ _. pass.new.me.view.client ≡ sending pass.old.me.view.client.number (pass.old.me.view.client.put ++ parcel.message ∷ [])) (λ back. (back ≡ parcel) × (pass.new.me.view.client ≡ pass.old.me.view.client)) }
+        ensures put { MatchResult result (λ _. known_by pass.new ≡ sending (known_by pass.old).number ((known_by pass.old).put ++ parcel.message ∷ [])) (λ back. (back ≡ parcel) × (known_by pass.new ≡ known_by pass.old)) }
     {
-        self.line.push_as::<Put, R>(rt, pass, parcel)?;
+        self.line.push_as::<Put, R>(rt, pass, parcel)
+    }
+
+    /// Shows one put more in the sender's word, and wakes the receiver.
+    pub(crate) fn show_put(&self, seat: &mut MarkSeat<M>, sender: u32, puts: u64)
+        requires seat { (seat.old.table_id ≡ self.now.marks.shared.table_id) × (sender < seat.old.table_id.slots) }
+        requires puts { (0 < puts) × (puts < 2 ^ 32) × HasShown self.now.line sender (puts - 1) seat.old.me }
+        ensures seat { seat.new.table_id ≡ seat.old.table_id }
+        ensures shown { HasShown self.now.line sender puts seat.new.me }
+    {
+        self.marks
+            .shared
+            .store::<ShowPut>(seat, word_of(sender), 2 * puts);
         self.wake.unpark();
-        Ok(())
     }
 
     /// Takes the message in front. `None` is learned at a moment at which the queue holds nothing.
     pub(crate) fn take<R: Wait>(&self, rt: &R, pass: &mut Pass<M>) -> Option<Parcel<Stamped<M>>>
-        requires { IsSegPassOf self.now.line pass.old × (pass.old.id ≡ 0) }
-        ensures pass { IsSegPassOf self.now.line pass.new × (pass.new.id ≡ 0) }
-        ensures taken { MatchOption result ((pass.new.me.view.client ≡ pass.old.me.view.client) × Shows pass.old.me.view.client []) (λ x. Took pass.old.me.view.client x pass.new.me.view.client) }
+        requires { IsFirstPassOf self.now.line pass.old }
+        ensures pass { IsFirstPassOf self.now.line pass.new }
+        ensures taken { MatchOption result ((known_by pass.new ≡ known_by pass.old) × Shows (known_by pass.old) []) (λ x. Takes (known_by pass.old) (x ∷ []) (known_by pass.new)) }
     {
         self.line.pop_as::<Take, R>(rt, pass)
     }
 
-    /// A sender's pass becomes one that tells what it put, and so does the copy that is given.
+    /// A sender's pass becomes one that says what it put, and so does the copy that is given.
     pub(crate) fn end(&self, pass: &mut Pass<M>) -> Pass<M>
-        requires { IsSegPassOf self.now.line pass.old × (pass.old.me.view.client.sends ≡ true) }
-        ensures pass { IsSegPassOf self.now.line pass.new × (pass.new.me.view.client ≡ telling pass.old.me.view.client.number pass.old.me.view.client.put) }
-        ensures copy { IsSegPassOf self.now.line result × (result.me.view.client ≡ telling pass.old.me.view.client.number pass.old.me.view.client.put) }
+        requires { IsSegPassOf self.now.line pass.old × ((known_by pass.old).sends ≡ true) }
+        ensures pass { IsSegPassOf self.now.line pass.new × (known_by pass.new ≡ ending (known_by pass.old).number (known_by pass.old).put) }
+        ensures copy { IsSegPassOf self.now.line result × (known_by result ≡ ending (known_by pass.old).number (known_by pass.old).put) }
     {
         self.line.another::<End>(pass)
     }
 
-    /// A pass that tells what a sender has put so far. The sender's own pass stays as it is.
-    pub(crate) fn note(&self, pass: &mut Pass<M>) -> Pass<M>
-        requires { IsSegPassOf self.now.line pass.old × (pass.old.me.view.client.sends ≡ true) }
-        ensures pass { IsSegPassOf self.now.line pass.new × (pass.new.me.view.client ≡ pass.old.me.view.client) }
-        ensures note { IsSegPassOf self.now.line result × (result.me.view.client ≡ noting pass.old.me.view.client.number pass.old.me.view.client.put) }
+    /// The receiver takes in the pass of a sender that has ended.
+    pub(crate) fn join_end(&self, pass: &mut Pass<M>, end: Pass<M>)
+        requires { IsFirstPassOf self.now.line pass.old × IsSegPassOf self.now.line end }
+        ensures pass { IsFirstPassOf self.now.line pass.new }
+        ensures ended { known_by pass.new ≡ receiving (known_by pass.old).made ((known_by pass.old).ended ++ (known_by end).ended) (known_by pass.old).taken }
     {
-        self.line.another::<Noting>(pass)
+        self.line.absorb::<JoinEnd>(pass, end);
     }
 
-    /// Takes in what another pass tells.
-    pub(crate) fn hear(&self, pass: &mut Pass<M>, told: Pass<M>)
-        requires { IsSegPassOf self.now.line pass.old × (pass.old.id ≡ 0) × IsSegPassOf self.now.line told }
-        ensures pass { IsSegPassOf self.now.line pass.new × (pass.new.id ≡ 0) }
-        ensures told { pass.new.me.view.client ≡ receiving pass.old.me.view.client.made (pass.old.me.view.client.told ++ told.me.view.client.told) (pass.old.me.view.client.heard ++ told.me.view.client.heard) pass.old.me.view.client.taken }
-    {
-        self.line.absorb::<Hear>(pass, told);
-    }
-
-    /// Takes in what the ends of senders tell.
-    pub(crate) fn hear_all(&self, pass: &mut Pass<M>, ends: Vec<SenderEnd<M>>)
-        requires pass { IsSegPassOf self.now.line pass.old × (pass.old.id ≡ 0) }
+    /// The receiver takes in the ends of senders.
+    pub(crate) fn join_ends(&self, pass: &mut Pass<M>, ends: Vec<SenderEnd<M>>)
+        requires pass { IsFirstPassOf self.now.line pass.old }
         requires ends { All (λ e. e.queue.line ≡ self.now.line) ends.items }
-        ensures pass { IsSegPassOf self.now.line pass.new × (pass.new.id ≡ 0) }
-        ensures same { (pass.new.me.view.client.made ≡ pass.old.me.view.client.made) × (pass.new.me.view.client.heard ≡ pass.old.me.view.client.heard) × (pass.new.me.view.client.taken ≡ pass.old.me.view.client.taken) }
-        ensures told { pass.new.me.view.client.told ≡ pass.old.me.view.client.told ++ map told_by ends.items }
+        ensures pass { IsFirstPassOf self.now.line pass.new }
+        ensures same { ((known_by pass.new).made ≡ (known_by pass.old).made) × ((known_by pass.new).taken ≡ (known_by pass.old).taken) }
+        ensures ended { (known_by pass.new).ended ≡ (known_by pass.old).ended ++ map whole_of ends.items }
     {
         for end in ends {
-            self.hear(pass, end.into_pass());
+            self.join_end(pass, end.into_pass());
         }
     }
 
     /// Leaves the copy in the sender's slot and sets its mark, and wakes the receiver.
-    pub(crate) fn set_mark(&self, seat: &mut MarkSeat<M>, sender: u32, copy: Pass<M>)
-        requires seat { (seat.old.table_id ≡ self.now.marks.shared.table_id) × (seat.old.me ≡ (marks_sending self.now.line sender, [])) × (sender < seat.old.table_id.words) }
-        requires copy { Tells self.now.line sender copy }
-        ensures { HasMarked self.now.line sender seat.new.me }
+    pub(crate) fn set_mark(&self, seat: &mut MarkSeat<M>, sender: u32, puts: u64, copy: Pass<M>)
+        requires seat { (seat.old.table_id ≡ self.now.marks.shared.table_id) × (sender < seat.old.table_id.slots) }
+        requires puts { (puts < 2 ^ 32) × HasShown self.now.line sender puts seat.old.me }
+        requires copy { KnowsAll self.now.line sender copy }
+        ensures { HasMarked self.now.line sender puts seat.new.me }
     {
         let table = &self.marks.shared;
         let slot = sender as usize;
-        table.load::<TakeSlot>(seat, slot);
+        let word = word_of(sender);
+        table.load::<TakeSlot>(seat, word);
         let _empty = table.exchange(seat, slot, Some(copy));
-        table.store::<SetMark>(seat, slot, 1);
+        table.store::<SetMark>(seat, word, 2 * puts + 1);
         self.wake.unpark();
+    }
+
+    /// Looks at the sender's word. It gives how many puts that shows.
+    pub(crate) fn look_at(&self, seat: &mut MarkSeat<M>, sender: u32) -> u64
+        requires seat { (seat.old.table_id ≡ self.now.marks.shared.table_id) × (seat.old.id ≡ 0) × (sender < seat.old.table_id.slots) }
+        ensures seat { (seat.new.table_id ≡ seat.old.table_id) × (seat.new.id ≡ 0) }
+        ensures looked { (look : Look) × HasLooked sender seat.old.me.0.read look seat.old.me.0 seat.new.me.0 × (look.puts ≡ result) }
+    {
+        self.marks.shared.load::<LookAt>(seat, word_of(sender)) / 2
     }
 
     /// Reads the mark in turn. It gives the pass that the sender left there, or `None` where the sender has not ended.
     pub(crate) fn read_mark(&self, seat: &mut MarkSeat<M>, sender: u32) -> Option<Pass<M>>
-        requires seat { (seat.old.table_id ≡ self.now.marks.shared.table_id) × (seat.old.id ≡ 0) × (sender < seat.old.table_id.words) }
+        requires seat { (seat.old.table_id ≡ self.now.marks.shared.table_id) × (seat.old.id ≡ 0) × (sender < seat.old.table_id.slots) }
         requires turn { (seat.old.me.0.read ≡ sender) × (seat.old.me.0.queue ≡ self.now.line) }
         ensures seat { (seat.new.table_id ≡ seat.old.table_id) × (seat.new.id ≡ 0) }
-        ensures read { MatchOption result (seat.new.me.0 ≡ reading self.now.line seat.old.me.0.made sender (seat.old.me.0.missed ++ sender ∷ [])) (λ pass. (seat.new.me.0 ≡ reading self.now.line seat.old.me.0.made (sender + 1) seat.old.me.0.missed) × Tells self.now.line sender pass) }
+        ensures read { MatchOption result ((look : Look) × HasLooked sender sender look seat.old.me.0 seat.new.me.0 × (look.ended ≡ false)) (λ pass. (look : Look) × HasLooked sender (sender + 1) look seat.old.me.0 seat.new.me.0 × (look.ended ≡ true) × KnowsAll self.now.line sender pass) }
     {
         let table = &self.marks.shared;
         let slot = sender as usize;
-        if table.load::<ReadMark>(seat, slot) == 1 {
+        if table.load::<ReadMark>(seat, word_of(sender)) % 2 == 1 {
             table.exchange(seat, slot, None)
         } else {
             None
@@ -129,18 +149,19 @@ impl<M> Channel<M> {
 
     /// A pass for the next sender.
     pub(crate) fn another_sender(&self, pass: &mut Pass<M>) -> Pass<M>
-        requires { IsSegPassOf self.now.line pass.old × (pass.old.id ≡ 0) × (pass.old.me.view.client.made < 64) }
-        ensures pass { IsSegPassOf self.now.line pass.new × (pass.new.id ≡ 0) × (pass.new.me.view.client ≡ receiving (pass.old.me.view.client.made + 1) pass.old.me.view.client.told pass.old.me.view.client.heard pass.old.me.view.client.taken) }
-        ensures sender { IsSegPassOf self.now.line result × (result.me.view.client ≡ sending pass.old.me.view.client.made []) }
+        requires { IsFirstPassOf self.now.line pass.old × ((known_by pass.old).made < 64) }
+        ensures pass { IsFirstPassOf self.now.line pass.new × (known_by pass.new ≡ receiving ((known_by pass.old).made + 1) (known_by pass.old).ended (known_by pass.old).taken) }
+        ensures sender { IsSegPassOf self.now.line result × (known_by result ≡ sending (known_by pass.old).made []) }
     {
         self.line.another::<AnotherSender>(pass)
     }
 
     /// A seat for the next sender.
     pub(crate) fn another_mark(&self, seat: &mut MarkSeat<M>) -> MarkSeat<M>
-        requires { (seat.old.table_id ≡ self.now.marks.shared.table_id) × (seat.old.id ≡ 0) × (0 < seat.old.table_id.words) }
-        ensures seat { (seat.new.table_id ≡ seat.old.table_id) × (seat.new.id ≡ 0) × (seat.new.me.0 ≡ reading seat.old.me.0.queue (seat.old.me.0.made + 1) seat.old.me.0.read seat.old.me.0.missed) }
-        ensures sender { (result.table_id ≡ seat.old.table_id) × (result.me ≡ (marks_sending seat.old.me.0.queue seat.old.me.0.made, [])) }
+        requires { (seat.old.table_id ≡ self.now.marks.shared.table_id) × (seat.old.id ≡ 0) × (0 < seat.old.table_id.slots) }
+        ensures seat { (seat.new.table_id ≡ seat.old.table_id) × (seat.new.id ≡ 0) }
+        ensures made { seat.new.me.0 ≡ reading seat.old.me.0.queue (seat.old.me.0.made + 1) seat.old.me.0.read seat.old.me.0.looks }
+        ensures sender { (result.table_id ≡ seat.old.table_id) × (result.me ≡ (marks_sending seat.old.me.0.queue seat.old.me.0.made 0 seat.old.me.0.looks, [])) }
     {
         self.marks.shared.split_seat::<AnotherMark>(seat)
     }
@@ -151,8 +172,8 @@ impl<M> Channel<M> {
         senders: u32,
     ) -> Result<(Channel<M>, Pass<M>, MarkSeat<M>, Parker), Memory>
         requires { senders ≤ 64 }
-        ensures pass { IfOk result (λ r. IsSegPassOf r.0.line r.1 × (r.1.id ≡ 0) × (r.1.me.view.client ≡ idle)) }
-        ensures seat { IfOk result (λ r. (r.2.table_id ≡ r.0.marks.shared.table_id) × (r.2.table_id.words ≡ senders) × (r.2.id ≡ 0) × (r.2.me.0 ≡ reading r.0.line 0 0 [])) }
+        ensures pass { IfOk result (λ r. IsFirstPassOf r.0.line r.1 × (known_by r.1 ≡ idle)) }
+        ensures seat { IfOk result (λ r. (r.2.table_id ≡ r.0.marks.shared.table_id) × (r.2.table_id.slots ≡ senders) × (r.2.id ≡ 0) × (r.2.me.0 ≡ reading r.0.line 0 0 [])) }
     {
         let parker = Parker::new(alloc)?;
         let wake = parker.unparker().clone()?;
@@ -168,11 +189,11 @@ impl<M> Channel<M> {
 
     /// Takes all that is left, in its order, and says how many these are.
     pub(crate) fn drain<R: Wait>(&self, rt: &R, pass: &mut Pass<M>) -> (Parcels<Stamped<M>>, usize)
-        requires { IsSegPassOf self.now.line pass.old × (pass.old.id ≡ 0) }
+        requires { IsFirstPassOf self.now.line pass.old }
         ensures count { result.1 ≡ length result.0 }
-        ensures same { (pass.new.me.view.client.made ≡ pass.old.me.view.client.made) × (pass.new.me.view.client.told ≡ pass.old.me.view.client.told) × (pass.new.me.view.client.heard ≡ pass.old.me.view.client.heard) }
-        ensures taken { pass.new.me.view.client.taken ≡ pass.old.me.view.client.taken ++ result.0 }
-        ensures empty { Shows pass.new.me.view.client [] }
+        ensures same { ((known_by pass.new).made ≡ (known_by pass.old).made) × ((known_by pass.new).ended ≡ (known_by pass.old).ended) }
+        ensures taken { (known_by pass.new).taken ≡ (known_by pass.old).taken ++ result.0 }
+        ensures empty { Shows (known_by pass.new) [] }
     {
         let mut parcels = Parcels::new();
         let mut len = 0;
@@ -188,20 +209,20 @@ impl<M> Channel<M> {
         unreachable!()
     }
 
-    /// Hears all ends and takes all that is left.
+    /// Takes in all ends, and then all that is left.
     pub(crate) fn settle<R: Wait>(
         &self,
         rt: &R,
         mut pass: Pass<M>,
         ends: Vec<SenderEnd<M>>,
     ) -> (Parcels<Stamped<M>>, usize, Pass<M>)
-        requires pass { IsSegPassOf self.now.line pass × (pass.id ≡ 0) }
+        requires pass { IsFirstPassOf self.now.line pass }
         requires ends { All (λ e. e.queue.line ≡ self.now.line) ends.items }
         ensures count { result.1 ≡ length result.0 }
-        ensures popped { result.2.me.view.client.taken ≡ pass.me.view.client.taken ++ result.0 }
-        ensures empty { Shows (receiving pass.me.view.client.made (pass.me.view.client.told ++ map told_by ends.items) pass.me.view.client.heard (pass.me.view.client.taken ++ result.0)) [] }
+        ensures popped { (known_by result.2).taken ≡ (known_by pass).taken ++ result.0 }
+        ensures empty { Shows (receiving (known_by pass).made ((known_by pass).ended ++ map whole_of ends.items) ((known_by pass).taken ++ result.0)) [] }
     {
-        self.hear_all(&mut pass, ends);
+        self.join_ends(&mut pass, ends);
         let (parcels, len) = self.drain(rt, &mut pass);
         (parcels, len, pass)
     }

@@ -1,12 +1,12 @@
-ghost use Rattle.std.specs.Prelude.{◌≡◌, ℕ, ◌+◌, ◌<◌, ◌≤◌, ◌++◌, ◌∷◌, [], Bool, true, IsTrue, length, IfOk, OnErr, IfSome, IfNone};
+ghost use Rattle.std.specs.Prelude.{◌≡◌, ℕ, ◌+◌, ◌<◌, ◌≤◌, ◌++◌, ◌∷◌, [], Bool, true, IsTrue, length, replicate, IfOk, OnErr, IfSome, IfNone};
 ghost use Rattle.std.specs.Arc.{arc_value};
 ghost use Rattle.std.specs.Bool.{OnTrue, OnFalse};
 ghost use Rattle.std.specs.List.{All, sum_by};
 ghost use mathlib.Core.List.{IsPrefix};
-ghost use Rattle.crossbeam_queue.specs.SegTies.{IsSegPassOf};
 ghost use Rattle.notify_queue.specs.Delivery.{receiving};
-ghost use Rattle.notify_queue.specs.Ends.{AreAllEnds, HasEnded, HasTakenAll, IsDry, Misses, new_receiver, told_by};
+ghost use Rattle.notify_queue.specs.Ends.{AreAllEnds, AreAllUnused, FoundEmpty, FoundEnded, FoundLive, HasEnded, IsDry, new_receiver};
 ghost use Rattle.notify_queue.specs.Marks.{reading};
+ghost use Rattle.notify_queue.specs.Passes.{IsFirstPassOf, known_by};
 ghost use Rattle.notify_queue.specs.Stamps.{messages_of, IsInOrder};
 
 use super::Receiver;
@@ -14,7 +14,7 @@ use crate::channel::Channel;
 use crate::delivery::Pass;
 use crate::marks::MarkSeat;
 use crate::rest::{QueueEnd, Rest};
-use crate::sender::{Note, SenderEnd};
+use crate::sender::{Sender, SenderEnd, abandon_all};
 use crate::stamp::Stamped;
 use crossbeam_utils::sync::Parker;
 use fan_base::Memory;
@@ -22,44 +22,59 @@ use std::alloc::Global;
 use std::sync::{Arc, Wait};
 
 impl<M> Receiver<M> {
-    /// Takes the message in front. `None` comes only where the queue was empty at a moment of the call.
+    /// Takes the message in front. It takes no memory.
+    ///
+    /// `None` comes only where the queue was empty at a moment of the call, and where after that a look at each sender's word
+    /// found no more puts than messages that were taken of it. Where a word shows more, it tries again.
     pub fn take<R: Wait>(&mut self, rt: &R) -> Option<Stamped<M>>
-        ensures some { IfSome result (λ x. (self.new ≡ record self.old { taken = self.old.taken ++ x ∷ [] }) × (x.stamp.sender < self.old.senders)) }
-        ensures none { IfNone result ((self.new ≡ self.old) × HasTakenAll self.new) }
+        ensures same { (self.new.queue ≡ self.old.queue) × (self.new.senders ≡ self.old.senders) × (self.new.ended ≡ self.old.ended) }
+        ensures some { IfSome result (λ x. (self.new.taken ≡ self.old.taken ++ x ∷ []) × (x.stamp.sender < self.old.senders)) }
+        ensures none { IfNone result ((self.new.taken ≡ self.old.taken) × FoundEmpty self.old self.new) }
+        ensures looks { IsPrefix self.old.looks self.new.looks }
         ensures in_order { IsInOrder self.new.taken }
         ensures within { IfSome result (λ _. All (λ t. IsPrefix (messages_of t.sender self.new.taken) t.put) self.new.ended) }
         ensures dry { IfSome result (λ _. IsDry self.old → ⊥) }
     {
-        let parcel = self.channel.take(rt, &mut self.pass)?;
-        self.taken += 1;
-        Some(parcel.open())
+        for _ in rt.forever() {
+            if let Some(stamped) = self.take_one(rt) {
+                return Some(stamped);
+            }
+            if self.finds_no_more() {
+                return None;
+            }
+        }
+        unreachable!()
     }
 
-    /// Takes up to `n` messages. Fewer come only where the queue was empty at a moment of the call.
+    /// Takes up to `n` messages, oldest first. It takes room for `n` first, and a refusal has taken no message.
+    ///
+    /// Fewer come only where `None` of [`Receiver::take`] may come. They are taken in batches, each in one step, which ask
+    /// for no more than is still wanted.
     pub fn take_up_to<R: Wait>(&mut self, rt: &R, n: usize) -> Result<Vec<Stamped<M>>, Memory>
-        ensures taken { IfOk result (λ got. (self.new ≡ record self.old { taken = self.old.taken ++ got.items }) × (length got.items ≤ n)) }
-        ensures fewer { IfOk result (λ got. length got.items < n → HasTakenAll self.new) }
+        ensures same { (self.new.queue ≡ self.old.queue) × (self.new.senders ≡ self.old.senders) × (self.new.ended ≡ self.old.ended) }
+        ensures taken { IfOk result (λ got. (self.new.taken ≡ self.old.taken ++ got.items) × (length got.items ≤ n)) }
+        ensures fewer { IfOk result (λ got. length got.items < n → FoundEmpty self.old self.new) }
+        ensures last { IfOk result (λ got. length got.items < n → HasEnded self.old → IsDry self.new) }
+        ensures senders { IfOk result (λ got. All (λ x. x.stamp.sender < self.old.senders) got.items) }
+        ensures looks { IsPrefix self.old.looks self.new.looks }
         ensures refused { OnErr result (self.new ≡ self.old) }
         ensures in_order { IsInOrder self.new.taken }
+        ensures within { IfOk result (λ got. 0 < n → All (λ t. IsPrefix (messages_of t.sender self.new.taken) t.put) self.new.ended) }
         ensures dry { IfOk result (λ got. IsDry self.old → got.items ≡ []) }
     {
         let mut got = Vec::with_capacity(self.alloc, n)?;
-        for _ in 0..n {
-            match self.take(rt) {
-                Some(stamped) => got.push_reserved(stamped),
-                None => break,
+        for _ in rt.forever() {
+            let wanted = n - got.len();
+            if wanted == 0 {
+                return Ok(got);
+            }
+            if !self.take_batch(rt, &mut got, wanted) {
+                if self.finds_no_more() {
+                    return Ok(got);
+                }
             }
         }
-        Ok(got)
-    }
-
-    /// Takes in a note of what a sender had put. It takes no message, and does nothing when it runs: from then on a
-    /// `None` of [`Receiver::take`] shows that all that stands in the note was taken.
-    pub fn hear(&mut self, note: Note<M>)
-        requires { note.queue ≡ self.old.queue }
-        ensures { self.new ≡ record self.old { heard = self.old.heard ++ told_by note ∷ [] } }
-    {
-        self.channel.hear(&mut self.pass, note.into_pass());
+        unreachable!()
     }
 
     /// Sleeps until a message is put or a sender ends, and not if that happened since the last sleep. It may also return
@@ -74,17 +89,17 @@ impl<M> Receiver<M> {
     ///
     /// A receiver that answers `true` and then finds its queue empty is dry.
     pub fn ended(&mut self) -> bool
-        ensures same { (self.new.queue ≡ self.old.queue) × (self.new.senders ≡ self.old.senders) × (self.new.taken ≡ self.old.taken) × (self.new.heard ≡ self.old.heard) }
+        ensures same { (self.new.queue ≡ self.old.queue) × (self.new.senders ≡ self.old.senders) × (self.new.taken ≡ self.old.taken) }
         ensures more { IsPrefix self.old.ended self.new.ended }
-        ensures yes { OnTrue result (HasEnded self.new × (self.new.missed ≡ self.old.missed)) }
-        ensures no { OnFalse result (Misses self.old self.new) }
+        ensures yes { OnTrue result (HasEnded self.new × FoundEnded self.old self.new) }
+        ensures no { OnFalse result (FoundLive self.old self.new) }
         ensures stays { HasEnded self.old → (result ≡ true) × (self.new ≡ self.old) }
     {
         while self.found < self.senders {
-            let Some(told) = self.channel.read_mark(&mut self.seat, self.found) else {
+            let Some(end) = self.channel.read_mark(&mut self.seat, self.found) else {
                 return false;
             };
-            self.channel.hear(&mut self.pass, told);
+            self.channel.join_end(&mut self.pass, end);
             self.found += 1;
         }
         true
@@ -100,6 +115,7 @@ impl<M> Receiver<M> {
         ensures order { result.rest.popped ≡ self.taken ++ result.rest.left }
         ensures from_senders { All (λ x. x.stamp.sender < self.senders) (self.taken ++ result.rest.left) }
         ensures each { (test : M → Bool) → All (λ e. All (λ m. IsTrue (test m)) e.sent) ends.items → All (λ x. IsTrue (test x.message)) (self.taken ++ result.rest.left) }
+        ensures account { (weight : M → ℕ) → sum_by (λ x. weight x.message) self.taken + sum_by (λ x. weight x.message) result.rest.left ≡ sum_by (λ e. sum_by weight e.sent) ends.items }
         ensures dry { IsDry self → result.rest.left ≡ [] }
     {
         let Receiver {
@@ -110,6 +126,7 @@ impl<M> Receiver<M> {
             senders: _,
             found: _,
             taken,
+            counts: _,
             alloc: _,
         } = self;
         let (parcels, len, pass) = channel.settle(rt, pass, ends);
@@ -120,6 +137,25 @@ impl<M> Receiver<M> {
         }
     }
 
+    /// Gives up a queue that was not used, with all its senders. It takes no memory, so one who made the queue and then finds
+    /// no memory for what stands on it can call it.
+    pub fn abandon(self, senders: Vec<Sender<M>>)
+        requires { AreAllUnused self senders.items }
+    {
+        let Receiver {
+            channel: _,
+            pass: _,
+            seat: _,
+            parker: _,
+            senders: _,
+            found: _,
+            taken: _,
+            counts: _,
+            alloc: _,
+        } = self;
+        abandon_all(senders);
+    }
+
     /// The receiver of a channel all of whose senders are made.
     pub(crate) fn new(
         alloc: Global,
@@ -128,9 +164,11 @@ impl<M> Receiver<M> {
         seat: MarkSeat<M>,
         parker: Parker,
         senders: u32,
+        counts: Vec<u64>,
     ) -> Receiver<M>
-        requires pass { IsSegPassOf (arc_value channel).line pass × (pass.id ≡ 0) × (pass.me.view.client ≡ receiving senders [] [] []) }
-        requires seat { (seat.table_id ≡ (arc_value channel).marks.shared.table_id) × (seat.id ≡ 0) × (seat.me.0 ≡ reading (arc_value channel).line senders 0 []) × (seat.table_id.words ≡ senders) }
+        requires pass { IsFirstPassOf (arc_value channel).line pass × (known_by pass ≡ receiving senders [] []) }
+        requires seat { (seat.table_id ≡ (arc_value channel).marks.shared.table_id) × (seat.id ≡ 0) × (seat.me.0 ≡ reading (arc_value channel).line senders 0 []) × (seat.table_id.slots ≡ senders) }
+        requires counts { counts.items ≡ replicate senders 0 }
         ensures { result ≡ new_receiver (record { line = (arc_value channel).line }) senders }
     {
         Receiver {
@@ -141,6 +179,7 @@ impl<M> Receiver<M> {
             senders,
             found: 0,
             taken: 0,
+            counts,
             alloc,
         }
     }

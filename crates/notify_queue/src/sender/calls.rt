@@ -1,11 +1,12 @@
 ghost use Rattle.std.specs.Prelude.{◌≡◌, ◌+◌, ◌<◌, ◌++◌, ◌∷◌, [], length, IfOk, IfErr, OnOk};
 ghost use Rattle.std.specs.Arc.{arc_value};
 ghost use Rattle.crossbeam_queue.specs.SegTies.{IsSegPassOf};
-ghost use Rattle.notify_queue.specs.Delivery.{receiving, telling, noting};
+ghost use Rattle.notify_queue.specs.Delivery.{receiving, ending};
 ghost use Rattle.notify_queue.specs.Ends.{new_sender};
 ghost use Rattle.notify_queue.specs.Marks.{reading};
+ghost use Rattle.notify_queue.specs.Passes.{IsFirstPassOf, known_by};
 
-use super::{Note, Sender, SenderEnd};
+use super::{Sender, SenderEnd};
 use crate::channel::Channel;
 use crate::delivery::Pass;
 use crate::marks::MarkSeat;
@@ -15,7 +16,7 @@ use std::alloc::Global;
 use std::sync::{Arc, Wait};
 
 impl<M> Sender<M> {
-    /// Puts a message behind the others and wakes the receiver. It gives the message back where there is no memory.
+    /// Puts a message behind the others, shows it in the sender's word, and wakes the receiver. It gives the message back where there is no memory.
     pub fn put<R: Wait>(&mut self, rt: &R, message: M) -> Result<Stamp, Refused<M>>
         requires { length self.old.sent < 4294967295 }
         ensures ok { IfOk result (λ stamp. (stamp ≡ record { sender = self.old.number; index = length self.old.sent }) × (self.new ≡ record self.old { sent = self.old.sent ++ message ∷ [] })) }
@@ -34,6 +35,8 @@ impl<M> Sender<M> {
         match self.channel.put(rt, &mut self.pass, parcel) {
             Ok(()) => {
                 self.puts += 1;
+                self.channel
+                    .show_put(&mut self.seat, self.number, self.puts);
                 Ok(stamp)
             }
             Err(parcel) => {
@@ -50,18 +53,7 @@ impl<M> Sender<M> {
         self.puts
     }
 
-    /// A note of what it has put so far, for [`crate::Receiver::hear`].
-    pub fn note(&mut self) -> Note<M>
-        ensures sender { self.new ≡ self.old }
-        ensures note { result ≡ self.old }
-    {
-        Note {
-            pass: self.channel.note(&mut self.pass),
-            number: self.number,
-        }
-    }
-
-    /// No message of this sender comes any more. It tells the receiver and wakes it.
+    /// No message of this sender comes any more. It sets the sender's mark and wakes the receiver.
     pub fn end<R: Wait>(self, _rt: &R) -> SenderEnd<M>
         ensures { result ≡ self }
     {
@@ -70,11 +62,11 @@ impl<M> Sender<M> {
             mut pass,
             mut seat,
             number,
-            puts: _,
+            puts,
             alloc: _,
         } = self;
         let copy = channel.end(&mut pass);
-        channel.set_mark(&mut seat, number, copy);
+        channel.set_mark(&mut seat, number, puts, copy);
         SenderEnd { pass, seat, number }
     }
 
@@ -86,10 +78,10 @@ impl<M> Sender<M> {
         pass: &mut Pass<M>,
         seat: &mut MarkSeat<M>,
     ) -> Result<Sender<M>, Memory>
-        requires pass { IsSegPassOf (arc_value channel.now).line pass.old × (pass.old.id ≡ 0) × (pass.old.me.view.client ≡ receiving number [] [] []) × (number < 64) }
-        requires seat { (seat.old.table_id ≡ (arc_value channel.now).marks.shared.table_id) × (seat.old.id ≡ 0) × (seat.old.me.0 ≡ reading (arc_value channel.now).line number 0 []) × (number < seat.old.table_id.words) }
+        requires pass { IsFirstPassOf (arc_value channel.now).line pass.old × (known_by pass.old ≡ receiving number [] []) × (number < 64) }
+        requires seat { (seat.old.table_id ≡ (arc_value channel.now).marks.shared.table_id) × (seat.old.id ≡ 0) × (seat.old.me.0 ≡ reading (arc_value channel.now).line number 0 []) × (number < seat.old.table_id.slots) }
         ensures sender { IfOk result (λ sender. sender ≡ new_sender (record { line = (arc_value channel.now).line }) number) }
-        ensures pass { OnOk result (IsSegPassOf (arc_value channel.now).line pass.new × (pass.new.id ≡ 0) × (pass.new.me.view.client ≡ receiving (number + 1) [] [] [])) }
+        ensures pass { OnOk result (IsFirstPassOf (arc_value channel.now).line pass.new × (known_by pass.new ≡ receiving (number + 1) [] [])) }
         ensures seat { OnOk result ((seat.new.table_id ≡ seat.old.table_id) × (seat.new.id ≡ 0) × (seat.new.me.0 ≡ reading (arc_value channel.now).line (number + 1) 0 [])) }
     {
         let theirs = Arc::try_clone(channel)?;
@@ -103,8 +95,7 @@ impl<M> Sender<M> {
         })
     }
 
-    /// Gives up a sender of a queue that could not be made.
-    pub(crate) fn abandon(self) {
+    fn abandon(self) {
         let Sender {
             channel: _,
             pass: _,
@@ -116,20 +107,10 @@ impl<M> Sender<M> {
     }
 }
 
-impl<M> Note<M> {
-    /// The pass that tells what the sender had put.
-    pub(crate) fn into_pass(self) -> Pass<M>
-        ensures { IsSegPassOf self.queue.line result × (result.me.view.client ≡ noting self.number self.sent) }
-    {
-        let Note { pass, number: _ } = self;
-        pass
-    }
-}
-
 impl<M> SenderEnd<M> {
-    /// The pass that tells what the sender put.
+    /// The pass that knows what the sender put.
     pub(crate) fn into_pass(self) -> Pass<M>
-        ensures { IsSegPassOf self.queue.line result × (result.me.view.client ≡ telling self.number self.sent) }
+        ensures { IsSegPassOf self.queue.line result × (known_by result ≡ ending self.number self.sent) }
     {
         let SenderEnd {
             pass,
@@ -138,4 +119,12 @@ impl<M> SenderEnd<M> {
         } = self;
         pass
     }
+}
+
+/// Gives up senders.
+pub(crate) fn abandon_all<M>(mut senders: Vec<Sender<M>>) {
+    while let Some(sender) = senders.pop() {
+        sender.abandon();
+    }
+    senders.destroy_empty();
 }

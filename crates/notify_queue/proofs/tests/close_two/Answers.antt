@@ -1,9 +1,8 @@
 use Rattle.std.proofs.Common.{◌≡◌, [], ◌∷◌, ◌++◌, sym, ap, ◌∙◌, refl, rules, arith}
-use Rattle.std.proofs.lemmas.List.Elements.{All-nil}
+use Rattle.std.proofs.lemmas.List.Elements.{All-cons, All-nil}
 use mathlib.Core.Logic.{dite}
 use native.Mathlib.Decide.{ℕ_discrete}
 use Rattle.notify_queue.specs.Ends.{Sending, AreAllEnds}
-use Rattle.notify_queue.proofs.Lists.{All-cons}
 use Rattle.notify_queue.proofs.tests.close_two.Goals as goal
 
 pub close-requires : goal.close-requires

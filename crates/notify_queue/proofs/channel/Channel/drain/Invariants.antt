@@ -1,11 +1,11 @@
 use Rattle.std.proofs.Common.{◌≡◌, ◌++◌, length, reverse}
-use Rattle.crossbeam_queue.specs.SegTies.{IsSegPassOf}
+use Rattle.notify_queue.specs.Passes.{IsFirstPassOf, known_by}
 use Rattle.notify_queue.proofs.channel.Channel.drain.Given as goal
 
 abbrev pub invariant-loop : goal.invariant-loop
 invariant-loop g l = record {
-  pass_of : IsSegPassOf l.self.line l.pass × (l.pass.id ≡ 0);
-  same : (l.pass.me.view.client.made ≡ l.initial.pass.me.view.client.made) × (l.pass.me.view.client.told ≡ l.initial.pass.me.view.client.told) × (l.pass.me.view.client.heard ≡ l.initial.pass.me.view.client.heard);
-  taken : l.pass.me.view.client.taken ≡ l.initial.pass.me.view.client.taken ++ reverse l.parcels;
+  pass_of : IsFirstPassOf l.self.line l.pass;
+  same : ((known_by l.pass).made ≡ (known_by l.initial.pass).made) × ((known_by l.pass).ended ≡ (known_by l.initial.pass).ended);
+  taken : (known_by l.pass).taken ≡ (known_by l.initial.pass).taken ++ reverse l.parcels;
   count : l.len ≡ length l.parcels;
 }

@@ -1,7 +1,7 @@
 use Rattle.std.proofs.Common.{◌∙◌, sym, ap, length, IsTrue, arith}
 use Rattle.std.proofs.lemmas.List.{length-append}
 use Rattle.notify_queue.specs.Ends.{Leaving}
-use Rattle.notify_queue.proofs.Closings.{few, whole, total, dry, each_message}
+use Rattle.notify_queue.proofs.Closings.{few, whole, total, account, dry, each_message}
 use Rattle.notify_queue.proofs.Histories.{messages_of-append}
 use Rattle.notify_queue.proofs.Receivings.{closes_of, counted}
 use Rattle.notify_queue.proofs.receiver.Receiver.close.Goals as goal
@@ -30,6 +30,12 @@ returns-clause-each g c = λ test sent.
     let rest = c.settle-parcels.result.0 in
     let closes = closes_of c.self.inside c.args.self c.args.ends.items rest c.self.invariant c.self.view_is c.settle-parcels.ensures.empty in
     rw c.new.ensures (each_message c.args.self c.args.ends.items rest c.requires closes (λ m. IsTrue (test m)) sent)
+
+pub returns-clause-account : goal.returns-clause-account
+returns-clause-account g c = λ weight.
+    let rest = c.settle-parcels.result.0 in
+    let closes = closes_of c.self.inside c.args.self c.args.ends.items rest c.self.invariant c.self.view_is c.settle-parcels.ensures.empty in
+    rw c.new.ensures (account c.args.self c.args.ends.items rest c.requires closes weight)
 
 pub returns-clause-dry : goal.returns-clause-dry
 returns-clause-dry g c =

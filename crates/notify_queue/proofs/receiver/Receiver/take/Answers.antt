@@ -1,29 +1,14 @@
-use Rattle.std.proofs.Common.{ap}
-use Rattle.notify_queue.specs.declared.delivery.Knowledge.{Knowledge}
-use Rattle.notify_queue.specs.Receivers.{receiving_of}
-use Rattle.notify_queue.proofs.Receivings.{same_keeps, took_keeps, took_within, if_none, none_left, not_dry}
+use Rattle.notify_queue.proofs.Takings.{takes_not, never_dry, none_found}
 use Rattle.notify_queue.proofs.receiver.Receiver.take.Goals as goal
 
-pub invariant_of-self : goal.invariant_of-self
-invariant_of-self g c =
-    let pass = c.in_err-parcel.ensures.pass in
-    same_keeps c.self.inside c.take.new.pass c.self.invariant (rw c.deref.ensures at pass.0) pass.1 c.in_err-parcel.ensures.taken.0
+pub loop-init : goal.loop-init
+loop-init g c = takes_not c.args.self.now
 
-pub invariant_of-self-2 : goal.invariant_of-self-2
-invariant_of-self-2 g c =
-    let pass = c.in_ok-parcel.ensures.pass in
-    took_keeps c.self.inside c.take.new.pass c.in_ok-parcel.parcel c.self.invariant (rw c.deref.ensures at pass.0) pass.1 c.in_ok-parcel.ensures.taken
+pub returns-in-Some-take_one-clause-dry : goal.returns-in-Some-take_one-clause-dry
+returns-in-Some-take_one-clause-dry g c = never_dry c.args.self.now c.loop.self c.take_one.new.self c.in-Some-take_one.stamped c.loop.invariant c.in-Some-take_one.ensures.taken
 
-pub returns-in_err-parcel-clause-none : goal.returns-in_err-parcel-clause-none
-returns-in_err-parcel-clause-none g c =
-    let taken = c.in_err-parcel.ensures.taken in
-    if_none c.from_residual.result _ (none_left c.self.inside c.take.new.pass _ taken.0 taken.1 c.self.view_is)
-
-pub returns-clause-within : goal.returns-clause-within
-returns-clause-within g c = took_within c.self.inside.pass.me.view.client c.take.new.pass.me.view.client c.in_ok-parcel.parcel c.in_ok-parcel.ensures.taken
-
-pub returns-clause-dry : goal.returns-clause-dry
-returns-clause-dry g c = λ dry.
-    let took = c.in_ok-parcel.ensures.taken in
-    let made = ap (λ (v : Knowledge g.row.M.Denot). v.made) c.self.invariant.knows in
-    not_dry (receiving_of c.self.inside) c.in_ok-parcel.parcel (rw made at took.from_sender) took.within (rw c.self.view_is dry)
+pub returns-then-finds_no_more-clause-none : goal.returns-then-finds_no_more-clause-none
+returns-then-finds_no_more-clause-none g c =
+    let none = c.in_default.ensures.taken in
+    let found = c.finds_no_more.ensures in
+    none_found c.args.self.now c.loop.self c.take_one.new.self c.finds_no_more.new.self c.loop.invariant none.0 none.1 found.same found.looks c.if-finds_no_more.ensures.yes

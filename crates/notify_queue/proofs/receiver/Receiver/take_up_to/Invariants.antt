@@ -1,13 +1,12 @@
-use Rattle.std.proofs.Common.{◌≡◌, ◌≤◌, ◌++◌, [], vec_len, vec_capacity}
-use Rattle.notify_queue.specs.Ends.{IsDry}
+use Rattle.std.proofs.Common.{◌≤◌, vec_len, vec_capacity}
 use Rattle.notify_queue.specs.Stamps.{IsInOrder}
+use Rattle.notify_queue.proofs.Takings.{TakesOn}
 use Rattle.notify_queue.proofs.receiver.Receiver.take_up_to.Given as goal
 
 abbrev pub invariant-loop : goal.invariant-loop
 invariant-loop g l = record {
-  self_is : l.self ≡ record l.initial.self { taken = l.initial.self.taken ++ l.got.items };
-  so_many : vec_len l.got ≡ l.counter;
-  room : l.n ≤ vec_capacity l.got;
+  takes : TakesOn l.initial.self l.got.items l.self;
   in_order : IsInOrder l.self.taken;
-  dry : IsDry l.initial.self → l.got.items ≡ [];
+  few : vec_len l.got ≤ l.n;
+  room : l.n ≤ vec_capacity l.got;
 }
