@@ -1,0 +1,15 @@
+pub mod Keeping
+pub mod Linked
+pub mod Places
+pub mod Seen
+pub mod Slots
+pub mod SweepLoop
+pub mod Swept
+pub mod Views
+pub mod CascadeLoop
+pub mod Cascading
+pub mod Counting
+pub mod Fired
+pub mod FireLoop
+pub mod Ids
+pub mod InOrder

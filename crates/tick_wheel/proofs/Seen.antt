@@ -1,0 +1,161 @@
+-- From what the index holds to the list that contracts see.
+use Rattle.std.proofs.Common.{◌≡◌, ℕ, ◌+◌, ◌^◌, ◌<◌, ◌≤◌, ◌==◌, Bool, cond, nat_eq, List, [], ◌∷◌, ◌++◌, length, map, Option, Some, None, option_map, is_some, refl, sym, ap, ◌∙◌, subst, arith}
+use Rattle.std.specs.HashMap.{hash_map_len}
+use Rattle.std.specs.List.{IsDistinct}
+use Rattle.std.specs.Map.{keys_of, lookup}
+use Rattle.std.proofs.lemmas.List.{length-map, nil_from_length}
+use Rattle.std.proofs.lemmas.List.Sums.{length-filter}
+use Rattle.std.proofs.lemmas.Option.{none-some}
+use Rattle.tick_wheel.specs.declared.slot.Entry.{Entry}
+use Rattle.tick_wheel.specs.declared.table.Held.{Held}
+use Rattle.tick_wheel.specs.declared.timer.Timer.{Timer}
+use Rattle.tick_wheel.specs.InOrder.{in_order}
+use Rattle.tick_wheel.specs.Firing.{IsPartOf}
+use Rattle.tick_wheel.specs.Kept.{timers_of, IsKept}
+use Rattle.tick_wheel.specs.Place.{IsAhead, slot_for}
+use Rattle.tick_wheel.specs.Steps.{count_due, turning_bound, tick_bound}
+use Rattle.tick_wheel.specs.Table.{Index, IsLinked, AreApart, AreAhead, held_at, rank_of, timer_of}
+use Rattle.tick_wheel.specs.TimerList.{TimerList, timer_at, without, cancelled, scheduled, due_at, due_later, items_of, Ticks}
+use Rattle.tick_wheel.proofs.Counting.{length-timers_of}
+use Rattle.tick_wheel.proofs.Places.{ahead_from_delay}
+use Rattle.tick_wheel.proofs.Views.{timers_push, timer_at-timers_of}
+
+module _ {A : Type 0} where
+  abbrev pub seen_of : ℕ → Index A → TimerList A
+  seen_of tick index = record { tick = tick; timers = timers_of index }
+
+  pub seen_length : (tick : ℕ) (index : Index A) (v : TimerList A) → AreApart index → seen_of tick index ≡ v → hash_map_len index ≡ length v.timers
+  seen_length tick index v apart seen = sym (length-timers_of index apart) ∙ ap (λ (w : TimerList A). length w.timers) seen
+
+  pub seen_timer : (tick : ℕ) (index : Index A) (v : TimerList A) (id : ℕ) → AreApart index → seen_of tick index ≡ v
+      → option_map (timer_of id) (held_at index id) ≡ timer_at id v.timers
+  seen_timer tick index v id apart seen = sym (timer_at-timers_of index id apart) ∙ ap (λ (w : TimerList A). timer_at id w.timers) seen
+
+  pub seen_holds : (tick : ℕ) (index : Index A) (v : TimerList A) (id : ℕ) (b : Bool) → AreApart index → seen_of tick index ≡ v
+      → b ≡ is_some (held_at index id) → b ≡ is_some (timer_at id v.timers)
+  seen_holds tick index v id b apart seen is =
+      is ∙ sym (mapped (held_at index id)) ∙ ap (λ (o : Option (Timer A)). is_some o) (seen_timer tick index v id apart seen)
+    where
+      mapped : (o : Option (Held A)) → is_some (option_map (timer_of id) o) ≡ is_some o
+      mapped None = refl
+      mapped (Some h) = refl
+
+  pub seen_free : (tick : ℕ) (index : Index A) (v : TimerList A) (id : ℕ) → AreApart index → seen_of tick index ≡ v
+      → timer_at id v.timers ≡ None → held_at index id ≡ None
+  seen_free tick index v id apart seen free = unmapped (held_at index id) (seen_timer tick index v id apart seen ∙ free)
+    where
+      unmapped : (o : Option (Held A)) → option_map (timer_of id) o ≡ None → o ≡ None
+      unmapped None e = refl
+      unmapped (Some h) e = absurd (none-some _ (sym e))
+
+  pub seen_empty : (tick : ℕ) (index : Index A) (v : TimerList A) → AreApart index → seen_of tick index ≡ v → v.timers ≡ [] → index.entries ≡ []
+  seen_empty tick index v apart seen empty =
+      nil_from_length index.entries (seen_length tick index v apart seen ∙ ap (λ (ts : List (Timer A)). length ts) empty)
+
+  pub seen_cancel : (tick : ℕ) (index index' : Index A) (v : TimerList A) (id : ℕ) → seen_of tick index ≡ v
+      → timers_of index' ≡ without id (timers_of index) → seen_of tick index' ≡ cancelled v id
+  seen_cancel tick index index' v id seen drop = (λ i. record { tick = tick; timers = drop i }) ∙ ap (λ (w : TimerList A). cancelled w id) seen
+
+  pub seen_schedule : (tick next : ℕ) (slots : List (List Entry)) (index index' : Index A) (v : TimerList A) (delay id : ℕ) (h : Held A)
+      → IsKept tick next slots index → AreApart index' → seen_of tick index ≡ v → timer_at id v.timers ≡ None
+      → h.order ≡ next → h.due ≡ tick + delay
+      → ((q : ℕ) → held_at index' q ≡ cond (nat_eq id q) (Some h) (held_at index q))
+      → seen_of tick index' ≡ scheduled v delay id h.item
+  seen_schedule tick next slots index index' v delay id h kept apart seen free order due updates =
+      let pushed = timers_push index index' next id h kept.apart apart kept.below (seen_free tick index v id kept.apart seen free) order updates in
+      (λ i. record { tick = tick; timers = pushed i })
+      ∙ (λ i. record { tick = tick; timers = timers_of index ++ record { due = due i; id = id; item = h.item } ∷ [] })
+      ∙ ap (λ (w : TimerList A). scheduled w delay id h.item) seen
+
+  -- the same entries keep the same
+  pub kept_unchanged : (tick next : ℕ) (slots slots' : List (List Entry)) (index index' : Index A) → IsKept tick next slots index
+      → length slots' ≡ 1024 → IsLinked slots' index' → index'.entries ≡ index.entries → IsKept tick next slots' index'
+  kept_unchanged tick next slots slots' index index' kept room linked same =
+      let held : (q : ℕ) → held_at index' q ≡ held_at index q = λ q. ap (λ (es : List (ℕ × Held A)). lookup (nat_eq q) es) same in
+      record {
+        now = kept.now;
+        room = room;
+        linked = linked;
+        apart = record {
+          unique = subst (λ (es : List (ℕ × Held A)). IsDistinct nat_eq (keys_of es)) (sym same) kept.apart.unique;
+          once = λ a b x y is also. kept.apart.once a b x y (sym (held a) ∙ is) (sym (held b) ∙ also);
+        };
+        below = λ q h is. kept.below q h (sym (held q) ∙ is);
+        ahead = λ q h is. kept.ahead q h (sym (held q) ∙ is);
+      }
+
+  pub seen_unchanged : (tick : ℕ) (index index' : Index A) (v : TimerList A) → seen_of tick index ≡ v → index'.entries ≡ index.entries → seen_of tick index' ≡ v
+  seen_unchanged tick index index' v seen same = (λ i. record { tick = tick; timers = values_at (same i) }) ∙ seen
+    where
+      values_at : List (ℕ × Held A) → List (Timer A)
+      values_at es = map (λ (r : ℕ × Timer A). r.1) (in_order (map (λ (e : ℕ × Held A). rank_of e.0 e.1) es))
+
+  -- a tick's steps
+  pub seen_bound : (tick : ℕ) (index : Index A) (v : TimerList A) (n m : ℕ) → seen_of tick index ≡ v
+      → n ≤ m + (count_due (tick + 1) (timers_of index) + turning_bound (tick + 1) (timers_of index)) → n ≤ m + tick_bound v
+  seen_bound tick index v n m seen le = subst (λ (w : TimerList A). n ≤ m + tick_bound w) seen le
+
+  pub count_fired : (tick : ℕ) (ts : List (Timer A)) (fired : List A) → fired ≡ items_of (due_at tick ts) → length fired ≡ count_due tick ts
+  count_fired tick ts fired is =
+      ap (λ (xs : List A). length xs) is ∙ length-map (due_at tick ts) (λ (t : Timer A). t.item) ∙ length-filter (λ (t : Timer A). t.due == tick) ts
+
+  pub seen_tick : (tick : ℕ) (index mid index' : Index A) (v : TimerList A) (fired : List A) → seen_of tick index ≡ v
+      → timers_of mid ≡ timers_of index → fired ≡ items_of (due_at (tick + 1) (timers_of mid)) → timers_of index' ≡ due_later (tick + 1) (timers_of mid)
+      → Ticks v (seen_of (tick + 1) index') fired
+  seen_tick tick index mid index' v fired seen same is rest =
+      let at : tick + 1 ≡ v.tick + 1 = ap (λ (w : TimerList A). w.tick + 1) seen in
+      let ts : timers_of mid ≡ v.timers = same ∙ ap (λ (w : TimerList A). w.timers) seen in
+      record {
+        now = at;
+        fired = is ∙ ap (λ (xs : List (Timer A)). items_of (due_at (tick + 1) xs)) ts;
+        rest = rest ∙ ap (λ (xs : List (Timer A)). due_later (tick + 1) xs) ts;
+      }
+
+  pub kept_fired : (tick next : ℕ) (slots slots' : List (List Entry)) (index index' : Index A) → tick < 2 ^ 63 → IsKept tick next slots index
+      → length slots' ≡ 1024 → IsLinked slots' index' → AreApart index' → AreAhead (tick + 1) index' → IsPartOf index' index
+      → IsKept (tick + 1) next slots' index'
+  kept_fired tick next slots slots' index index' low kept room linked apart ahead part = record {
+    now = omega (arith, low);
+    room = room;
+    linked = linked;
+    apart = apart;
+    below = λ q h is. kept.below q h (part q h is);
+    ahead = ahead;
+  }
+
+pub length_nil : {A : Type 0} (xs : List A) → xs ≡ [] → length xs ≡ 0
+length_nil {A = A} xs e = ap (λ (ys : List A). length ys) e
+
+pub ahead_placed : (now delay slot : ℕ) → slot ≡ slot_for now (now + delay) → 0 < delay → delay ≤ 4294967295 → IsAhead now (now + delay) slot
+ahead_placed now delay slot is low high = subst (λ s. IsAhead now (now + delay) s) (sym is) (ahead_from_delay now (now + delay) (omega (arith, low)) (omega (arith, high)))
+
+none_distinct : IsDistinct nat_eq []
+unfolding IsDistinct
+none_distinct = tt
+
+module _ {A : Type 0} where
+  pub seen_low : (tick : ℕ) (index : Index A) (v : TimerList A) → seen_of tick index ≡ v → v.tick < 2 ^ 63 → tick < 2 ^ 63
+  seen_low tick index v seen low = subst (λ n. n < 2 ^ 63) (sym (ap (λ (w : TimerList A). w.tick) seen)) low
+
+  -- the steps of what was placed anew and of what fired
+  pub fired_bound : (tick : ℕ) (before mid after : ℕ) (ts : List (Timer A)) {ms : List (Timer A)} (fired : List A) → ms ≡ ts → fired ≡ items_of (due_at tick ms)
+      → mid ≤ before + turning_bound tick ts → after ≡ mid + length fired → after ≤ before + (count_due tick ts + turning_bound tick ts)
+  fired_bound tick before mid after ts {ms} fired same is turned all =
+      let n : length fired ≡ count_due tick ts = count_fired tick ms fired is ∙ ap (λ (xs : List (Timer A)). count_due tick xs) same in
+      omega (arith, turned, all, n)
+
+  pub kept_empty : (tick next : ℕ) (slots slots' : List (List Entry)) (index index' : Index A) → IsKept tick next slots index
+      → length slots' ≡ 1024 → IsLinked slots' index' → index'.entries ≡ [] → IsKept tick next slots' index'
+  kept_empty tick next slots slots' index index' kept room linked empty =
+      let none : (q : ℕ) (h : Held A) → held_at index' q ≡ Some h → ⊥ = λ q h is. none-some h (sym (ap (λ (es : List (ℕ × Held A)). lookup (nat_eq q) es) empty) ∙ is) in
+      record {
+        now = kept.now;
+        room = room;
+        linked = linked;
+        apart = record {
+          unique = subst (λ (es : List (ℕ × Held A)). IsDistinct nat_eq (keys_of es)) (sym empty) none_distinct;
+          once = λ a b x y is also. absurd (none a x is);
+        };
+        below = λ q h is. absurd (none q h is);
+        ahead = λ q h is. absurd (none q h is);
+      }

@@ -1,0 +1,8 @@
+use Rattle.std.proofs.Common.{sym, ◌∙◌}
+use Rattle.tick_wheel.proofs.Seen.{seen_holds}
+use Rattle.tick_wheel.proofs.timers.Timers.holds.Goals as goal
+
+pub returns : goal.returns
+returns g c =
+    let e = seen_holds _ c.self.inside.index c.args.self.now c.args.id c.contains_key.result c.self.invariant.apart c.self.view_is c.contains_key.ensures in
+    (λ t. sym e ∙ t, λ t. e ∙ t)

@@ -1,0 +1,9 @@
+pub mod Firing
+pub mod InOrder
+pub mod Kept
+pub mod Place
+pub mod Steps
+pub mod Sweep
+pub mod Table
+pub mod TimerList
+pub mod Wheel

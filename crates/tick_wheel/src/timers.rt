@@ -1,0 +1,175 @@
+//! Timers by their ids, in a hashed wheel.
+use crate::cascade::settle;
+use crate::fire::fire;
+use crate::place::{ALL_SLOTS, MAX_DELAY, slot_of};
+use crate::slot::{Slot, Steps};
+use crate::sweep::{list_ids, take_all};
+use crate::table::{Held, link, unlink};
+use crate::timer::{ScheduleFault, Timer};
+use fan_base::Memory;
+use std::alloc::Global;
+use std::collections::HashMap;
+use std::marker::Model;
+use std::sync::ledger::Ledger;
+
+/// Timers, each with an id of its own, and the number of ticks that were made. Contracts see the list of the timers in order
+/// of scheduling, and nothing of slots.
+#[derive(Debug, Drop)]
+pub struct Timers<T> {
+    alloc: Global,
+    ticks: u64,
+    next: u64,
+    slots: Vec<Slot>,
+    index: HashMap<u64, Held<T>>,
+}
+
+impl<T> Model for Timers<T> {
+    ghost use Rattle.tick_wheel.specs.TimerList.{TimerList};
+
+    ghost Value = { TimerList T };
+
+    ghost use Rattle.tick_wheel.specs.Kept.{timers_of, IsKept};
+
+    ghost view = { λ wheel. record { tick = wheel.ticks; timers = timers_of wheel.index } };
+
+    ghost invariant = { λ wheel. IsKept wheel.ticks wheel.next wheel.slots.items wheel.index };
+}
+
+impl<T> Timers<T> {
+    ghost use Rattle.std.specs.Prelude.{◌≡◌, ℕ, ◌+◌, ◌<◌, ◌≤◌, ◌^◌, ◌↔◌, [], length, IsTrue, IsSome, Some, None, Ok, Err, IfOk, IfErr, OnOk, OnErr};
+    ghost use Rattle.tick_wheel.specs.TimerList.{TimerList, Ticks, timer_at, scheduled, cancelled, handed_back, items_of, by_id};
+    ghost use Rattle.tick_wheel.specs.Steps.{tick_bound};
+
+    /// Holds nothing, with `start` ticks made.
+    pub fn new(alloc: Global, start: u64) -> Result<Timers<T>, Memory>
+        requires { start ≤ 2 ^ 62 }
+        ensures { IfOk result (λ wheel. wheel ≡ record { tick = start; timers = [] }) }
+    {
+        let mut slots = Vec::with_capacity(alloc, ALL_SLOTS)?;
+        for _ in 0..ALL_SLOTS {
+            slots.push_reserved(Slot::new(alloc));
+        }
+        Ok(Timers {
+            alloc,
+            ticks: start,
+            next: 0,
+            slots,
+            index: HashMap::new(alloc),
+        })
+    }
+
+    /// How many ticks were made, the start counted.
+    pub fn now(&self) -> u64
+        ensures now { result ≡ self.now.tick }
+        ensures within { result ≤ 2 ^ 63 }
+    {
+        self.ticks
+    }
+
+    /// Whether a timer of this id is held.
+    pub fn holds(&self, id: u64) -> bool
+        ensures { IsTrue result ↔ IsSome (timer_at id self.now.timers) }
+    {
+        self.index.contains_key(&id)
+    }
+
+    /// How many timers are held.
+    pub fn len(&self) -> usize
+        ensures { result ≡ length self.now.timers }
+    {
+        self.index.len()
+    }
+
+    /// Whether no timer is held.
+    pub fn is_empty(&self) -> bool
+        ensures { IsTrue result ↔ (self.now.timers ≡ []) }
+    {
+        self.index.is_empty()
+    }
+
+    /// Holds a timer that is due after so many ticks. A refused call changes nothing and hands the item back.
+    ///
+    /// Want of memory is also the answer once 2^64 - 1 timers were scheduled.
+    pub fn schedule(&mut self, delay: u64, id: u64, item: T) -> Result<(), ScheduleFault<T>>
+        requires { timer_at id self.old.timers ≡ None }
+        ensures ok { OnOk result (self.new ≡ scheduled self.old delay id item) }
+        ensures zero { (result ≡ Err (ScheduleFault.ZeroDelay item)) ↔ (delay ≡ 0) }
+        ensures long { (result ≡ Err (ScheduleFault.DelayTooLong item)) ↔ (4294967295 < delay) }
+        ensures refused { IfErr result (λ fault. (handed_back fault ≡ item) × (self.new ≡ self.old)) }
+    {
+        if delay == 0 {
+            return Err(ScheduleFault::ZeroDelay(item));
+        }
+        if delay > MAX_DELAY {
+            return Err(ScheduleFault::DelayTooLong(item));
+        }
+        if self.next == u64::MAX {
+            return Err(ScheduleFault::Memory(item));
+        }
+        let due = self.ticks + delay;
+        let slot = slot_of(due, self.ticks);
+        let held = Held {
+            due,
+            order: self.next,
+            slot,
+            place: self.slots[slot].len(),
+            item,
+        };
+        link(&mut self.slots, &mut self.index, id, held)?;
+        self.next += 1;
+        Ok(())
+    }
+
+    /// Takes the timer of an id out: None comes exactly where none is held. It takes no memory.
+    pub fn cancel(&mut self, id: u64) -> Option<Timer<T>>
+        ensures timer { result ≡ timer_at id self.old.timers }
+        ensures rest { self.new ≡ cancelled self.old id }
+    {
+        let Held { due, item, .. } = unlink(&mut self.slots, &mut self.index, id)?;
+        Some(Timer { due, id, item })
+    }
+
+    /// Makes one tick, and hands out what is due then, in order of scheduling. A refused call leaves all as it was.
+    ///
+    /// One step is one entry taken out of a slot; the clause on steps bounds them.
+    pub fn tick<L: Ledger>(&mut self, steps: &mut Steps<L>) -> Result<Vec<T>, Memory>
+        requires { self.old.tick < 2 ^ 63 }
+        ensures ok { IfOk result (λ items. Ticks self.old self.new items.items) }
+        ensures refused { OnErr result (self.new ≡ self.old) }
+        ensures steps { steps.new ≤ steps.old + tick_bound self.old }
+    {
+        let tick = self.ticks + 1;
+        settle(&mut self.slots, &mut self.index, self.ticks, steps)?;
+        let slot = (tick % 256) as usize;
+        let mut fired = Vec::with_capacity(self.alloc, self.slots[slot].len())?;
+        fire(
+            &mut self.slots,
+            &mut self.index,
+            self.ticks,
+            &mut fired,
+            steps,
+        );
+        self.ticks = tick;
+        Ok(fired)
+    }
+
+    /// Takes all timers out, in ascending order of their ids. A refused call leaves all as it was.
+    pub fn cancel_all(&mut self) -> Result<Vec<T>, Memory>
+        ensures ok { IfOk result (λ items. items.items ≡ items_of (by_id self.old.timers)) }
+        ensures gone { OnOk result (self.new ≡ record { tick = self.old.tick; timers = [] }) }
+        ensures refused { OnErr result (self.new ≡ self.old) }
+    {
+        let ids = list_ids(self.alloc, &self.index)?;
+        let mut items = Vec::with_capacity(self.alloc, ids.len())?;
+        take_all(&mut self.slots, &mut self.index, &ids, &mut items);
+        Ok(items)
+    }
+
+    /// Lets a wheel go that holds nothing, also where its items may not be dropped.
+    pub fn destroy_empty(self)
+        requires { self.timers ≡ [] }
+    {
+        let Timers { index, .. } = self;
+        index.destroy_empty();
+    }
+}
