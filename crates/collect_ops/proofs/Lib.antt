@@ -1,0 +1,10 @@
+pub mod Lists
+pub mod Gather
+pub mod Listing
+pub mod Opening
+pub mod Dealing
+pub mod Claiming
+pub mod Taking
+pub mod Keeping
+pub mod Returning
+pub mod Passing

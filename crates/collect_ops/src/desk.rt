@@ -1,0 +1,116 @@
+//! A desk: the memory in which outcomes are gathered.
+ghost use Rattle.std.specs.Prelude.{◌≡◌, ◌↔◌, ◌≤◌, true, false, [], IfOk, IfErr, IsErr};
+
+use crate::arrival::Arrivals;
+use crate::rule::{DeskRule, Place};
+use crate::steps;
+use crate::view::{Ending, Item, View};
+use atomic_table::Table;
+use fan_base::Refused;
+use std::alloc::Global;
+use std::marker::{Model, PhantomData};
+
+/// The words and slots of a desk, with their memory.
+pub(crate) type Memories<X, E> = Table<Option<Item<X, E>>, View<X, E>, (), DeskRule, Global>;
+
+/// The arrivals of a desk were taken before.
+#[derive(Clone, Copy, Debug, PartialEq, Eq)]
+pub struct Taken;
+
+/// What a desk keeps of an outcome, and what its completion hands out.
+pub trait Gathers {
+    type Kept;
+
+    type End;
+}
+
+/// The memory of a collect. It is made first and outlives its arrivals, so that no call on these takes memory. X is what
+/// it keeps of an outcome, E what its completion hands out, as a promise, and K the kind of desk.
+#[derive(Drop)]
+pub struct Desk<X, E, K> {
+    table: Memories<X, E>,
+    owner: Place<X, E>,
+    dealer: Option<Place<X, E>>,
+    size: usize,
+    kind: PhantomData<K>,
+}
+
+impl<X, E, K> Gathers for Desk<X, E, K> {
+    type Kept = X;
+
+    type End = E;
+}
+
+impl<X, E, K> Model for Desk<X, E, K> {
+    ghost use Rattle.std.specs.Prelude.{is_none};
+    ghost use Rattle.collect_ops.specs.Seen.{DeskSeen};
+    ghost use Rattle.collect_ops.specs.Steps.{IsDesk, IsOwner, HasDealer};
+    ghost use Rattle.collect_ops.specs.Views.{desk_in};
+
+    ghost Value = { DeskSeen E };
+
+    ghost view = { λ d. record { desk = desk_in d.table.shared.table_id d.owner.me.0; taken = is_none d.dealer } };
+
+    ghost invariant = { λ d. IsDesk d.size d.table.shared.table_id × IsOwner d.size d.table.shared.table_id d.owner × HasDealer d.size d.table.shared.table_id d.owner.me.0 d.dealer };
+}
+
+impl<X, E, K> Desk<X, E, K> {
+    ghost use Rattle.collect_ops.specs.Steps.{IsDesk, Sits, HasRoom};
+    ghost use Rattle.collect_ops.specs.declared.view.View.{View};
+
+    /// A desk for so many outcomes, 1 to 65,536. `Memory` hands the end back where there is no room for a slot an
+    /// outcome and for their list.
+    pub fn new(alloc: Global, size: usize, end: E) -> Result<Desk<X, E, K>, Refused<E>>
+        requires { (1 ≤ size) × (size ≤ 65536) }
+        ensures desk { IfOk result (λ desk. (desk.desk.size ≡ size) × (desk.desk.end ≡ Some end) × (desk.taken ≡ false)) }
+        ensures refused { IfErr result (λ refused. refused ≡ Refused.Memory end) }
+    {
+        let made = Vec::with_capacity(alloc, size);
+        let Ok(room) = made else {
+            return Err(Refused::Memory(end));
+        };
+        let words = [size as u64, 0];
+        match Table::vacant(alloc, &words, size + 1, &()) {
+            Ok((table, seat)) => Ok(Desk::open(table, seat, size, Ending { end, room })),
+            Err(_) => {
+                room.destroy_empty();
+                Err(Refused::Memory(end))
+            }
+        }
+    }
+
+    // The desk of a new table.
+    fn open(
+        table: Memories<X, E>,
+        mut seat: Place<X, E>,
+        size: usize,
+        ending: Ending<X, E>,
+    ) -> Desk<X, E, K>
+        requires desk { IsDesk size table.shared.table_id }
+        requires making { Sits table.shared.table_id seat (View.Making, []) }
+        requires room { HasRoom size ending }
+        ensures { (result.desk.size ≡ size) × (result.desk.end ≡ Some ending.end) × (result.taken ≡ false) }
+    {
+        steps::open(&table.shared, &mut seat, size, ending);
+        let owner = steps::deal_owner(&table.shared, &mut seat, size);
+        Desk {
+            table,
+            owner,
+            dealer: Some(seat),
+            size,
+            kind: PhantomData,
+        }
+    }
+
+    /// The desk's arrivals. They come once.
+    pub fn arrivals<'d>(&'d mut self) -> Result<Arrivals<'d, Desk<X, E, K>>, Taken>
+        ensures taken { IsErr result ↔ (self.old.taken ≡ true) }
+        ensures arrivals { IfOk result (λ arrivals. (arrivals.desk ≡ self.old.desk) × (arrivals.next ≡ 0)) }
+    {
+        let size = self.size;
+        let Some(seat) = self.dealer.take() else {
+            return Err(Taken);
+        };
+        Ok(Arrivals::new(&self.table.shared, seat, size))
+    }
+}
