@@ -21,7 +21,7 @@ use Rattle.collect_ops.specs.Steps.{Standing, claims, returns_end}
 use Rattle.collect_ops.proofs.Lists.{within, set_last, words_at_claim, claim_word_is, left_set, same_arrival}
 use Rattle.collect_ops.proofs.Gather.{claimer_stays, arrives, gathers, home_same, Owes, arrival_steps}
 
-nobody : (c : Claim) → claim_word c ≡ 0 → c ≡ free
+pub nobody : (c : Claim) → claim_word c ≡ 0 → c ≡ free
 nobody free e = refl
 nobody (out k) e = absurd (omega arith)
 nobody (back k) e = absurd (omega arith)

@@ -71,7 +71,7 @@ module _ {X E : Type 0} where
           (λ e. subst (λ u. GatheringView b.size b.ending (length s.views + 1) b.phases j u) (r.1 (e ∙ sym wide)) (subst (λ i. GatheringView b.size b.ending (length s.views + 1) b.phases i right) (sym e) new))
           (λ ne. before j w (r.0 (λ e. ne (e ∙ wide)))))
 
-  none_before : (s : Cells X E) (b : Unopened s) (id : ℕ) (v : View X E) → v ≢ view.Making → v ≢ view.Opening → get_elem? s.views id ≡ maybe.some v → ⊥
+  pub none_before : (s : Cells X E) (b : Unopened s) (id : ℕ) (v : View X E) → v ≢ view.Making → v ≢ view.Opening → get_elem? s.views id ≡ maybe.some v → ⊥
   none_before s b id v first second at = ⊎_elim
       (λ (e : (s.views ≡ view.Making ∷ []) × _). only id view.Making (λ h. first (sym h)) (sym (ap (λ vs. get_elem? vs id) e.0) ∙ at))
       (λ (e : (s.views ≡ view.Opening ∷ []) × _). only id view.Opening (λ h. second (sym h)) (sym (ap (λ vs. get_elem? vs id) e.0) ∙ at))

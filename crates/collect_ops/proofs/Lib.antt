@@ -8,3 +8,5 @@ pub mod Taking
 pub mod Keeping
 pub mod Returning
 pub mod Passing
+pub mod Closing
+pub mod Telling

@@ -41,3 +41,11 @@ pub record CompletedSeen (X E : Type 0) : Type 0 where
   pub index : ℕ
   pub found : ℕ
   pub list : List X
+
+-- What a closed desk hands out: for how many outcomes it was, its two words, the outcomes kept and never handed out, the lowest index first, and the end that nobody got.
+pub record KeptSeen (X E : Type 0) : Type 0 where
+  pub size : ℕ
+  pub left : ℕ
+  pub claimed : ℕ
+  pub outcomes : List X
+  pub end : Option E

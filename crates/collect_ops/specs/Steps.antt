@@ -112,6 +112,14 @@ module _ {X E : Type 0} where
   abbrev pub emptying : ℕ → Ending X E → ℕ → List X → Standing X E
   emptying size r index xs = (view.Arriving size r index (phase.Emptying xs), (size, Some (item.End r)) ∷ full_slots (reverse xs))
 
+  -- an arrival that was the last, with its slots given back
+  abbrev pub IsLast : Standing X E → Type 0
+  IsLast m = (n : ℕ) × (r : Ending X E) × (k : ℕ) × (xs : List X) × (m ≡ at n r k (phase.Emptied xs))
+
+  -- an arrival whose outcome was kept
+  abbrev pub IsKeeper : Standing X E → Type 0
+  IsKeeper m = (n : ℕ) × (r : Ending X E) × (k : ℕ) × (x : X) × (found : ℕ) × (m ≡ at n r k (phase.Kept x found))
+
   -- the seat of a new table takes the slot of the end, the last one, which is empty
   abbrev pub takes_end_slot : ℕ → Standing X E → ℕ → Standing X E → Type 0
   takes_end_slot slots before found after = after ≡ (view.Opening, (slots - 1, None) ∷ [])

@@ -1,10 +1,11 @@
 //! The desk of all outcomes: collectAll.
-ghost use Rattle.std.specs.Prelude.{◌≡◌};
+ghost use Rattle.std.specs.Prelude.{◌≡◌, ◌↔◌, [], ◌++◌, option_to_list, IsNone};
 ghost use Rattle.collect_ops.specs.Answers.{Gathered, KeptBy, MatchArrived, all_answer, answer_of, found_of};
 
 use crate::answer::Arrived;
 use crate::arrival::Arrival;
 use crate::desk::Desk;
+use crate::kept::Kept;
 use crate::listed::Listed;
 use fan_base::Try;
 
@@ -29,5 +30,16 @@ impl<'d, T, E> Arrival<'d, AllDesk<T, E>> {
             Ok((list, end, done)) => Arrived::Complete(list, end, done),
             Err(receipt) => Arrived::More(receipt),
         }
+    }
+}
+
+impl<T, E> Kept<AllDesk<T, E>> {
+    /// The next outcome that was kept and never handed out, the lowest index first. None exactly where none is left.
+    pub fn next(&mut self) -> Option<Try<T>>
+        ensures rest { self.old.outcomes ≡ option_to_list result ++ self.new.outcomes }
+        ensures none { IsNone result ↔ (self.old.outcomes ≡ []) }
+        ensures end { self.new.end ≡ self.old.end }
+    {
+        self.next_kept()
     }
 }

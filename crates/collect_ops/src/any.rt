@@ -1,10 +1,11 @@
 //! The desk of the first outcome: collectAny.
-ghost use Rattle.std.specs.Prelude.{◌≡◌};
+ghost use Rattle.std.specs.Prelude.{◌≡◌, []};
 ghost use Rattle.collect_ops.specs.Answers.{MatchArrived, ClaimedBy, IsBack, any_answer, answer_of, found_of};
 
 use crate::answer::{Arrived, Reason};
 use crate::arrival::Arrival;
 use crate::desk::Desk;
+use crate::kept::Kept;
 use fan_base::Try;
 use std::marker::PhantomData;
 
@@ -35,6 +36,20 @@ impl<'d, T, E> Arrival<'d, AnyDesk<T, E>> {
         match pass.claim() {
             Ok((end, done)) => Arrived::Complete((index, outcome), end, done),
             Err(lost) => Arrived::Back(outcome, Reason::Claimed(lost)),
+        }
+    }
+}
+
+impl<T, E> Kept<AnyDesk<T, E>> {
+    /// None: this desk keeps no outcome.
+    pub fn next(&mut self) -> Option<Try<T>>
+        ensures none { result ≡ None }
+        ensures rest { (self.old.outcomes ≡ []) × (self.new.outcomes ≡ []) }
+        ensures end { self.new.end ≡ self.old.end }
+    {
+        match self.next_kept() {
+            Some(nothing) => match nothing {},
+            None => None,
         }
     }
 }

@@ -1,10 +1,11 @@
 //! The desk of the first value: collectAnyWithoutException.
-ghost use Rattle.std.specs.Prelude.{◌≡◌};
+ghost use Rattle.std.specs.Prelude.{◌≡◌, []};
 ghost use Rattle.collect_ops.specs.Answers.{MatchArrived, CompletesFirst, ComesBack, any_value_answer, answer_of, found_of};
 
 use crate::answer::{Arrived, FirstValue, Reason};
 use crate::arrival::Arrival;
 use crate::desk::Desk;
+use crate::kept::Kept;
 use fan_base::Try;
 use std::marker::PhantomData;
 
@@ -47,5 +48,17 @@ impl<'d, T, E> Arrival<'d, AnyValueDesk<T, E>> {
             Ok((_, end, done)) => Arrived::Complete(FirstValue::AllFailed(index, fault), end, done),
             Err(receipt) => Arrived::Back(fault, Reason::Counted(receipt)),
         }
+    }
+}
+
+impl<T, E> Kept<AnyValueDesk<T, E>> {
+    /// None: of a fault this desk keeps only that it came, and this is let go.
+    pub fn next(&mut self) -> Option<Try<T>>
+        ensures none { result ≡ None }
+        ensures rest { self.new.outcomes ≡ [] }
+        ensures end { self.new.end ≡ self.old.end }
+    {
+        while let Some(()) = self.next_kept() {}
+        None
     }
 }

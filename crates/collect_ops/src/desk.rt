@@ -1,7 +1,8 @@
 //! A desk: the memory in which outcomes are gathered.
-ghost use Rattle.std.specs.Prelude.{◌≡◌, ◌↔◌, ◌≤◌, true, false, [], IfOk, IfErr, IsErr};
+ghost use Rattle.std.specs.Prelude.{◌≡◌, ◌≢◌, ◌↔◌, ◌+◌, ◌≤◌, true, false, [], length, IfOk, IfErr, IsErr};
 
 use crate::arrival::Arrivals;
+use crate::kept::{self, Kept};
 use crate::rule::{DeskRule, Place};
 use crate::steps;
 use crate::view::{Ending, Item, View};
@@ -42,7 +43,7 @@ impl<X, E, K> Gathers for Desk<X, E, K> {
 }
 
 impl<X, E, K> Model for Desk<X, E, K> {
-    ghost use Rattle.std.specs.Prelude.{is_none};
+    ghost use Rattle.std.specs.Prelude.{◌≤◌, is_none};
     ghost use Rattle.collect_ops.specs.Seen.{DeskSeen};
     ghost use Rattle.collect_ops.specs.Steps.{IsDesk, IsOwner, HasDealer};
     ghost use Rattle.collect_ops.specs.Views.{desk_in};
@@ -51,10 +52,11 @@ impl<X, E, K> Model for Desk<X, E, K> {
 
     ghost view = { λ d. record { desk = desk_in d.table.shared.table_id d.owner.me.0; taken = is_none d.dealer } };
 
-    ghost invariant = { λ d. IsDesk d.size d.table.shared.table_id × IsOwner d.size d.table.shared.table_id d.owner × HasDealer d.size d.table.shared.table_id d.owner.me.0 d.dealer };
+    ghost invariant = { λ d. (1 ≤ d.size) × IsDesk d.size d.table.shared.table_id × IsOwner d.size d.table.shared.table_id d.owner × HasDealer d.size d.table.shared.table_id d.owner.me.0 d.dealer };
 }
 
 impl<X, E, K> Desk<X, E, K> {
+    ghost use Rattle.collect_ops.specs.Closing.{EndsAs};
     ghost use Rattle.collect_ops.specs.Steps.{IsDesk, Sits, HasRoom};
     ghost use Rattle.collect_ops.specs.declared.view.View.{View};
 
@@ -86,6 +88,7 @@ impl<X, E, K> Desk<X, E, K> {
         size: usize,
         ending: Ending<X, E>,
     ) -> Desk<X, E, K>
+        requires some { 1 ≤ size }
         requires desk { IsDesk size table.shared.table_id }
         requires making { Sits table.shared.table_id seat (View.Making, []) }
         requires room { HasRoom size ending }
@@ -112,5 +115,26 @@ impl<X, E, K> Desk<X, E, K> {
             return Err(Taken);
         };
         Ok(Arrivals::new(&self.table.shared, seat, size))
+    }
+
+    /// Gives the memory back, and hands out what was kept and never handed out, and the end where nothing completed. Of
+    /// an outcome whose arrival was in the middle of its call nothing is said: no call can be, unless it was forgotten.
+    pub fn close(self) -> Kept<Desk<X, E, K>>
+        ensures size { result.size ≡ self.desk.size }
+        ensures untaken { self.taken ≡ false → (result.outcomes ≡ []) × (result.end ≡ self.desk.end) }
+        ensures end { result.claimed ≡ 0 → result.left ≢ 0 → result.end ≡ self.desk.end }
+        ensures kept { result.left ≢ 0 → self.desk.size ≤ length result.outcomes + result.left }
+        ensures ended { EndsAs self.desk result }
+    {
+        let Desk {
+            table,
+            owner,
+            dealer,
+            size,
+            kind: _,
+        } = self;
+        let mut slots = kept::closed(table, owner, dealer, size);
+        let end = kept::end_of(slots.take(size));
+        Kept::new(slots, size, end)
     }
 }

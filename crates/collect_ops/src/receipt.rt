@@ -1,10 +1,11 @@
 //! What shows that an arrival has made its step. Each may be dropped.
-ghost use Rattle.std.specs.Prelude.{◌≡◌, ◌<◌, [], List, slice_get};
+ghost use Rattle.std.specs.Prelude.{◌≡◌, [], slice_get};
 ghost use Rattle.collect_ops.specs.Steps.{IsKept, IsDone};
 ghost use Rattle.collect_ops.specs.Views.{desk_in, index_in, phase_in, kept_in, found_in, list_in};
 ghost use Rattle.collect_ops.specs.declared.view.Phase.{Phase};
 
-use crate::rule::{Cells, Meets, Never, Place, ReadsTold, Tells};
+use crate::rule::{Cells, Place};
+use crate::steps;
 use crate::view::Phase;
 use std::marker::Model;
 
@@ -33,6 +34,15 @@ impl<X, E> Receipt<X, E> {
         ensures { result ≡ record { desk = desk_in seat.table_id seat.me.0; index = index_in seat.me.0; outcome = kept_in (phase_in seat.me.0); found = found_in (phase_in seat.me.0) } }
     {
         Receipt { seat }
+    }
+
+    // The seat of the arrival.
+    fn into_seat(self) -> Place<X, E>
+        ensures seen { self ≡ record { desk = desk_in result.table_id result.me.0; index = index_in result.me.0; outcome = kept_in (phase_in result.me.0); found = found_in (phase_in result.me.0) } }
+        ensures kept { IsKept (phase_in result.me.0) × (result.me.1 ≡ []) }
+    {
+        let Receipt { seat } = self;
+        seat
     }
 }
 
@@ -108,6 +118,38 @@ impl<'d, X, E> Completed<'d, X, E> {
         ensures { result ≡ record { desk = desk_in seat.table_id seat.me.0; index = index_in seat.me.0; found = found_in (phase_in seat.me.0); list = list_in (phase_in seat.me.0) } }
     {
         Completed { table, seat }
+    }
+}
+
+impl<'d, X, E> Completed<'d, X, E> {
+    // The seat of the arrival.
+    fn into_seat(self) -> Place<X, E>
+        ensures desk { self.entry.desk ≡ desk_in result.table_id result.me.0 }
+        ensures done { IsDone (phase_in result.me.0) × (result.me.1 ≡ []) }
+    {
+        let Completed { table: _, seat } = self;
+        seat
+    }
+
+    /// The law of the list: what another arrival had kept stands in the list of the one that found 1 left, at its index.
+    pub fn lists(&mut self, receipt: Receipt<X, E>)
+        requires desk { receipt.desk ≡ self.old.desk }
+        requires counted { self.old.found ≡ 1 }
+        ensures listed { slice_get self.old.list receipt.index ≡ receipt.outcome }
+        ensures same { self.new ≡ self.old }
+    {
+        let other = receipt.into_seat();
+        steps::tell(self.table, &mut self.seat, other);
+    }
+
+    /// The law of one completion: no two arrivals complete one desk. So no call of this can be made.
+    pub fn completes_once(self, other: Completed<'d, X, E>)
+        requires { self.desk ≡ other.desk }
+        ensures { ⊥ }
+    {
+        let second = other.into_seat();
+        let Completed { table, mut seat } = self;
+        steps::meet(table, &mut seat, second);
     }
 }
 

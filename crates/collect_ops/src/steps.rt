@@ -1,5 +1,5 @@
 //! The atomic steps of a desk's table, and the plain access to a slot that a seat has.
-ghost use Rattle.std.specs.Prelude.{◌≡◌, ◌≢◌, ◌+◌, ◌<◌, ◌≤◌, List, [], ◌∷◌, ◌++◌, length, reverse, vec_capacity};
+ghost use Rattle.std.specs.Prelude.{◌≡◌, ◌≢◌, ℕ, ◌+◌, ◌<◌, ◌≤◌, List, [], ◌∷◌, ◌++◌, length, reverse, vec_capacity};
 ghost use Rattle.std.specs.Bool.{OnTrue, OnFalse};
 ghost use mathlib.Core.Option.{some};
 ghost use lib.ListN.{get_elem?};
@@ -8,11 +8,13 @@ ghost use Rattle.collect_ops.specs.declared.view.Ending.{Ending};
 ghost use Rattle.collect_ops.specs.declared.view.Item.{Item};
 ghost use Rattle.collect_ops.specs.declared.view.Phase.{Phase};
 ghost use Rattle.collect_ops.specs.declared.view.View.{View};
-ghost use Rattle.collect_ops.specs.Steps.{IsDesk, HasRoom, Sits, at, claiming, emptying, full_slots, empty_slots};
+ghost use Rattle.collect_ops.specs.Views.{index_in, phase_in, kept_in, list_in};
+ghost use Rattle.collect_ops.specs.Steps.{IsDesk, HasRoom, IsDone, IsLast, IsKeeper, Sits, at, claiming, emptying, full_slots, empty_slots};
 
 use crate::listed::Listed;
 use crate::rule::{
-    Cells, Claims, Deals, GivesEnd, Keeps, Place, ReturnsAll, ReturnsEnd, TakesEndSlot, TakesSlot,
+    Cells, Claims, Deals, GivesEnd, Keeps, Meets, Never, Place, ReadsTold, ReturnsAll, ReturnsEnd,
+    TakesEndSlot, TakesSlot, Tells,
 };
 use crate::view::{Ending, Item, Phase, View};
 
@@ -211,4 +213,28 @@ pub(crate) fn take_all<X, E>(
     let outcomes = take_list(table, seat, size, room);
     return_all(table, seat, size, index);
     (Listed::of_reversed(outcomes), end)
+}
+
+/// The arrival that was the last is told what another had kept: it stands in the list.
+pub(crate) fn tell<X, E>(table: &Cells<X, E>, seat: &mut Place<X, E>, other: Place<X, E>)
+    requires words { 0 < table.now.table_id.words }
+    requires last { (seat.old.table_id ≡ table.now.table_id) × IsLast seat.old.me }
+    requires kept { (other.table_id ≡ table.now.table_id) × IsKeeper other.me }
+    ensures table { seat.new.table_id ≡ seat.old.table_id }
+    ensures same { seat.new.me ≡ seat.old.me }
+    ensures listed { (k : ℕ) (x : X) → index_in other.me.0 ≡ k → kept_in (phase_in other.me.0) ≡ Some x → get_elem? (list_in (phase_in seat.old.me.0)) k ≡ some x }
+{
+    table.join_seat::<Tells>(seat, other);
+    table.load::<ReadsTold>(seat, LEFT);
+}
+
+/// Two arrivals don't both complete: no call of this can be made.
+pub(crate) fn meet<X, E>(table: &Cells<X, E>, seat: &mut Place<X, E>, other: Place<X, E>)
+    requires words { 0 < table.now.table_id.words }
+    requires one { (seat.old.table_id ≡ table.now.table_id) × (seat.old.me.1 ≡ []) × IsDone (phase_in seat.old.me.0) }
+    requires other { (other.table_id ≡ table.now.table_id) × (other.me.1 ≡ []) × IsDone (phase_in other.me.0) }
+    ensures { ⊥ }
+{
+    table.join_seat::<Meets>(seat, other);
+    table.load::<Never>(seat, LEFT);
 }

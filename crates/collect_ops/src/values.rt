@@ -1,10 +1,11 @@
 //! The desk of values: collect.
-ghost use Rattle.std.specs.Prelude.{◌≡◌};
+ghost use Rattle.std.specs.Prelude.{◌≡◌, ◌↔◌, [], ◌∷◌, IfSome, IsNone};
 ghost use Rattle.collect_ops.specs.Answers.{MatchArrived, CompletesValues, IsBack, KeepsValue, values_answer, answer_of, found_of};
 
 use crate::answer::{AllValues, Arrived, Reason};
 use crate::arrival::Arrival;
 use crate::desk::Desk;
+use crate::kept::Kept;
 use fan_base::Try;
 
 /// The kind of a desk that keeps values, and completes at the first fault.
@@ -39,6 +40,20 @@ impl<'d, T, E> Arrival<'d, ValuesDesk<T, E>> {
         match pass.keep(value) {
             Ok((list, end, done)) => Arrived::Complete(AllValues::Values(list), end, done),
             Err(receipt) => Arrived::More(receipt),
+        }
+    }
+}
+
+impl<T, E> Kept<ValuesDesk<T, E>> {
+    /// The next value that was kept and never handed out, the lowest index first. None exactly where none is left.
+    pub fn next(&mut self) -> Option<Try<T>>
+        ensures rest { IfSome result (λ outcome. (value : T) × (outcome ≡ Try.Value value) × (self.old.outcomes ≡ value ∷ self.new.outcomes)) }
+        ensures none { IsNone result ↔ (self.old.outcomes ≡ []) }
+        ensures end { self.new.end ≡ self.old.end }
+    {
+        match self.next_kept() {
+            Some(value) => Some(Try::Value(value)),
+            None => None,
         }
     }
 }

@@ -7,6 +7,7 @@ pub invariant_of-result : goal.invariant_of-result
 invariant_of-result g c =
     let owner = c.deal_owner-owner.ensures.dealt _ c.open.ensures.stands in
     let dealer = c.deal_owner-owner.ensures.dealer _ c.open.ensures.stands in (
+      c.requires.some,
       c.requires.desk,
       record { ending = c.args.ending; sits = owner },
       record { dealer = record { ending = c.args.ending; sits = dealer; room = c.requires.room }; same = ap (λ (m : Standing g.row.X.Denot g.row.E.Denot). end_in m.0) owner.stands },
