@@ -25,17 +25,17 @@ use Rattle.tick_wheel.proofs.Places.{slot_from_due, due_from_slot, ahead_at_next
 use Rattle.tick_wheel.proofs.Slots.{entry_in-set_other, holder_of, slice_get-push_end, slice_get-push_other}
 use Rattle.tick_wheel.proofs.Views.{numbered_sorted, found_held, held_found, timers_drop, apart_from_drop}
 
-contains_at : (xs : List Entry) (k : ℕ) (e : Entry) → slice_get xs k ≡ Some e → Contains xs e
+pub contains_at : (xs : List Entry) (k : ℕ) (e : Entry) → slice_get xs k ≡ Some e → Contains xs e
 contains_at xs k e is = (k, slice_get_within xs k e is, get_or_from_slice_get xs k e e is)
 
-at_contained : (xs : List Entry) (e : Entry) → Contains xs e → (k : ℕ) × (slice_get xs k ≡ Some e)
+pub at_contained : (xs : List Entry) (e : Entry) → Contains xs e → (k : ℕ) × (slice_get xs k ≡ Some e)
 at_contained xs e c = (c.0, slice_get-get_or xs c.0 e c.1 ∙ ap Some c.2)
 
-different : (a b : ℕ) → a ≢ b → nat_eq a b ≡ false
+pub different : (a b : ℕ) → a ≢ b → nat_eq a b ≡ false
 different a b apart = grind (arith, common_steps)
 
 -- entries in which each id stands once, whatever their order
-once_permuted : (xs ys : List Entry)
+pub once_permuted : (xs ys : List Entry)
     → ((i j : ℕ) (x y : Entry) → slice_get xs i ≡ Some x → slice_get xs j ≡ Some y → x.id ≡ y.id → i ≡ j)
     → IsPermutation xs ys
     → (i j : ℕ) (x y : Entry) → slice_get ys i ≡ Some x → slice_get ys j ≡ Some y → x.id ≡ y.id → i ≡ j
@@ -115,7 +115,7 @@ module _ {A : Type 0} (slots : List (List Entry)) (index : Index A) (slot : ℕ)
       → (h : Held A) × (held_at index e.id ≡ Some h) × (h.slot ≡ slot) × (entry_of e.id h ≡ e)
   leaver within split firing = firing.lists.each e (subst (λ (zs : List Entry). Contains zs e) (sym (whole within split)) (Contains-push ys e))
 
-dropped_rank : {A : Type 0} (b : Bool) (o : Option (Held A)) (q : ℕ) → option_map (rank_of q) (cond b None o) ≡ cond b None (option_map (rank_of q) o)
+pub dropped_rank : {A : Type 0} (b : Bool) (o : Option (Held A)) (q : ℕ) → option_map (rank_of q) (cond b None o) ≡ cond b None (option_map (rank_of q) o)
 dropped_rank true o q = refl
 dropped_rank false o q = refl
 

@@ -1,5 +1,5 @@
 -- What each call keeps of the slots and the index.
-use Rattle.std.proofs.Common.{◌≡◌, ℕ, ◌+◌, ◌<◌, ◌⊎◌, inl, inr, Bool, true, false, cond, nat_eq, List, ◌++◌, length, take, drop, Some, None, refl, sym, ap, ◌∙◌, subst, arith, ⊎_elim}
+use Rattle.std.proofs.Common.{◌≡◌, ℕ, ◌+◌, ◌^◌, ◌<◌, ◌⊎◌, inl, inr, Bool, true, false, cond, nat_eq, List, ◌++◌, length, take, drop, Some, None, refl, sym, ap, ◌∙◌, subst, arith, ⊎_elim}
 use Rattle.std.specs.HashMap.{IsUnique}
 use Rattle.std.proofs.lemmas.Grind.{common_steps}
 use Rattle.std.proofs.lemmas.List.{take_at}
@@ -29,6 +29,7 @@ module _ {A : Type 0} where
       → IsKept tick next slots' index'
   kept_drop tick next slots slots' index index' id kept room linked unique ranks stay = record {
     now = kept.now;
+    last = kept.last;
     room = room;
     linked = linked;
     apart = apart_from_drop index index' id kept.apart unique ranks;
@@ -43,12 +44,13 @@ module _ {A : Type 0} where
   -- one timer more
   pub kept_link : (tick next : ℕ) (slots slots' : List (List Entry)) (index index' : Index A) (id : ℕ) (h : Held A) → IsKept tick next slots index
       → length slots' ≡ 1024 → IsLinked slots' index' → IsUnique nat_eq index'
-      → ((q : ℕ) → held_at index' q ≡ cond (nat_eq id q) (Some h) (held_at index q)) → h.order ≡ next → IsAhead tick h.due h.slot
+      → ((q : ℕ) → held_at index' q ≡ cond (nat_eq id q) (Some h) (held_at index q)) → h.order ≡ next → IsAhead tick h.due h.slot → next + 1 < 2 ^ 64
       → IsKept tick (next + 1) slots' index'
-  kept_link tick next slots slots' index index' id h kept room linked unique updates order ahead =
+  kept_link tick next slots slots' index index' id h kept room linked unique updates order ahead more =
       let was : (q : ℕ) (k : Held A) → held_at index' q ≡ Some k → ((id ≡ q) × (h ≡ k)) ⊎ (held_at index q ≡ Some k) = λ q k is. came (nat_eq id q) refl k q (sym (updates q) ∙ is) in
       record {
         now = kept.now;
+        last = more;
         room = room;
         linked = linked;
         apart = record {
@@ -80,6 +82,7 @@ module _ {A : Type 0} where
       → IsKept tick next slots' index'
   kept_settled tick next slots slots' index index' kept room linked apart ahead same = record {
     now = kept.now;
+    last = kept.last;
     room = room;
     linked = linked;
     apart = apart;

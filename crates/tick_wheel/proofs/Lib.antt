@@ -1,12 +1,15 @@
 pub mod Keeping
 pub mod Linked
+pub mod OrderLoop
 pub mod Places
+pub mod Rested
 pub mod Seen
 pub mod Slots
 pub mod SweepLoop
 pub mod Swept
 pub mod Views
 pub mod CascadeLoop
+pub mod ByDue
 pub mod Cascading
 pub mod Counting
 pub mod Fired

@@ -1,5 +1,5 @@
 -- From what the index holds to the list that contracts see.
-use Rattle.std.proofs.Common.{◌≡◌, ℕ, ◌+◌, ◌^◌, ◌<◌, ◌≤◌, ◌==◌, Bool, cond, nat_eq, List, [], ◌∷◌, ◌++◌, length, map, Option, Some, None, option_map, is_some, refl, sym, ap, ◌∙◌, subst, arith}
+use Rattle.std.proofs.Common.{◌≡◌, ◌≢◌, ℕ, ◌+◌, ◌^◌, ◌<◌, ◌≤◌, ◌==◌, Bool, cond, nat_eq, List, [], ◌∷◌, ◌++◌, length, map, Option, Some, None, option_map, is_some, refl, sym, ap, ◌∙◌, subst, arith}
 use Rattle.std.specs.HashMap.{hash_map_len}
 use Rattle.std.specs.List.{IsDistinct}
 use Rattle.std.specs.Map.{keys_of, lookup}
@@ -74,6 +74,7 @@ module _ {A : Type 0} where
       let held : (q : ℕ) → held_at index' q ≡ held_at index q = λ q. ap (λ (es : List (ℕ × Held A)). lookup (nat_eq q) es) same in
       record {
         now = kept.now;
+        last = kept.last;
         room = room;
         linked = linked;
         apart = record {
@@ -116,6 +117,7 @@ module _ {A : Type 0} where
       → IsKept (tick + 1) next slots' index'
   kept_fired tick next slots slots' index index' low kept room linked apart ahead part = record {
     now = omega (arith, low);
+    last = kept.last;
     room = room;
     linked = linked;
     apart = apart;
@@ -150,6 +152,7 @@ module _ {A : Type 0} where
       let none : (q : ℕ) (h : Held A) → held_at index' q ≡ Some h → ⊥ = λ q h is. none-some h (sym (ap (λ (es : List (ℕ × Held A)). lookup (nat_eq q) es) empty) ∙ is) in
       record {
         now = kept.now;
+        last = kept.last;
         room = room;
         linked = linked;
         apart = record {
@@ -159,3 +162,6 @@ module _ {A : Type 0} where
         below = λ q h is. absurd (none q h is);
         ahead = λ q h is. absurd (none q h is);
       }
+
+pub next_fits : (next : ℕ) → next < 2 ^ 64 → next ≢ 18446744073709551615 → next + 1 < 2 ^ 64
+next_fits next low ne = omega (arith, low, ne)

@@ -1,5 +1,5 @@
 -- What a wheel shows of its index, and what it keeps of its slots.
-use Rattle.std.specs.Prelude.{◌≡◌, ℕ, ◌≤◌, ◌^◌, List, length, map}
+use Rattle.std.specs.Prelude.{◌≡◌, ℕ, ◌≤◌, ◌<◌, ◌^◌, List, length, map}
 use Rattle.tick_wheel.specs.declared.slot.Entry.{Entry}
 use Rattle.tick_wheel.specs.declared.table.Held.{Held}
 use Rattle.tick_wheel.specs.declared.timer.Timer.{Timer}
@@ -18,6 +18,7 @@ module _ {T : Type 0} where
   -- what slots and index keep
   pub record IsKept (tick next : ℕ) (slots : List (List Entry)) (index : Index T) : Type 0 where
     pub now : tick ≤ 2 ^ 63
+    pub last : next < 2 ^ 64
     pub room : length slots ≡ 1024
     pub linked : IsLinked slots index
     pub apart : AreApart index

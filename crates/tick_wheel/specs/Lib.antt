@@ -2,6 +2,7 @@ pub mod Firing
 pub mod InOrder
 pub mod Kept
 pub mod Place
+pub mod Resting
 pub mod Steps
 pub mod Sweep
 pub mod Table

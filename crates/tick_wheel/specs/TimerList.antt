@@ -1,5 +1,5 @@
 -- The list of timers, which is all that contracts see of a wheel.
-use Rattle.std.specs.Prelude.{◌≡◌, ℕ, ◌+◌, ◌==◌, not, List, [], ◌∷◌, ◌++◌, Option, map}
+use Rattle.std.specs.Prelude.{◌≡◌, ℕ, ◌+◌, ◌==◌, nat_le, not, if◌then◌else◌, List, [], ◌∷◌, ◌++◌, Option, map}
 use Rattle.std.specs.List.{filter, find}
 use Rattle.tick_wheel.specs.declared.timer.Timer.{Timer}
 use Rattle.tick_wheel.specs.declared.timer.ScheduleFault.{ScheduleFault}
@@ -34,6 +34,15 @@ module _ {T : Type 0} where
   -- the timers in order of their ids
   abbrev pub by_id : List (Timer T) → List (Timer T)
   by_id ts = map (λ (e : ℕ × Timer T). e.1) (in_order (map (λ (t : Timer T). (t.id, t)) ts))
+
+  -- the timers by due tick, and by order of scheduling where that is the same
+  abbrev pub insert_due : Timer T → List (Timer T) → List (Timer T)
+  insert_due t [] = t ∷ []
+  insert_due t (u ∷ us) = if nat_le t.due u.due then t ∷ u ∷ us else u ∷ insert_due t us
+
+  abbrev pub by_due : List (Timer T) → List (Timer T)
+  by_due [] = []
+  by_due (t ∷ ts) = insert_due t (by_due ts)
 
   -- one timer more, which was scheduled last
   abbrev pub scheduled : TimerList T → ℕ → ℕ → T → TimerList T

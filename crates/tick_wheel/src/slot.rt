@@ -1,5 +1,6 @@
 //! A slot of a wheel, and the count of the steps that a tick takes.
 ghost use Rattle.std.specs.Prelude.{◌≡◌, ◌≢◌, ℕ, ◌+◌, ◌-◌, ◌<◌, ◌≤◌, ◌++◌, ◌∷◌, [], length, IsNone, ◌↔◌, OnOk, OnErr, IfSome, IfNone, option_to_list, slice_get, option_copied, slice_index_or};
+ghost use Rattle.tick_wheel.specs.Resting.{Falls};
 ghost use Rattle.tick_wheel.specs.declared.slot.Entry.{Entry};
 ghost use Rattle.std.specs.List.Sorted.{IsPermutation, IsNonDecreasingBy};
 
@@ -148,10 +149,20 @@ impl Slot {
             .sort_unstable_by_key(|entry| u64::MAX - entry.order);
     }
 
-    // Lets all entries go.
-    pub(crate) fn clear(&mut self)
-        ensures { self.new ≡ [] }
+    // Brings the entries into such an order that the last is due first, and was scheduled first among those.
+    pub(crate) fn order_by_due(&mut self)
+        ensures same { IsPermutation self.old self.new }
+        ensures falls { Falls self.new }
     {
-        self.entries.clear();
+        self.entries.sort_unstable_by_key(|entry| u128::MAX
+            - (entry.due as u128 * 18446744073709551616 + entry.order as u128));
+    }
+
+    // Takes the last entry out after the wheel has ended, which is no step of a tick.
+    pub(crate) fn leave(&mut self) -> Option<Entry>
+        ensures last { self.old ≡ self.new ++ option_to_list result }
+        ensures none { IsNone result ↔ (self.old ≡ []) }
+    {
+        self.entries.pop()
     }
 }

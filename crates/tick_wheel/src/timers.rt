@@ -2,6 +2,7 @@
 use crate::cascade::settle;
 use crate::fire::fire;
 use crate::place::{ALL_SLOTS, MAX_DELAY, slot_of};
+use crate::rest::{TimersRest, rest_of};
 use crate::slot::{Slot, Steps};
 use crate::sweep::{list_ids, take_all};
 use crate::table::{Held, link, unlink};
@@ -37,7 +38,7 @@ impl<T> Model for Timers<T> {
 
 impl<T> Timers<T> {
     ghost use Rattle.std.specs.Prelude.{◌≡◌, ℕ, ◌+◌, ◌<◌, ◌≤◌, ◌^◌, ◌↔◌, [], length, IsTrue, IsSome, Some, None, Ok, Err, IfOk, IfErr, OnOk, OnErr};
-    ghost use Rattle.tick_wheel.specs.TimerList.{TimerList, Ticks, timer_at, scheduled, cancelled, handed_back, items_of, by_id};
+    ghost use Rattle.tick_wheel.specs.TimerList.{TimerList, Ticks, timer_at, scheduled, cancelled, handed_back, items_of, by_id, by_due};
     ghost use Rattle.tick_wheel.specs.Steps.{tick_bound};
 
     /// Holds nothing, with `start` ticks made.
@@ -163,6 +164,14 @@ impl<T> Timers<T> {
         let mut items = Vec::with_capacity(self.alloc, ids.len())?;
         take_all(&mut self.slots, &mut self.index, &ids, &mut items);
         Ok(items)
+    }
+
+    /// Ends the wheel and gives what it holds, by due tick and by order of scheduling where that is the same. It takes no memory.
+    pub fn into_rest(self) -> TimersRest<T>
+        ensures { result ≡ by_due self.timers }
+    {
+        let Timers { slots, index, .. } = self;
+        rest_of(slots, index)
     }
 
     /// Lets a wheel go that holds nothing, also where its items may not be dropped.
