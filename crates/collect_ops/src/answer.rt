@@ -5,6 +5,7 @@ use fan_base::Try;
 
 /// What an arrival answers: V is what its desk completes with, E what the completion hands out, T the value, and X what
 /// the desk keeps.
+#[derive(Drop)]
 pub enum Arrived<'d, V, E, T, X> {
     /// The desk is complete, by this arrival.
     Complete(V, E, Completed<'d, X, E>),
@@ -15,6 +16,7 @@ pub enum Arrived<'d, V, E, T, X> {
 }
 
 /// Why an outcome comes back.
+#[derive(Drop)]
 pub enum Reason<X, E> {
     /// Another arrival had claimed the end.
     Claimed(Lost<X, E>),
