@@ -10,3 +10,4 @@ pub mod Returning
 pub mod Passing
 pub mod Closing
 pub mod Telling
+pub mod Crossings
