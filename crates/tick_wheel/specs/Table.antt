@@ -1,5 +1,5 @@
 -- The slots and the index: for each id that is held its entry stands in one place, and the index knows the place.
-use Rattle.std.specs.Prelude.{◌≡◌, ℕ, ◌<◌, ◌≤◌, ◌==◌, List, [], Option, Some, option_map, slice_get, slice_index_or, nat_eq, count_by, map, if◌then◌else◌}
+use Rattle.std.specs.Prelude.{◌≡◌, ℕ, ◌+◌, ◌<◌, ◌≤◌, ◌==◌, List, [], Option, Some, option_map, slice_get, slice_index_or, length, nat_eq, count_by, map, if◌then◌else◌}
 use Rattle.std.specs.HashMap.{HashMap, get, values, IsUnique}
 use Rattle.std.specs.Map.{set_value}
 use Rattle.std.specs.declared.hash.FoldHasher.{FoldHasher}
@@ -11,6 +11,14 @@ use Rattle.tick_wheel.specs.declared.timer.Timer.{Timer}
 
 abbrev pub Index : Type 0 → Type 0
 Index T = HashMap ℕ (Held T) (BuildHasherDefault FoldHasher)
+
+-- the entries of a slot
+abbrev pub entries_of : List (List Entry) → ℕ → List Entry
+entries_of slots slot = slice_index_or slots slot []
+
+-- a slot has one entry less
+abbrev pub HasOneLess : List (List Entry) → List (List Entry) → ℕ → Type 0
+HasOneLess old new slot = length (entries_of new slot) + 1 ≡ length (entries_of old slot)
 
 -- the entry at a place of a slot
 abbrev pub entry_in : List (List Entry) → ℕ → ℕ → Option Entry
@@ -76,6 +84,10 @@ module _ {T : Type 0} where
   -- how many entries the index has in a slot
   abbrev pub in_slot : ℕ → Index T → ℕ
   in_slot slot index = count_by (λ (held : Held T). held.slot == slot) (values index)
+
+  -- each entry that left a slot was one step
+  abbrev pub CountsWhatLeaves : ℕ → ℕ → Index T → Index T → ℕ → Type 0
+  CountsWhatLeaves before after old new slot = after + in_slot slot new ≡ before + in_slot slot old
 
   -- the same entry in another place
   abbrev pub moved : Held T → ℕ → ℕ → Held T

@@ -1,9 +1,9 @@
 //! Entries of a coarser wheel are placed anew as their slot's turn comes.
-ghost use Rattle.std.specs.Prelude.{◌≡◌, ℕ, ◌+◌, ◌<◌, ◌≤◌, ◌^◌, ◌%◌, ◌==◌, [], OnOk, length, if◌then◌else◌, slice_index_or};
+ghost use Rattle.std.specs.Prelude.{◌≡◌, ℕ, ◌+◌, ◌<◌, ◌≤◌, ◌^◌, ◌%◌, ◌==◌, OnOk, length};
 ghost use Rattle.tick_wheel.specs.Place.{IsWheel, turning_slot};
 ghost use Rattle.tick_wheel.specs.Kept.{timers_of};
 ghost use Rattle.tick_wheel.specs.Steps.{count_turning, turning_bound};
-ghost use Rattle.tick_wheel.specs.Table.{IsLinked, AreApart, AreAhead, AreSettled, IsLeft, Rearranges, in_slot};
+ghost use Rattle.tick_wheel.specs.Table.{IsLinked, AreApart, AreAhead, AreSettled, IsLeft, Rearranges, entries_of, HasOneLess, CountsWhatLeaves};
 
 use crate::place::slot_of;
 use crate::slot::{Slot, Steps};
@@ -28,14 +28,15 @@ fn place_last<T, L: Ledger>(
     requires apart { AreApart index.old }
     requires ahead { AreAhead now index.old }
     requires turns { (now + 1) % width ≡ 0 }
-    requires some { 0 < length (slice_index_or slots.old (turning_slot first width (now + 1)) []) }
+    requires some { 0 < length (entries_of slots.old (turning_slot first width (now + 1))) }
     ensures room { length slots.new ≡ 1024 }
     ensures linked { IsLinked slots.new index.new }
     ensures apart { AreApart index.new }
     ensures ahead { AreAhead now index.new }
     ensures same { Rearranges first index.old index.new }
-    ensures one { OnOk result (length (slice_index_or slots.new (turning_slot first width (now + 1)) []) + 1 ≡ length (slice_index_or slots.old (turning_slot first width (now + 1)) [])) }
-    ensures steps { steps.new + in_slot (turning_slot first width (now + 1)) index.new ≡ steps.old + in_slot (turning_slot first width (now + 1)) index.old }
+    ensures one { OnOk result (HasOneLess slots.old slots.new (turning_slot first width (now + 1))) }
+    ensures rises { steps.old ≤ steps.new }
+    ensures steps { CountsWhatLeaves steps.old steps.new index.old index.new (turning_slot first width (now + 1)) }
 {
     let tick = now + 1;
     let from = first + (tick / width % 256) as usize;
@@ -71,6 +72,7 @@ fn cascade<T, L: Ledger>(
     ensures ahead { AreAhead now index.new }
     ensures same { Rearranges first index.old index.new }
     ensures left { OnOk result ((now + 1) % width ≡ 0 → IsLeft (turning_slot first width (now + 1)) index.new) }
+    ensures rises { steps.old ≤ steps.new }
     ensures steps { steps.new ≤ steps.old + count_turning width (now + 1) (timers_of index.old) }
 {
     let tick = now + 1;
@@ -103,6 +105,7 @@ pub(crate) fn settle<T, L: Ledger>(
     ensures ahead { AreAhead now index.new }
     ensures same { Rearranges 1024 index.old index.new }
     ensures settled { OnOk result (AreSettled (now + 1) index.new) }
+    ensures rises { steps.old ≤ steps.new }
     ensures steps { steps.new ≤ steps.old + turning_bound (now + 1) (timers_of index.old) }
 {
     cascade(slots, index, 768, 16777216, now, steps)?;

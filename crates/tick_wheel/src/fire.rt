@@ -1,8 +1,8 @@
 //! The slot of the next tick fires: what stands in it leaves, in order of scheduling.
-ghost use Rattle.std.specs.Prelude.{◌≡◌, ℕ, ◌+◌, ◌<◌, ◌≤◌, ◌^◌, ◌%◌, [], ◌∷◌, ◌++◌, length, slice_index_or, vec_len, vec_capacity};
+ghost use Rattle.std.specs.Prelude.{◌≡◌, ℕ, ◌+◌, ◌<◌, ◌≤◌, ◌^◌, ◌%◌, ◌∷◌, ◌++◌, length, vec_len, vec_capacity};
 ghost use Rattle.tick_wheel.specs.Firing.{IsFiring, IsPartOf};
 ghost use Rattle.tick_wheel.specs.Kept.{timers_of};
-ghost use Rattle.tick_wheel.specs.Table.{IsLinked, AreApart, AreAhead, AreBelow, AreSettled};
+ghost use Rattle.tick_wheel.specs.Table.{IsLinked, AreApart, AreAhead, AreBelow, AreSettled, entries_of, HasOneLess};
 ghost use Rattle.tick_wheel.specs.TimerList.{due_at, due_later, items_of};
 
 use crate::slot::{Slot, Steps};
@@ -18,7 +18,7 @@ fn line_up<T>(slots: &mut [Slot], index: &HashMap<u64, Held<T>>, now: u64)
     requires apart { AreApart index.now }
     ensures room { length slots.new ≡ 1024 }
     ensures firing { IsFiring ((now + 1) % 256) slots.new index.now }
-    ensures count { length (slice_index_or slots.new ((now + 1) % 256) []) ≡ length (slice_index_or slots.old ((now + 1) % 256) []) }
+    ensures count { length (entries_of slots.new ((now + 1) % 256)) ≡ length (entries_of slots.old ((now + 1) % 256)) }
 {
     let slot = ((now + 1) % 256) as usize;
     slots[slot].turn_round();
@@ -38,7 +38,7 @@ fn fire_first<T, L: Ledger>(
     requires ahead { AreAhead now index.old }
     requires settled { AreSettled (now + 1) index.old }
     requires fits { AreBelow 18446744073709551616 index.old }
-    requires some { 0 < length (slice_index_or slots.old ((now + 1) % 256) []) }
+    requires some { 0 < length (entries_of slots.old ((now + 1) % 256)) }
     requires spare { vec_len fired.old < vec_capacity fired.old }
     ensures room { length slots.new ≡ 1024 }
     ensures firing { IsFiring ((now + 1) % 256) slots.new index.new }
@@ -46,7 +46,7 @@ fn fire_first<T, L: Ledger>(
     ensures settled { AreSettled (now + 1) index.new }
     ensures fits { AreBelow 18446744073709551616 index.new }
     ensures part { IsPartOf index.new index.old }
-    ensures one { length (slice_index_or slots.new ((now + 1) % 256) []) + 1 ≡ length (slice_index_or slots.old ((now + 1) % 256) []) }
+    ensures one { HasOneLess slots.old slots.new ((now + 1) % 256) }
     ensures fired { fired.old.items ++ items_of (due_at (now + 1) (timers_of index.old)) ≡ fired.new.items ++ items_of (due_at (now + 1) (timers_of index.new)) }
     ensures rest { due_later (now + 1) (timers_of index.new) ≡ due_later (now + 1) (timers_of index.old) }
     ensures len { vec_len fired.new ≡ vec_len fired.old + 1 }
@@ -79,7 +79,7 @@ pub(crate) fn fire<T, L: Ledger>(
     requires settled { AreSettled (now + 1) index.old }
     requires fits { AreBelow 18446744073709551616 index.old }
     requires empty { vec_len fired.old ≡ 0 }
-    requires spare { length (slice_index_or slots.old ((now + 1) % 256) []) ≤ vec_capacity fired.old }
+    requires spare { length (entries_of slots.old ((now + 1) % 256)) ≤ vec_capacity fired.old }
     ensures room { length slots.new ≡ 1024 }
     ensures linked { IsLinked slots.new index.new }
     ensures apart { AreApart index.new }

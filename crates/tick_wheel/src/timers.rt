@@ -132,12 +132,13 @@ impl<T> Timers<T> {
 
     /// Makes one tick, and hands out what is due then, in order of scheduling. A refused call leaves all as it was.
     ///
-    /// One step is one entry taken out of a slot; the clause on steps bounds them.
+    /// One step is one entry taken out of a slot: each that fires is one, and the clause `steps` bounds them.
     pub fn tick<L: Ledger>(&mut self, steps: &mut Steps<L>) -> Result<Vec<T>, Memory>
         requires { self.old.tick < 2 ^ 63 }
         ensures ok { IfOk result (λ items. Ticks self.old self.new items.items) }
         ensures refused { OnErr result (self.new ≡ self.old) }
         ensures steps { steps.new ≤ steps.old + tick_bound self.old }
+        ensures counted { IfOk result (λ items. steps.old + length items.items ≤ steps.new) }
     {
         let tick = self.ticks + 1;
         settle(&mut self.slots, &mut self.index, self.ticks, steps)?;

@@ -111,12 +111,13 @@ impl Wheel {
 
     /// Makes one tick, and hands out the ids that are due then, in order of scheduling. A refused call leaves all as it was.
     ///
-    /// One step is one entry taken out of a slot; the clause on steps bounds them.
+    /// One step is one entry taken out of a slot: each that fires is one, and the clause `steps` bounds them.
     pub fn tick<L: Ledger>(&mut self, steps: &mut Steps<L>) -> Result<Vec<u64>, Memory>
         requires { self.old.tick < 2 ^ 63 }
         ensures ok { IfOk result (λ ids. TicksIds self.old self.new ids.items) }
         ensures refused { OnErr result (self.new ≡ self.old) }
         ensures steps { steps.new ≤ steps.old + tick_bound self.old }
+        ensures counted { IfOk result (λ ids. steps.old + length ids.items ≤ steps.new) }
     {
         let ids = self.timers.tick(steps)?;
         Ok(ids)
