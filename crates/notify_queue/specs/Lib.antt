@@ -6,3 +6,4 @@ pub mod Passes
 pub mod Receivers
 pub mod Senders
 pub mod Stamps
+pub mod Steps

@@ -5,14 +5,18 @@ ghost use Rattle.notify_queue.specs.Marks.{place};
 use crate::delivery::Line;
 use crate::marks::Marks;
 use crossbeam_utils::sync::Unparker;
+use std::sync::atomic::AtomicBool;
 
 mod batches;
 mod steps;
+mod waking;
 
 pub(crate) struct Channel<M> {
     pub(crate) line: Line<M>,
     pub(crate) marks: Marks<M>,
-    pub(crate) wake: Unparker,
+    pub(crate) unparker: Unparker,
+    // Whether the receiver sleeps, or is about to.
+    pub(crate) asleep: AtomicBool,
     ghost of_queue: { marks.shared.key ≡ line },
     ghost a_place_each: { marks.shared.table_id.words ≡ place marks.shared.table_id.slots },
     ghost few: { marks.shared.table_id.slots ≤ 64 },
@@ -23,7 +27,8 @@ impl<M> Drop for Channel<M> {
         let Channel {
             line,
             marks: _,
-            wake: _,
+            unparker: _,
+            asleep: _,
         } = self;
         line.destroy();
     }

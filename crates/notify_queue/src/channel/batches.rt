@@ -1,10 +1,11 @@
 //! Messages that are taken several in one step.
-ghost use Rattle.std.specs.Prelude.{◌≡◌, ◌+◌, ◌<◌, ◌≤◌, ◌++◌, [], List, length, MatchOption, vec_capacity};
+ghost use Rattle.std.specs.Prelude.{◌≡◌, ◌+◌, ◌<◌, ◌≤◌, ◌++◌, [], List, length, IfNone, IfSome, vec_capacity};
 ghost use Rattle.std.specs.Bool.{OnTrue, OnFalse};
 ghost use Rattle.crossbeam_queue.specs.SegBatches.{Holds};
 ghost use Rattle.notify_queue.specs.declared.stamp.Stamped.{Stamped};
-ghost use Rattle.notify_queue.specs.Delivery.{Takes, Shows};
+ghost use Rattle.notify_queue.specs.Delivery.{Takes};
 ghost use Rattle.notify_queue.specs.Passes.{IsFirstPassOf, known_by};
+ghost use Rattle.notify_queue.specs.Steps.{HasFoundNothing, HasGiven};
 
 use super::Channel;
 use crate::delivery::{Batch, Pass, Take};
@@ -25,8 +26,8 @@ impl<M> Channel<M> {
         requires limit { (0 < limit) × (length got.old.items + limit ≤ vec_capacity got.old) }
         ensures pass { IsFirstPassOf self.now.line pass.new }
         ensures room { vec_capacity got.old ≤ vec_capacity got.new }
-        ensures taken { OnTrue result ((xs : List (Stamped M)) × (got.new.items ≡ got.old.items ++ xs) × (length xs ≤ limit) × Takes (known_by pass.old) xs (known_by pass.new)) }
-        ensures empty { OnFalse result ((got.new.items ≡ got.old.items) × (known_by pass.new ≡ known_by pass.old) × Shows (known_by pass.old) []) }
+        ensures taken { OnTrue result (HasGiven (known_by pass.old) (known_by pass.new) limit got.old.items got.new.items) }
+        ensures empty { OnFalse result ((got.new.items ≡ got.old.items) × HasFoundNothing (known_by pass.old) (known_by pass.new)) }
     {
         let Some(batch) = self.claim(rt, pass, limit as u64) else {
             return false;
@@ -39,7 +40,9 @@ impl<M> Channel<M> {
     fn claim<R: Wait>(&self, rt: &R, pass: &mut Pass<M>, limit: u64) -> Option<Batch<M>>
         requires { IsFirstPassOf self.now.line pass.old × (0 < limit) }
         ensures pass { IsFirstPassOf self.now.line pass.new }
-        ensures claimed { MatchOption result ((known_by pass.new ≡ known_by pass.old) × Shows (known_by pass.old) []) (λ batch. (batch.len ≤ limit) × ((xs : List (Stamped M)) × Holds self.now.line pass.new batch xs × Takes (known_by pass.old) xs (known_by pass.new))) }
+        ensures empty { IfNone result (HasFoundNothing (known_by pass.old) (known_by pass.new)) }
+        ensures few { IfSome result (λ batch. batch.len ≤ limit) }
+        ensures claimed { IfSome result (λ batch. (xs : List (Stamped M)) × Holds self.now.line pass.new batch xs × Takes (known_by pass.old) xs (known_by pass.new)) }
     {
         for _ in rt.forever() {
             let head = self.line.head(pass);
@@ -62,7 +65,8 @@ impl<M> Channel<M> {
         requires room { length got.old.items + batch.len ≤ vec_capacity got.old }
         ensures pass { IsFirstPassOf self.now.line pass.new × (known_by pass.new ≡ known_by pass.old) }
         ensures room { vec_capacity got.old ≤ vec_capacity got.new }
-        ensures moved { (xs : List (Stamped M)) → Holds self.now.line pass.old batch xs → (length xs ≡ batch.len) × (got.new.items ≡ got.old.items ++ xs) }
+        ensures count { (xs : List (Stamped M)) → Holds self.now.line pass.old batch xs → length xs ≡ batch.len }
+        ensures moved { (xs : List (Stamped M)) → Holds self.now.line pass.old batch xs → got.new.items ≡ got.old.items ++ xs }
     {
         let count = batch.len();
         for _ in 0..count {

@@ -1,5 +1,5 @@
 //! Each step that the ends of a queue make on it.
-ghost use Rattle.std.specs.Prelude.{◌≡◌, ℕ, ◌+◌, ◌-◌, ◌^◌, ◌<◌, ◌≤◌, ◌++◌, ◌∷◌, [], length, map, true, false, IfOk, MatchResult, MatchOption};
+ghost use Rattle.std.specs.Prelude.{◌≡◌, ℕ, ◌+◌, ◌-◌, ◌^◌, ◌<◌, ◌≤◌, ◌++◌, ◌∷◌, [], length, map, true, false, IfOk, IfErr, MatchOption};
 ghost use Rattle.std.specs.List.{All};
 ghost use Rattle.crossbeam_queue.specs.SegTies.{IsSegPassOf};
 ghost use Rattle.notify_queue.specs.declared.marks.Look.{Look};
@@ -7,6 +7,7 @@ ghost use Rattle.notify_queue.specs.Delivery.{sending, receiving, ending, idle, 
 ghost use Rattle.notify_queue.specs.Ends.{whole_of};
 ghost use Rattle.notify_queue.specs.Marks.{HasLooked, HasShown, HasMarked, KnowsAll, place, reading, marks_sending};
 ghost use Rattle.notify_queue.specs.Passes.{IsFirstPassOf, known_by};
+ghost use Rattle.notify_queue.specs.Steps.{HasPut, HasFoundNothing, HasFoundLive, HasFoundEnd};
 
 use super::Channel;
 use crate::delivery::{AnotherSender, End, JoinEnd, Line, Pass, Put, Take};
@@ -19,6 +20,7 @@ use crossbeam_utils::sync::Parker;
 use fan_base::{Memory, Parcel, Parcels};
 use std::alloc::{AllocError, Global};
 use std::sync::Wait;
+use std::sync::atomic::AtomicBool;
 
 /// Marks of which none is set.
 fn clear_marks<M>(
@@ -48,7 +50,8 @@ impl<M> Channel<M> {
         requires index { parcel.stamp.index ≡ length (known_by pass.old).put }
         requires room { length (known_by pass.old).put + 1 < 2 ^ 32 }
         ensures pass { IsSegPassOf self.now.line pass.new × (pass.new.id ≡ pass.old.id) }
-        ensures put { MatchResult result (λ _. known_by pass.new ≡ sending (known_by pass.old).number ((known_by pass.old).put ++ parcel.message ∷ [])) (λ back. (back ≡ parcel) × (known_by pass.new ≡ known_by pass.old)) }
+        ensures put { IfOk result (λ _. HasPut (known_by pass.old) parcel.message (known_by pass.new)) }
+        ensures refused { IfErr result (λ back. (back ≡ parcel) × (known_by pass.new ≡ known_by pass.old)) }
     {
         self.line.push_as::<Put, R>(rt, pass, parcel)
     }
@@ -63,14 +66,14 @@ impl<M> Channel<M> {
         self.marks
             .shared
             .store::<ShowPut>(seat, word_of(sender), 2 * puts);
-        self.wake.unpark();
+        self.wake();
     }
 
     /// Takes the message in front. `None` is learned at a moment at which the queue holds nothing.
     pub(crate) fn take<R: Wait>(&self, rt: &R, pass: &mut Pass<M>) -> Option<Parcel<Stamped<M>>>
         requires { IsFirstPassOf self.now.line pass.old }
         ensures pass { IsFirstPassOf self.now.line pass.new }
-        ensures taken { MatchOption result ((known_by pass.new ≡ known_by pass.old) × Shows (known_by pass.old) []) (λ x. Takes (known_by pass.old) (x ∷ []) (known_by pass.new)) }
+        ensures taken { MatchOption result (HasFoundNothing (known_by pass.old) (known_by pass.new)) (λ x. Takes (known_by pass.old) (x ∷ []) (known_by pass.new)) }
     {
         self.line.pop_as::<Take, R>(rt, pass)
     }
@@ -119,7 +122,7 @@ impl<M> Channel<M> {
         table.load::<TakeSlot>(seat, word);
         let _empty = table.exchange(seat, slot, Some(copy));
         table.store::<SetMark>(seat, word, 2 * puts + 1);
-        self.wake.unpark();
+        self.wake();
     }
 
     /// Looks at the sender's word. It gives how many puts that shows.
@@ -136,7 +139,7 @@ impl<M> Channel<M> {
         requires seat { (seat.old.table_id ≡ self.now.marks.shared.table_id) × (seat.old.id ≡ 0) × (sender < seat.old.table_id.slots) }
         requires turn { (seat.old.me.0.read ≡ sender) × (seat.old.me.0.queue ≡ self.now.line) }
         ensures seat { (seat.new.table_id ≡ seat.old.table_id) × (seat.new.id ≡ 0) }
-        ensures read { MatchOption result ((look : Look) × HasLooked sender sender look seat.old.me.0 seat.new.me.0 × (look.ended ≡ false)) (λ pass. (look : Look) × HasLooked sender (sender + 1) look seat.old.me.0 seat.new.me.0 × (look.ended ≡ true) × KnowsAll self.now.line sender pass) }
+        ensures read { MatchOption result (HasFoundLive sender seat.old.me.0 seat.new.me.0) (λ pass. HasFoundEnd self.now.line sender pass seat.old.me.0 seat.new.me.0) }
     {
         let table = &self.marks.shared;
         let slot = sender as usize;
@@ -150,7 +153,8 @@ impl<M> Channel<M> {
     /// A pass for the next sender.
     pub(crate) fn another_sender(&self, pass: &mut Pass<M>) -> Pass<M>
         requires { IsFirstPassOf self.now.line pass.old × ((known_by pass.old).made < 64) }
-        ensures pass { IsFirstPassOf self.now.line pass.new × (known_by pass.new ≡ receiving ((known_by pass.old).made + 1) (known_by pass.old).ended (known_by pass.old).taken) }
+        ensures pass { IsFirstPassOf self.now.line pass.new }
+        ensures made { known_by pass.new ≡ receiving ((known_by pass.old).made + 1) (known_by pass.old).ended (known_by pass.old).taken }
         ensures sender { IsSegPassOf self.now.line result × (known_by result ≡ sending (known_by pass.old).made []) }
     {
         self.line.another::<AnotherSender>(pass)
@@ -161,7 +165,8 @@ impl<M> Channel<M> {
         requires { (seat.old.table_id ≡ self.now.marks.shared.table_id) × (seat.old.id ≡ 0) × (0 < seat.old.table_id.slots) }
         ensures seat { (seat.new.table_id ≡ seat.old.table_id) × (seat.new.id ≡ 0) }
         ensures made { seat.new.me.0 ≡ reading seat.old.me.0.queue (seat.old.me.0.made + 1) seat.old.me.0.read seat.old.me.0.looks }
-        ensures sender { (result.table_id ≡ seat.old.table_id) × (result.me ≡ (marks_sending seat.old.me.0.queue seat.old.me.0.made 0 seat.old.me.0.looks, [])) }
+        ensures table { result.table_id ≡ seat.old.table_id }
+        ensures sender { result.me ≡ (marks_sending seat.old.me.0.queue seat.old.me.0.made 0 seat.old.me.0.looks, []) }
     {
         self.marks.shared.split_seat::<AnotherMark>(seat)
     }
@@ -176,10 +181,18 @@ impl<M> Channel<M> {
         ensures seat { IfOk result (λ r. (r.2.table_id ≡ r.0.marks.shared.table_id) × (r.2.table_id.slots ≡ senders) × (r.2.id ≡ 0) × (r.2.me.0 ≡ reading r.0.line 0 0 [])) }
     {
         let parker = Parker::new(alloc)?;
-        let wake = parker.unparker().clone()?;
+        let unparker = parker.unparker().clone()?;
         let (line, pass) = Line::with_rule(alloc)?;
         match clear_marks(alloc, senders, &line) {
-            Ok((marks, seat)) => Ok((Channel { line, marks, wake }, pass, seat, parker)),
+            Ok((marks, seat)) => {
+                let channel = Channel {
+                    line,
+                    marks,
+                    unparker,
+                    asleep: AtomicBool::new(false),
+                };
+                Ok((channel, pass, seat, parker))
+            }
             Err(_) => {
                 line.destroy();
                 Err(Memory)

@@ -7,7 +7,7 @@ ghost use Rattle.notify_queue.specs.Delivery.{receiving};
 ghost use Rattle.notify_queue.specs.Ends.{AreAllEnds, AreAllUnused, FoundEmpty, FoundEnded, FoundLive, HasEnded, IsDry, new_receiver};
 ghost use Rattle.notify_queue.specs.Marks.{reading};
 ghost use Rattle.notify_queue.specs.Passes.{IsFirstPassOf, known_by};
-ghost use Rattle.notify_queue.specs.Stamps.{messages_of, IsInOrder};
+ghost use Rattle.notify_queue.specs.Stamps.{messages_of, total_weight, IsInOrder};
 
 use super::Receiver;
 use crate::channel::Channel;
@@ -77,12 +77,13 @@ impl<M> Receiver<M> {
         unreachable!()
     }
 
-    /// Sleeps until a message is put or a sender ends, and not if that happened since the last sleep. It may also return
-    /// for no reason.
+    /// Sleeps until a message is put or a sender ends, and not at all where a sender's word shows a message that waits, or the
+    /// next mark is set. It may also return for no reason.
     pub fn sleep<R: Wait>(&mut self, rt: &R)
         ensures { self.new ≡ self.old }
     {
-        self.parker.park(rt);
+        self.channel
+            .sleep(rt, &self.parker, self.counts.as_slice(), self.found);
     }
 
     /// Whether every sender has ended. It looks at their marks in turn, and stops at the first that is not set.
@@ -115,7 +116,7 @@ impl<M> Receiver<M> {
         ensures order { result.rest.popped ≡ self.taken ++ result.rest.left }
         ensures from_senders { All (λ x. x.stamp.sender < self.senders) (self.taken ++ result.rest.left) }
         ensures each { (test : M → Bool) → All (λ e. All (λ m. IsTrue (test m)) e.sent) ends.items → All (λ x. IsTrue (test x.message)) (self.taken ++ result.rest.left) }
-        ensures account { (weight : M → ℕ) → sum_by (λ x. weight x.message) self.taken + sum_by (λ x. weight x.message) result.rest.left ≡ sum_by (λ e. sum_by weight e.sent) ends.items }
+        ensures account { (weight : M → ℕ) → total_weight weight self.taken + total_weight weight result.rest.left ≡ sum_by (λ e. sum_by weight e.sent) ends.items }
         ensures dry { IsDry self → result.rest.left ≡ [] }
     {
         let Receiver {

@@ -5,6 +5,7 @@ ghost use mathlib.Core.List.{IsPrefix};
 ghost use Rattle.notify_queue.specs.declared.stamp.Stamped.{Stamped};
 ghost use Rattle.notify_queue.specs.Ends.{FoundNoMore, HasTaken, IsDrained};
 ghost use Rattle.notify_queue.specs.Stamps.{IsInOrder};
+ghost use Rattle.notify_queue.specs.Steps.{HasGivenUpTo};
 
 use super::Receiver;
 use super::counts::{count_all, count_one};
@@ -33,7 +34,7 @@ impl<M> Receiver<M> {
     ) -> bool
         requires { (0 < limit) × (length got.old.items + limit ≤ vec_capacity got.old) }
         ensures room { vec_capacity got.old ≤ vec_capacity got.new }
-        ensures taken { OnTrue result ((xs : List (Stamped M)) × (got.new.items ≡ got.old.items ++ xs) × (length xs ≤ limit) × HasTaken self.old xs self.new) }
+        ensures taken { OnTrue result (HasGivenUpTo limit self.old self.new got.old.items got.new.items) }
         ensures empty { OnFalse result ((got.new.items ≡ got.old.items) × (self.new ≡ self.old) × IsDrained self.new) }
     {
         let before = got.len();

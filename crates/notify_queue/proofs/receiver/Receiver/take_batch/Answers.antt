@@ -10,7 +10,7 @@ use Rattle.notify_queue.proofs.receiver.Receiver.take_batch.Goals as goal
 pub invariant_of-self : goal.invariant_of-self
 invariant_of-self g c =
     let empty = c.if-not-take_batch.ensures in
-    same_keeps c.self.inside c.take_batch.new.pass c.self.invariant (rw c.deref.ensures at empty.pass) empty.empty.1
+    same_keeps c.self.inside c.take_batch.new.pass c.self.invariant (rw c.deref.ensures at empty.pass) empty.empty.1.0
 
 pub count_all-requires-clause-senders : goal.count_all-requires-clause-senders
 count_all-requires-clause-senders g c =
