@@ -1,0 +1,77 @@
+//! What a callback can be given to.
+ghost use Rattle.std.specs.Prelude.{Bool, true, false, List, Option};
+ghost use Rattle.fan_base.specs.declared.outcome.Try.{Try};
+ghost use Rattle.core_word.specs.Count.{raised};
+ghost use Rattle.core_word.specs.declared.producer.Landed.{Landed};
+ghost use Rattle.core_proxy.specs.Walk.{Stop, Given, GivenUp, WentOn};
+
+use core_word::{Forward, Landed, Met, Tally};
+use fan_base::Try;
+
+/// What takes a callback for a result of type `T`, at once or through proxies.
+pub trait Taker<T, C> {
+    // The walk of a callback: the taker, the callback, whether it may run inline, the cores on the way, the answer.
+    ghost gives: { Self → C → Bool → List Stop → Landed T C → Type 0 };
+
+    // The walk of giving up: the taker, the cores on the way, the result that was left over.
+    ghost gives_up: { Self → List Stop → Option (Try T) → Type 0 };
+
+    /// Gives the callback, without the allowance to run inline, and passes it on through each proxy that it meets. It leaves
+    /// each core on the way, and frees those that it leaves last. `Landed::Fire` is of the first core at which a result was
+    /// found, and `Landed::Waiting` says that the callback waits at the first core where neither result nor proxy was.
+    fn give(self, callback: C, t: &mut Tally) -> Landed<T, C>
+        ensures { Given gives self callback false result t.old t.new };
+
+    /// The same with the allowance to run inline, at each core.
+    fn give_inline(self, callback: C, t: &mut Tally) -> Landed<T, C>
+        ensures { Given gives self callback true result t.old t.new };
+
+    /// Says that no callback will come, to each core in its turn: a proxy that is left over is given up too. A result that
+    /// is left over is handed out.
+    fn give_up(self, t: &mut Tally) -> Option<Try<T>>
+        ensures { GivenUp gives_up self result t.old t.new };
+}
+
+/// The proxy of a core that never has one: there is no value of this type.
+pub enum NoProxy {}
+
+impl<T, C> Taker<T, C> for NoProxy {
+    ghost gives = { λ _ _ _ _ _. ⊥ };
+
+    ghost gives_up = { λ _ _ _. ⊥ };
+
+    fn give(self, _callback: C, _t: &mut Tally) -> Landed<T, C> {
+        match self {}
+    }
+
+    fn give_inline(self, _callback: C, _t: &mut Tally) -> Landed<T, C> {
+        match self {}
+    }
+
+    fn give_up(self, _t: &mut Tally) -> Option<Try<T>> {
+        match self {}
+    }
+}
+
+/// Passes a forwarded callback on to its proxy, with the allowance to run inline exactly where it was set so.
+pub fn pass_on<T, C, P: Taker<T, C>>(forward: Forward<C, P>, t: &mut Tally) -> Landed<T, C>
+    ensures { Given P.gives forward.proxy forward.callback forward.inline result (record t.old { forwarded = raised t.old.forwarded }) t.new }
+{
+    let inline = forward.allows();
+    let (callback, proxy) = forward.unpack(t);
+    if inline {
+        return proxy.give_inline(callback, t);
+    }
+    proxy.give(callback, t)
+}
+
+/// What a callback comes to that its core has met in this way: it waits there, it fires, or it is passed on to a proxy.
+pub fn go_on<T, C, P: Taker<T, C>>(met: Met<T, C, P>, t: &mut Tally) -> Landed<T, C>
+    ensures { WentOn P.gives met result t.old t.new }
+{
+    match met {
+        Met::Waiting => Landed::Waiting,
+        Met::Fire(fire) => Landed::Fire(fire),
+        Met::Forward(forward) => pass_on(forward, t),
+    }
+}
