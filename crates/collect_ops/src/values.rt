@@ -1,5 +1,5 @@
 //! The desk of values: collect.
-ghost use Rattle.std.specs.Prelude.{◌≡◌, ◌↔◌, [], ◌∷◌, IfSome, IsNone};
+ghost use Rattle.std.specs.Prelude.{◌≡◌, ◌↔◌, [], ◌∷◌, MatchOption, IsNone};
 ghost use Rattle.collect_ops.specs.Answers.{MatchArrived, CompletesValues, IsBack, KeepsValue, values_answer, answer_of, found_of};
 
 use crate::answer::{AllValues, Arrived, Reason};
@@ -47,7 +47,7 @@ impl<'d, T, E> Arrival<'d, ValuesDesk<T, E>> {
 impl<T, E> Kept<ValuesDesk<T, E>> {
     /// The next value that was kept and never handed out, the lowest index first. None exactly where none is left.
     pub fn next(&mut self) -> Option<Try<T>>
-        ensures rest { IfSome result (λ outcome. (value : T) × (outcome ≡ Try.Value value) × (self.old.outcomes ≡ value ∷ self.new.outcomes)) }
+        ensures rest { MatchOption result (self.new.outcomes ≡ []) (λ outcome. (value : T) × (outcome ≡ Try.Value value) × (self.old.outcomes ≡ value ∷ self.new.outcomes)) }
         ensures none { IsNone result ↔ (self.old.outcomes ≡ []) }
         ensures end { self.new.end ≡ self.old.end }
     {
