@@ -26,6 +26,12 @@ module _ {T P : Type 0} (gives_up : P → List Stop → Option (Try T) → Type 
   Settles (left.First receipt) stops result = (stops ≡ []) × (result ≡ None)
   Settles (left.Last leftover husk) stops result = GivesOut leftover stops result
 
+-- what giving out a leftover did: the cores beyond the one that was left, what came out, and what the tally was and is
+pub record GivenOut {T P : Type 0} (gives_up : P → List Stop → Option (Try T) → Type 0) (left_over : Leftover T P) (result : Option (Try T)) (old new : Counts) : Type 0 where
+  pub stops : List Stop
+  pub walk : GivesOut gives_up left_over stops result
+  pub tally : new ≡ after_giving_up stops old
+
 -- What settling did: the cores beyond the one that was left, what came out, and what the tally was and is. The core that was left is freed where that leave was the last one.
 pub record Settled {T C P : Type 0} (gives_up : P → List Stop → Option (Try T) → Type 0) (leave : Left T C P) (result : Option (Try T)) (old new : Counts) : Type 0 where
   pub stops : List Stop

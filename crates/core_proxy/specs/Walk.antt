@@ -7,6 +7,8 @@ use Rattle.core_word.specs.Count.{Counts, raised}
 use Rattle.core_word.specs.Seen.{SeenConsumer}
 use Rattle.core_word.specs.declared.producer.Landed.{Landed}
 use Rattle.core_word.specs.declared.producer.Landed.TheVariants as landed
+use Rattle.core_word.specs.declared.producer.Passed.{Passed}
+use Rattle.core_word.specs.declared.producer.Passed.TheVariants as passed
 use Rattle.core_word.specs.declared.consumer.Met.{Met}
 use Rattle.core_word.specs.declared.consumer.Met.TheVariants as met
 
@@ -40,6 +42,13 @@ after_giving (stop ∷ rest) counts = after_giving rest (forwarded_at stop.found
 abbrev pub after_giving_up : List Stop → Counts → Counts
 after_giving_up [] counts = counts
 after_giving_up (stop ∷ rest) counts = after_giving_up rest (freed_at stop.last counts)
+
+-- a proxy of which there is no value is never gone to
+abbrev pub NeverGives : {P T C : Type 0} → P → C → Bool → List Stop → Landed T C → Type 0
+NeverGives proxy callback inline stops answer = ⊥
+
+abbrev pub NeverGivesUp : {P T : Type 0} → P → List Stop → Option (Try T) → Type 0
+NeverGivesUp proxy stops result = ⊥
 
 module _ {T C P : Type 0} (gives : P → C → Bool → List Stop → Landed T C → Type 0) where
   -- What a callback comes to at a core with this number, by the state found. It waits at Start, and fires with this core's result at OnlyResult. There the walk ends. At Proxy it goes on with the proxy.
@@ -97,3 +106,8 @@ abbrev pub WentOn : {T C P : Type 0} → (P → C → Bool → List Stop → Lan
 WentOn gives met.Waiting answer old new = (answer ≡ landed.Waiting) × (new ≡ old)
 WentOn gives (met.Fire fire) answer old new = (answer ≡ landed.Fire fire) × (new ≡ old)
 WentOn gives (met.Forward forward) answer old new = Given gives forward.proxy forward.callback forward.inline answer (record old { forwarded = raised old.forwarded }) new
+
+-- A callback that was there goes to the proxy that was named, in the form in which it was set. Where none was there nothing is counted.
+abbrev pub WentToProxy : {T C P : Type 0} → (P → C → Bool → List Stop → Landed T C → Type 0) → Passed C P → Landed T C → Counts → Counts → Type 0
+WentToProxy gives passed.Waiting answer old new = (answer ≡ landed.Waiting) × (new ≡ old)
+WentToProxy gives (passed.Forward forward) answer old new = Given gives forward.proxy forward.callback forward.inline answer (record old { forwarded = raised old.forwarded }) new

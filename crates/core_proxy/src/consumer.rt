@@ -4,14 +4,15 @@ ghost use Rattle.fan_base.specs.declared.outcome.Try.{Try};
 ghost use Rattle.core_word.specs.Words.{Request};
 ghost use Rattle.core_word.specs.Words.demanded;
 ghost use Rattle.core_word.specs.declared.producer.Landed.{Landed};
-ghost use Rattle.core_proxy.specs.Walk.{Gives, GivesUp, Given, GivenUp, freed_at};
+ghost use Rattle.core_proxy.specs.Walk.{Gives, GivesUp, Given, GivenUp, WentOn, WentToProxy, freed_at};
+ghost use Rattle.core_proxy.specs.Settling.{GivenOut};
 
-use crate::settling::settle;
-use crate::taker::{Taker, go_on};
-use core_word::{Consumer, Landed, Left, LeftC, Leftover, Tally};
+use crate::proxy::{Proxy, settle};
+use crate::taker::{Taker, pass_on};
+use core_word::{Consumer, Landed, Left, LeftC, Leftover, Met, Passed, Tally};
 use fan_base::Try;
 
-impl<'h, T, C, P: Taker<T, C>> Taker<T, C> for Consumer<'h, T, C, P> {
+impl<'h, T, C, P: Proxy<T, C>> Taker<T, C> for Consumer<'h, T, C, P> {
     ghost gives = { Gives P.gives };
 
     ghost gives_up = { GivesUp P.gives_up };
@@ -19,17 +20,52 @@ impl<'h, T, C, P: Taker<T, C>> Taker<T, C> for Consumer<'h, T, C, P> {
     fn give(self, callback: C, t: &mut Tally) -> Landed<T, C> {
         let (met, left) = self.set_callback(callback);
         leave(left, t);
-        go_on(met, t)
+        P::after_meeting(met, t)
     }
 
     fn give_inline(self, callback: C, t: &mut Tally) -> Landed<T, C> {
         let (met, left) = self.set_callback_inline(callback);
         leave(left, t);
-        go_on(met, t)
+        P::after_meeting(met, t)
     }
 
     fn give_up(self, t: &mut Tally) -> Option<Try<T>> {
         settle(Consumer::give_up(self).leave(), t)
+    }
+}
+
+impl<'h, T, C, P: Proxy<T, C>> Proxy<T, C> for Consumer<'h, T, C, P> {
+    ghost gives = { Gives P.gives };
+
+    ghost gives_up = { GivesUp P.gives_up };
+
+    fn after_meeting(met: Met<T, C, Consumer<'h, T, C, P>>, t: &mut Tally) -> Landed<T, C>
+        ensures { WentOn (Gives P.gives) met.entry result t.old t.new }
+    {
+        match met {
+            Met::Waiting => Landed::Waiting,
+            Met::Fire(fire) => Landed::Fire(fire),
+            Met::Forward(forward) => pass_on(forward, t),
+        }
+    }
+
+    fn after_passing(passed: Passed<C, Consumer<'h, T, C, P>>, t: &mut Tally) -> Landed<T, C>
+        ensures { WentToProxy (Gives P.gives) passed.entry result t.old t.new }
+    {
+        match passed {
+            Passed::Waiting => Landed::Waiting,
+            Passed::Forward(forward) => pass_on(forward, t),
+        }
+    }
+
+    fn after_leaving(leftover: Leftover<T, Consumer<'h, T, C, P>>, t: &mut Tally) -> Option<Try<T>>
+        ensures { GivenOut (GivesUp P.gives_up) leftover.entry result t.old t.new }
+    {
+        match leftover {
+            Leftover::Nothing => None,
+            Leftover::Outcome(outcome) => Some(outcome),
+            Leftover::Proxy(proxy) => Taker::give_up(proxy, t),
+        }
     }
 }
 

@@ -13,16 +13,14 @@
 //!      where that leave was the last
 //! ```
 //!
-//! [`Taker`] is what a callback can be given to: a [`Consumer`](core_word::Consumer) whose proxies are takers, or [`NoProxy`],
-//! of which there is no value. [`settle`] does with the answer of a leave what is left to do: it ends the husk, gives a
-//! left-over proxy up in the same way, and hands a left-over result out.
+//! [`Taker`] is what a callback can be given to: a [`Consumer`](core_word::Consumer). [`Proxy`] is what a core can have as a
+//! proxy: a consumer, or [`NoProxy`], of which there is no value. [`settle`] does with the answer of a leave what is left to
+//! do: it ends the husk, gives a left-over proxy up in the same way, and hands a left-over result out.
 #![tactic(auto)]
 
 mod consumer;
-mod settling;
+mod proxy;
 mod taker;
-#[cfg(test)]
-mod tests;
 
-pub use settling::settle;
-pub use taker::{NoProxy, Taker, go_on, pass_on};
+pub use proxy::{NoProxy, Proxy, settle};
+pub use taker::{Taker, pass_on};

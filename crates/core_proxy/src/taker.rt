@@ -3,9 +3,9 @@ ghost use Rattle.std.specs.Prelude.{Bool, true, false, List, Option};
 ghost use Rattle.fan_base.specs.declared.outcome.Try.{Try};
 ghost use Rattle.core_word.specs.Count.{raised};
 ghost use Rattle.core_word.specs.declared.producer.Landed.{Landed};
-ghost use Rattle.core_proxy.specs.Walk.{Stop, Given, GivenUp, WentOn};
+ghost use Rattle.core_proxy.specs.Walk.{Stop, Given, GivenUp};
 
-use core_word::{Forward, Landed, Met, Tally};
+use core_word::{Forward, Landed, Tally};
 use fan_base::Try;
 
 /// What takes a callback for a result of type `T`, at once or through proxies.
@@ -32,27 +32,6 @@ pub trait Taker<T, C> {
         ensures { GivenUp gives_up self result t.old t.new };
 }
 
-/// The proxy of a core that never has one: there is no value of this type.
-pub enum NoProxy {}
-
-impl<T, C> Taker<T, C> for NoProxy {
-    ghost gives = { λ _ _ _ _ _. ⊥ };
-
-    ghost gives_up = { λ _ _ _. ⊥ };
-
-    fn give(self, _callback: C, _t: &mut Tally) -> Landed<T, C> {
-        match self {}
-    }
-
-    fn give_inline(self, _callback: C, _t: &mut Tally) -> Landed<T, C> {
-        match self {}
-    }
-
-    fn give_up(self, _t: &mut Tally) -> Option<Try<T>> {
-        match self {}
-    }
-}
-
 /// Passes a forwarded callback on to its proxy, with the allowance to run inline exactly where it was set so.
 pub fn pass_on<T, C, P: Taker<T, C>>(forward: Forward<C, P>, t: &mut Tally) -> Landed<T, C>
     ensures { Given P.gives forward.proxy forward.callback forward.inline result (record t.old { forwarded = raised t.old.forwarded }) t.new }
@@ -63,15 +42,4 @@ pub fn pass_on<T, C, P: Taker<T, C>>(forward: Forward<C, P>, t: &mut Tally) -> L
         return proxy.give_inline(callback, t);
     }
     proxy.give(callback, t)
-}
-
-/// What a callback comes to that its core has met in this way: it waits there, it fires, or it is passed on to a proxy.
-pub fn go_on<T, C, P: Taker<T, C>>(met: Met<T, C, P>, t: &mut Tally) -> Landed<T, C>
-    ensures { WentOn P.gives met result t.old t.new }
-{
-    match met {
-        Met::Waiting => Landed::Waiting,
-        Met::Fire(fire) => Landed::Fire(fire),
-        Met::Forward(forward) => pass_on(forward, t),
-    }
 }
