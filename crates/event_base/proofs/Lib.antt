@@ -9,3 +9,4 @@ mod Leading
 mod Executors
 mod SameBase
 mod Emptied
+mod Looked

@@ -20,6 +20,7 @@ module _ {J : Type 0} where
     pub number : new.number ≡ old.number
     pub same : (new.queue.queue ≡ old.queue.queue) × (new.queue.senders ≡ old.queue.senders) × (new.queue.taken ≡ old.queue.taken)
     pub more : IsPrefix old.queue.ended new.queue.ended
+    pub looks : IsPrefix old.queue.looks new.queue.looks
 
   -- no callback is held
   abbrev pub HoldsNoCallback : AgendaSeen J → Type 0

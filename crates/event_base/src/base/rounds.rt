@@ -1,7 +1,7 @@
 ghost use Rattle.std.specs.Prelude.{◌≡◌, ◌+◌, ◌≤◌, ◌^◌, ◌⊎◌, IfOk, IfErr};
 ghost use Rattle.event_base.specs.Rounds.{Phases, IsWholeRound, IsCutRound, HasNotBegun};
 ghost use Rattle.std.specs.Bool.{OnTrue};
-ghost use Rattle.notify_queue.specs.Ends.{IsDry};
+ghost use Rattle.notify_queue.specs.Ends.{HasEnded, IsDry};
 ghost use Rattle.event_base.specs.Seen.{BaseSeen};
 ghost use Rattle.event_base.specs.Looping.{IsLoop, IsCutLoop, IsRoundBehindLook, Looks};
 
@@ -120,13 +120,21 @@ impl<J> EventBase<J> {
     {
         // No tick is made, so the ticks stay within their bound.
         let _made = self.agenda.now();
-        let ended = self.queue.ended();
+        let ended = self.look();
         let round = match self.loop_once(rt, 0, world) {
             Ok(round) => round,
             Err(fault) => return Err(fault),
         };
         let fewer = round.messages < MESSAGE_LIMIT as u64;
         Ok((ended && fewer, !ended && fewer))
+    }
+
+    // Looks whether every poster has ended.
+    fn look(&mut self) -> bool
+        ensures looks { Looks self.old self.new }
+        ensures ended { OnTrue result (HasEnded self.new.queue) }
+    {
+        self.queue.ended()
     }
 
     // Sleeps until something is posted or a poster ends, where that is wanted.
