@@ -1,3 +1,4 @@
 mod Blocks
 pub mod Crossing
 mod Pairs
+pub mod Words

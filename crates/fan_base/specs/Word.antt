@@ -1,7 +1,7 @@
-use Rattle.std.specs.Prelude.{ℕ, ◌≡◌, ◌-◌, ◌≤◌, List, ◌++◌, length, take, replicate, Bool, ◌&&◌, ◌||◌, nat_le, IsTrue, refl}
+use Rattle.std.specs.Prelude.{ℕ, ◌≡◌, ◌-◌, List, ◌++◌, length, take_while, replicate, Bool, not, ◌==◌, ◌&&◌, ◌||◌, nat_le, IsTrue}
+use Rattle.std.proofs.Common.{ap, sym}
 use Rattle.std.specs.Char.{is_ascii_digit, is_ascii_lowercase}
 use Rattle.std.specs.List.{list_all}
-use Rattle.std.proofs.lemmas.List.{length-take-le}
 use Rattle.fan_base.specs.declared.word.Word.TheInside.{Inside}
 
 -- a letter from a to z, or a digit
@@ -15,22 +15,26 @@ is_word bytes = nat_le 1 (length bytes) && (nat_le (length bytes) 32 && list_all
 abbrev pub IsWord : List ℕ → Type 0
 IsWord bytes = IsTrue (is_word bytes)
 
--- the word that lies in the front of the array
+-- whether a byte is part of a word, and not of the zeros behind it
+abbrev pub is_filled : ℕ → Bool
+is_filled c = not (c == 0)
+
+-- 32 bytes: these, and zeros behind them
+abbrev pub padded : List ℕ → List ℕ
+padded bytes = bytes ++ replicate (32 - length bytes) 0
+
+-- the word that lies in the front of the array, up to the first zero
 abbrev pub bytes_of : Inside → List ℕ
-bytes_of a = take a.len a.bytes
+bytes_of a = take_while is_filled a.bytes
 
 -- a word lies in the front of the array, and zeros behind it
 pub record IsKept (a : Inside) : Type 0 where
-  pub room : length a.bytes ≡ 32
-  pub len : a.len ≤ 32
   pub word : IsWord (bytes_of a)
-  pub zeros : a.bytes ≡ bytes_of a ++ replicate (32 - a.len) 0
+  pub zeros : a.bytes ≡ padded (bytes_of a)
 
 -- the array that keeps a word
 abbrev pub kept : List ℕ → Inside
-kept bytes = record { bytes = bytes ++ replicate (32 - length bytes) 0; len = length bytes }
+kept bytes = record { bytes = padded bytes }
 
 pub kept-bytes_of : (a : Inside) → IsKept a → kept (bytes_of a) ≡ a
-kept-bytes_of a h =
-    let fits : a.len ≤ length a.bytes = rw h.room h.len in
-    rw (length-take-le a.len a.bytes fits, ← h.zeros) refl
+kept-bytes_of a h = ap (λ bytes. record { bytes = bytes }) (sym h.zeros)

@@ -1,4 +1,4 @@
-ghost use Rattle.std.specs.Prelude.{◌≡◌, ◌<◌, ◌≤◌, ◌↔◌, ℕ, List, Option, Some, IsErr, IfOk, OnErr, ◌+◌, ◌++◌, length, vec_capacity, vec_len};
+ghost use Rattle.std.specs.Prelude.{◌≡◌, ◌<◌, ◌≤◌, ◌↔◌, ℕ, List, Option, Some, None, Ok, IsErr, IfOk, OnErr, ◌+◌, ◌++◌, length, min, vec_capacity, vec_len};
 ghost use Rattle.fan_base.specs.Outside.{last_count, raised, shown, Writes};
 ghost use Rattle.fan_base.specs.Store.{after_write, empty_store, FailsNext, write_size};
 
@@ -119,6 +119,52 @@ fn append(kept: &mut Vec<u8>, bytes: &[u8])
     match kept.extend_from_slice(bytes) {
         Ok(()) => {}
         Err(_) => unreachable!(),
+    }
+}
+
+/// A sink that takes all, and tells only how many bytes that was. Contracts see it as that number.
+#[derive(Debug, Drop)]
+pub struct NullSink {
+    taken: u64,
+}
+
+impl Model for NullSink {
+    ghost use Rattle.std.specs.Prelude.{ℕ};
+
+    ghost Value = { ℕ };
+
+    ghost view = { λ s. s.taken };
+}
+
+impl NullSink {
+    /// A sink that has taken nothing yet.
+    pub fn new() -> NullSink
+        ensures { result ≡ 0 }
+    {
+        NullSink { taken: 0 }
+    }
+
+    /// How many bytes it has taken. The number stays at the last of its type.
+    pub fn taken(&self) -> u64
+        ensures { result ≡ self.now }
+    {
+        self.taken
+    }
+}
+
+impl Sink for NullSink {
+    ghost holds = { λ _. None };
+
+    ghost faults = { λ _. 0 };
+
+    fn write(&mut self, bytes: &[u8]) -> Result<usize, Failed>
+        requires { 0 < length bytes.now }
+        ensures writes { Writes (shown None 0) (shown None 0) result bytes.now }
+        ensures all { result ≡ Ok (length bytes.now) }
+        ensures taken { self.new ≡ min (self.old + length bytes.now) last_count }
+    {
+        self.taken = self.taken.saturating_add(bytes.len() as u64);
+        Ok(bytes.len())
     }
 }
 

@@ -1,7 +1,9 @@
 use super::*;
 use std::alloc::{AllocError, Global};
+use std::collections::HashMap;
 use std::io::Cursor;
 use std::test::Fail;
+use std::thread::join;
 
 fn bytes_of(alloc: Global, text: &str) -> Result<Vec<u8>, AllocError> {
     text.as_bytes().to_vec(alloc)
@@ -38,6 +40,26 @@ fn words_of_letters_and_digits(rt: HostRuntime) {
             }
         }
     }
+}
+
+#[test]
+fn words_compare_as_their_bytes(rt: HostRuntime) -> Result<(), Fail> {
+    let mut places = HashMap::new(rt.alloc());
+    let words = [
+        Word::new(b"0")?,
+        Word::new(b"a")?,
+        Word::new(b"a0")?,
+        Word::new(b"ab")?,
+        Word::new(b"b")?,
+    ];
+    for (place, word) in words.iter().enumerate() {
+        places.insert(*word, place)?;
+    }
+    assert!(rt; words.is_sorted());
+    assert_eq!(rt; places.len(), 5);
+    assert_eq!(rt; places.get(&Word::new(b"ab")?).copied(), Some(3));
+    assert_eq!(rt; &Word::new(b"a0")?.as_array()[..4], b"a0\0\0".as_slice());
+    Ok(())
 }
 
 #[test]
@@ -95,4 +117,65 @@ fn std_writer_is_a_sink(rt: HostRuntime) {
     let mut sink = StdSink::new(room.as_mut_slice());
     assert_eq!(rt; sink.write(b"abc"), Ok(2));
     assert_eq!(rt; sink.write(b"c"), Err(Failed));
+}
+
+#[test]
+fn a_sink_that_takes_all_counts(rt: HostRuntime) {
+    let mut sink = NullSink::new();
+    assert_eq!(rt; sink.write(b"abc"), Ok(3));
+    assert_eq!(rt; sink.write(b"d"), Ok(1));
+    assert_eq!(rt; sink.taken(), 4);
+}
+
+#[test]
+fn jobs_one_after_the_other_do_not_meet(rt: HostRuntime) -> Result<(), Fail> {
+    let holding = HoldGate::new(JobId(1), JobId(2), 3);
+    let waiting = LineGate::new(JobId(1), JobId(2), 3);
+    for job in [JobId(1), JobId(2)] {
+        holding.before(job);
+        holding.after(job);
+        waiting.before(job);
+        waiting.after(job);
+    }
+    assert!(rt; !holding.met());
+    assert!(rt; !waiting.met());
+    Ok(())
+}
+
+#[test]
+fn jobs_at_the_same_time_meet(rt: HostRuntime) {
+    let gate = HoldGate::new(JobId(1), JobId(2), 1_000_000_000);
+    join(&rt, || gate.before(JobId(1)), || gate.before(JobId(2)));
+    assert!(rt; gate.met());
+}
+
+fn line_sink<'g>(alloc: Global, gate: &'g LineGate) -> Result<LineSink<'g>, Memory> {
+    let sink = MemSink::new(alloc, 8, 8, Vec::new(alloc))?;
+    Ok(LineSink::new(gate, sink))
+}
+
+#[test]
+fn a_line_between_two_jobs_is_seen(rt: HostRuntime) -> Result<(), Fail> {
+    let gate = LineGate::new(JobId(1), JobId(2), 3000);
+    let mut sink = line_sink(rt.alloc(), &gate).ok().ok_or("memory")?;
+    gate.before(JobId(1));
+    assert_eq!(rt; sink.write(b"a"), Ok(1));
+    gate.before(JobId(2));
+    assert!(rt; !gate.met());
+    assert_eq!(rt; sink.write(b"b\n"), Ok(2));
+    gate.before(JobId(2));
+    assert!(rt; gate.met());
+    assert_eq!(rt; sink.into_inner().bytes(), b"ab\n".as_slice());
+    Ok(())
+}
+
+#[test]
+fn a_byte_before_the_early_job_is_seen(rt: HostRuntime) -> Result<(), Fail> {
+    let gate = LineGate::new(JobId(1), JobId(2), 3000);
+    let mut sink = line_sink(rt.alloc(), &gate).ok().ok_or("memory")?;
+    assert_eq!(rt; sink.write(b"a\n"), Ok(2));
+    gate.before(JobId(1));
+    gate.before(JobId(2));
+    assert!(rt; !gate.met());
+    Ok(())
 }

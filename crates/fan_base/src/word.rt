@@ -1,23 +1,24 @@
-ghost use Rattle.std.specs.Prelude.{◌≡◌, ◌≢◌, ◌==◌, ◌↔◌, ◌≤◌, ◌-◌, ◌++◌, ℕ, List, length, replicate, IsTrue, Err, IfOk};
+ghost use Rattle.std.specs.Prelude.{◌≡◌, ◌≢◌, ◌==◌, ◌↔◌, ◌≤◌, ◌∷◌, [], ℕ, List, length, IsTrue, Err, IfOk};
 ghost use Rattle.std.proofs.Common.{rules};
 ghost use Rattle.std.specs.Cmp.{partial_order_from_own_ties};
 ghost use Rattle.std.specs.Cmp.Lexicographic.{pointwise, slice_cmp};
-ghost use Rattle.std.specs.Cmp.Rules.{comparing};
-ghost use Rattle.std.specs.List.{list_all};
+ghost use Rattle.std.specs.Cmp.Rules.{comparing, hashing};
+ghost use Rattle.std.specs.List.{list_all, prefix_len};
 ghost use Rattle.std.specs.Ordering.{as_partial_cmp, nat_cmp};
-ghost use Rattle.fan_base.specs.Word.{IsWord, is_word, is_word_byte};
+ghost use Rattle.fan_base.specs.Word.{IsWord, is_filled, is_word, is_word_byte, padded};
 
 use std::cmp::Ordering;
+use std::hash::{Hash, Hasher};
 use std::marker::Model;
 
 /// How many bytes a word has at most.
 const LONGEST: usize = 32;
 
-/// A word of a text: 1 to 32 bytes out of `a` to `z` and `0` to `9`. It is kept in place and takes no memory of its own.
+/// A word of a text: 1 to 32 bytes out of `a` to `z` and `0` to `9`. It is kept in place, in 32 bytes with zeros behind the
+/// word, and takes no memory of its own.
 #[derive(Clone, Copy, Debug)]
 pub struct Word {
     bytes: [u8; 32],
-    len: usize,
 }
 
 impl Model for Word {
@@ -57,7 +58,6 @@ impl Word {
         }
         Ok(Word {
             bytes: padded(bytes),
-            len: bytes.len(),
         })
     }
 
@@ -66,8 +66,22 @@ impl Word {
         ensures bytes { result.now ≡ self.now }
         ensures word { IsWord self.now }
     {
-        &self.bytes[..self.len]
+        &self.bytes[..filled(&self.bytes)]
     }
+
+    /// Its bytes, and zeros behind them: so words can be told apart, and read as numbers, with no look at their lengths.
+    pub fn as_array(&self) -> &[u8; 32]
+        ensures { result.now ≡ padded self.now }
+    {
+        &self.bytes
+    }
+}
+
+/// How many bytes stand before the first zero.
+fn filled(bytes: &[u8]) -> usize
+    ensures { result ≡ prefix_len is_filled bytes.now }
+{
+    bytes.iter().take_while(|&&byte| byte != 0).count()
 }
 
 fn is_word(bytes: &[u8]) -> bool
@@ -91,7 +105,7 @@ fn is_word_byte(byte: u8) -> bool
 /// The bytes in the front of an array, and zeros behind them.
 fn padded(bytes: &[u8]) -> [u8; 32]
     requires { length bytes.now ≤ LONGEST }
-    ensures { result ≡ bytes.now ++ replicate (32 - length bytes.now) 0 }
+    ensures { result ≡ padded bytes.now }
 {
     let mut array = [0; LONGEST];
     array[..bytes.len()].copy_from_slice(bytes);
@@ -104,12 +118,22 @@ impl PartialEq for Word {
     ghost laws = { Prim.search (comparing, rules) };
 
     fn eq(&self, other: &Word) -> bool {
-        self.as_bytes() == other.as_bytes()
+        self.bytes == other.bytes
     }
 }
 
 impl Eq for Word {
     ghost laws = { Prim.search (comparing, rules) };
+}
+
+impl Hash for Word {
+    ghost hash_input = { λ word. padded word ∷ [] };
+
+    ghost respects_eq = { Prim.search (hashing, rules) };
+
+    fn hash<H: Hasher>(&self, state: &mut H) {
+        state.write(&self.bytes);
+    }
 }
 
 impl PartialOrd for Word {
@@ -132,6 +156,6 @@ impl Ord for Word {
     ghost matches_eq = { Prim.search (comparing, rules) };
 
     fn cmp(&self, other: &Word) -> Ordering {
-        self.as_bytes().cmp(other.as_bytes())
+        self.bytes.cmp(&other.bytes)
     }
 }
