@@ -78,7 +78,7 @@ impl<'h, T, C, P> Cells<'h, T, C, P> {
         requires { pass.old.cells ≡ self.now.cells }
         ensures pass { pass.new.cells ≡ pass.old.cells }
         ensures took { IfOk result (λ halves. pass.new ≡ record pass.old { took = pass.old.took ++ key_of_half halves.1 ∷ [] }) }
-        ensures halves { IfOk result (λ halves. (halves.0 ≡ record { home = halves.1.home; use_number = halves.1.use_number; no = no; sight = Sight.Unseen }) × (halves.1.no ≡ no)) }
+        ensures halves { IfOk result (λ halves. (halves.0 ≡ record { home = halves.1.home; use_number = halves.1.use_number; no = no; sight = Sight.Unseen; looks = 0 }) × (halves.1.no ≡ no)) }
         ensures counted { IfOk result (λ _. t.new ≡ record t.old { made = raised t.old.made }) }
         ensures none { IfErr result (λ _. (pass.new ≡ pass.old) × (t.new ≡ t.old) × HeldKeys 0 pass.old) }
     {

@@ -1,8 +1,8 @@
 -- What the slots hold at the end, by the state.
 use Rattle.std.proofs.Common.{◌≡◌, ◌≢◌, ℕ, zero, suc, ◌<◌, arith, Bool, true, false, inl, inr, List, [], ◌∷◌, refl, sym, ap, ◌∙◌, subst, Option, Some, None, IsSome}
-use Rattle.std.specs.Prelude.{◌↔◌, slice_set, slice_index_or, is_none}
+use Rattle.std.specs.Prelude.{◌↔◌, slice_index, slice_set, slice_index_or, is_none}
 use mathlib.Core.Option as maybe
-use mathlib.Core.Option.{some-injective}
+use mathlib.Core.Option.{some-injective, some-ne-none}
 use lib.ListN.{get_elem?}
 use Rattle.fan_base.specs.declared.outcome.Try.{Try}
 use Rattle.core_state.specs.declared.table.State.{State as CoreState}
@@ -24,19 +24,10 @@ use Rattle.core_word.specs.declared.view.ConsumerPhase.{ConsumerPhase}
 use Rattle.core_word.specs.declared.view.ConsumerPhase.TheVariants as consumer
 use Rattle.core_word.specs.Views.{offer_of, demand_of}
 use Rattle.core_word.specs.Rule.{Held, Home, homes_of, Fit, StandsFor}
-use Rattle.core_word.specs.Closing.{IsWaiting, callback_of, HandsOut, HasNothing}
+use Rattle.core_word.specs.Ends.{SeenEnd, state_of_code, state_in, attached_in}
+use Rattle.core_word.specs.Closing.{IsEnd, IsWaiting, callback_of, HandsOut, HasNothing}
 
--- the state of a code
-abbrev decoded : ℕ → CoreState
-decoded zero = state.Start
-decoded (suc zero) = state.OnlyResult
-decoded (suc (suc zero)) = state.OnlyCallback
-decoded (suc (suc (suc zero))) = state.Proxy
-decoded (suc (suc (suc (suc zero)))) = state.Done
-decoded (suc (suc (suc (suc (suc zero))))) = state.Empty
-decoded (suc (suc (suc (suc (suc (suc n)))))) = state.OnlyCallbackAllowInline
-
-decoded_code : (s : CoreState) → decoded (code_of s) ≡ s
+decoded_code : (s : CoreState) → state_of_code (code_of s) ≡ s
 decoded_code state.Start = refl
 decoded_code state.OnlyResult = refl
 decoded_code state.OnlyCallback = refl
@@ -46,7 +37,23 @@ decoded_code state.Empty = refl
 decoded_code state.OnlyCallbackAllowInline = refl
 
 one_code : (s t : CoreState) → code_of s ≡ code_of t → s ≡ t
-one_code s t e = sym (decoded_code s) ∙ (ap decoded e ∙ decoded_code t)
+one_code s t e = sym (decoded_code s) ∙ (ap state_of_code e ∙ decoded_code t)
+
+first_word : (words : List ℕ) (w : ℕ) → get_elem? words 0 ≡ maybe.some w → slice_index words 0 ≡ w
+first_word [] w e = absurd (some-ne-none w (sym e))
+first_word (x ∷ xs) w e = some-injective x w e
+
+second_word : (words : List ℕ) (w : ℕ) → get_elem? words 1 ≡ maybe.some w → slice_index words 1 ≡ w
+second_word [] w e = absurd (some-ne-none w (sym e))
+second_word (x ∷ []) w e = absurd (some-ne-none w (sym e))
+second_word (x ∷ y ∷ xs) w e = some-injective y w e
+
+-- the state that a word is the code of, and the number of attached halves
+pub reads_state : (words : List ℕ) (w : ℕ) (s : CoreState) → get_elem? words 0 ≡ maybe.some w → code_of s ≡ w → s ≡ state_in words
+reads_state words w s at is = sym (decoded_code s) ∙ (ap state_of_code is ∙ ap state_of_code (sym (first_word words w at)))
+
+pub reads_attached : (words : List ℕ) (w : ℕ) → get_elem? words 1 ≡ maybe.some w → w ≡ attached_in words
+reads_attached words w at = sym (second_word words w at)
 
 none_at : {A : Type 0} (o : Option A) → ((x : A) → o ≡ Some x → ⊥) → o ≡ None
 none_at None never = refl
@@ -169,13 +176,19 @@ module _ {T C P : Type 0} where
       let s = state_from (offer_of b.p) (demand_of b.c) in
       (s, _, sym is ∙ b.words, λ some. at_end t.homes slots s same (subst (λ hs. Kept s hs) (sym b.homes) (kept b.p b.c b.fit)))
 
-  -- the words are these two, of which the first is the code of a state
-  pub two_words : (words : List ℕ) (slots : List (Held T C P)) → Final StandsFor words slots → (w n : ℕ) → get_elem? words 0 ≡ maybe.some w → get_elem? words 1 ≡ maybe.some n → (s : CoreState) × (code_of s ≡ w) × (words ≡ w ∷ n ∷ [])
-  two_words words slots final w n at_w at_n =
+  -- the words are the code of the state and the number that are read in them
+  pub end_words : (words : List ℕ) (slots : List (Held T C P)) → Final StandsFor words slots → words ≡ code_of (state_in words) ∷ attached_in words ∷ []
+  end_words words slots final =
       let e = ends words slots final in
-      let is_w : code_of e.0 ≡ w = some-injective (code_of e.0) w (sym (ap (λ ws. get_elem? ws 0) e.2) ∙ at_w) in
-      let is_n : e.1 ≡ n = some-injective e.1 n (sym (ap (λ ws. get_elem? ws 1) e.2) ∙ at_n) in
-      (e.0, is_w, e.2 ∙ (ap (λ c. c ∷ e.1 ∷ []) is_w ∙ ap (λ m. w ∷ m ∷ []) is_n))
+      let is_s : state_in words ≡ e.0 = ap state_in e.2 ∙ decoded_code e.0 in
+      let is_n : attached_in words ≡ e.1 = ap attached_in e.2 in
+      e.2 ∙ sym (ap (λ s. code_of s ∷ attached_in words ∷ []) is_s ∙ ap (λ n. code_of e.0 ∷ n ∷ []) is_n)
+
+  -- the first word is the code of a state
+  pub has_state : (words : List ℕ) (slots : List (Held T C P)) → Final StandsFor words slots → (w : ℕ) → get_elem? words 0 ≡ maybe.some w → (s : CoreState) × (code_of s ≡ w)
+  has_state words slots final w at_w =
+      let e = ends words slots final in
+      (e.0, some-injective (code_of e.0) w (sym (ap (λ ws. get_elem? ws 0) e.2) ∙ at_w))
 
   -- what the slots hold, by the state and the number that the words are
   kept_in : (words : List ℕ) (slots : List (Held T C P)) → Final StandsFor words slots → (s : CoreState) (n : ℕ) → words ≡ code_of s ∷ n ∷ [] → n ≢ 0 → KeptAtEnd s slots
@@ -185,29 +198,32 @@ module _ {T C P : Type 0} where
       let is_n : e.1 ≡ n = some-injective e.1 n (ap (λ ws. get_elem? ws 1) (sym e.2 ∙ are)) in
       subst (λ t. KeptAtEnd t slots) (one_code e.0 s is_w) (e.3 (λ z. some (sym is_n ∙ z)))
 
-  module _ (words : List ℕ) (slots : List (Held T C P)) (final : Final StandsFor words slots) (unspent : Unspent T C P) (are : words ≡ code_of unspent.state ∷ unspent.attached ∷ []) (out : HandsOut slots unspent) where
-    pub hands_outcome : unspent.attached ≢ 0 → unspent.state ≡ state.OnlyResult → IsSome unspent.outcome
+  module _ (words : List ℕ) (slots : List (Held T C P)) (final : Final StandsFor words slots) (unspent : Unspent T C P) (are : words ≡ code_of unspent.end.state ∷ unspent.end.attached ∷ []) (held : unspent.end.slots ≡ slots) (out : HandsOut unspent) where
+    kept_there : (k : ℕ) (x : Held T C P) → get_elem? slots k ≡ maybe.some x → get_elem? unspent.end.slots k ≡ maybe.some x
+    kept_there k x e = ap (λ xs. get_elem? xs k) held ∙ e
+
+    pub hands_outcome : unspent.end.attached ≢ 0 → unspent.end.state ≡ state.OnlyResult → IsSome unspent.outcome
     hands_outcome some is =
-        let kept = kept_in words slots final state.OnlyResult unspent.attached (are ∙ ap (λ s. code_of s ∷ unspent.attached ∷ []) is) some in
-        some_is unspent.outcome kept.0 ((out.outcome kept.0).1 (some, is, kept.1))
+        let kept = kept_in words slots final state.OnlyResult unspent.end.attached (are ∙ ap (λ s. code_of s ∷ unspent.end.attached ∷ []) is) some in
+        some_is unspent.outcome kept.0 ((out.outcome kept.0).1 (some, is, kept_there 0 _ kept.1))
 
     waits_kept : (inline : Bool) → KeptAtEnd (waiting_state inline) slots → EndsWith 1 a_callback slots
     waits_kept true h = h
     waits_kept false h = h
 
-    pub hands_callback : (inline : Bool) → unspent.attached ≢ 0 → unspent.state ≡ waiting_state inline → IsSome unspent.callback
+    pub hands_callback : (inline : Bool) → unspent.end.attached ≢ 0 → unspent.end.state ≡ waiting_state inline → IsSome unspent.callback
     hands_callback inline some is =
-        let kept = waits_kept inline (kept_in words slots final (waiting_state inline) unspent.attached (are ∙ ap (λ s. code_of s ∷ unspent.attached ∷ []) is) some) in
-        some_is unspent.callback kept.0.callback ((out.callback kept.0.callback).1 (some, (inline, is), (kept.0.inline, kept.1)))
+        let kept = waits_kept inline (kept_in words slots final (waiting_state inline) unspent.end.attached (are ∙ ap (λ s. code_of s ∷ unspent.end.attached ∷ []) is) some) in
+        some_is unspent.callback kept.0.callback ((out.callback kept.0.callback).1 (some, (inline, is), (kept.0.inline, kept_there 1 _ kept.1)))
 
-    pub hands_proxy : unspent.attached ≢ 0 → unspent.state ≡ state.Proxy → IsSome unspent.proxy
+    pub hands_proxy : unspent.end.attached ≢ 0 → unspent.end.state ≡ state.Proxy → IsSome unspent.proxy
     hands_proxy some is =
-        let kept = kept_in words slots final state.Proxy unspent.attached (are ∙ ap (λ s. code_of s ∷ unspent.attached ∷ []) is) some in
-        some_is unspent.proxy kept.0 ((out.proxy kept.0).1 (some, is, kept.1))
+        let kept = kept_in words slots final state.Proxy unspent.end.attached (are ∙ ap (λ s. code_of s ∷ unspent.end.attached ∷ []) is) some in
+        some_is unspent.proxy kept.0 ((out.proxy kept.0).1 (some, is, kept_there 2 _ kept.1))
 
-  module _ (slots : List (Held T C P)) (unspent : Unspent T C P) (out : HandsOut slots unspent) where
+  module _ (unspent : Unspent T C P) (out : HandsOut unspent) where
     -- where nobody is attached, nothing waits
-    pub spent_hands_nothing : unspent.attached ≡ 0 → HasNothing unspent
+    pub spent_hands_nothing : unspent.end.attached ≡ 0 → HasNothing unspent
     spent_hands_nothing gone = record {
       outcome = none_at unspent.outcome (λ r e. ((out.outcome r).0 e).0 gone);
       callback = none_at unspent.callback (λ c e. ((out.callback c).0 e).0 gone);
@@ -218,7 +234,7 @@ module _ {T C P : Type 0} where
     never_waiting true e = cc
     never_waiting false e = cc
 
-    pub start_hands_nothing : unspent.state ≡ state.Start → HasNothing unspent
+    pub start_hands_nothing : unspent.end.state ≡ state.Start → HasNothing unspent
     start_hands_nothing start = record {
       outcome = none_at unspent.outcome (λ r e. let clash : state.Start ≡ state.OnlyResult = sym start ∙ ((out.outcome r).0 e).1 in cc);
       callback = none_at unspent.callback (λ c e. let w = ((out.callback c).0 e).1 in never_waiting w.0 (sym start ∙ w.1));
@@ -233,27 +249,31 @@ module _ {T C P : Type 0} where
   callback_there (Some (item.Proxy k)) c e = cc
 
   -- what is handed out, by what stood in each slot
-  pub hands_out : (slots : List (Held T C P)) (unspent : Unspent T C P) (s : CoreState) (n : ℕ) (result_slot callback_slot proxy_slot : Held T C P)
+  pub hands_out : (unspent : Unspent T C P) (s : CoreState) (n : ℕ) (slots : List (Held T C P)) (result_slot callback_slot proxy_slot : Held T C P)
       → get_elem? slots 0 ≡ maybe.some result_slot → get_elem? slots 1 ≡ maybe.some callback_slot → get_elem? slots 2 ≡ maybe.some proxy_slot
-      → unspent.state ≡ s → unspent.attached ≡ n
+      → unspent.end ≡ record { state = s; attached = n; slots = slots }
       → ((r : Try T) → (unspent.outcome ≡ Some r) ↔ ((n ≢ 0) × (s ≡ state.OnlyResult) × (result_slot ≡ Some (item.Outcome r))))
       → ((c : C) → (unspent.callback ≡ Some c) ↔ ((n ≢ 0) × IsWaiting s × (callback_of callback_slot ≡ Some c)))
       → ((k : P) → (unspent.proxy ≡ Some k) ↔ ((n ≢ 0) × (s ≡ state.Proxy) × (proxy_slot ≡ Some (item.Proxy k))))
-      → HandsOut slots unspent
-  hands_out slots unspent s n result_slot callback_slot proxy_slot at_result at_callback at_proxy is_s is_n outcome callback proxy = record {
-    outcome = λ r. (
-      (λ e. let h = (outcome r).0 e in ((λ z. h.0 (sym is_n ∙ z)), is_s ∙ h.1, at_result ∙ ap (λ x. maybe.some x) h.2)),
-      (λ h. (outcome r).1 ((λ z. h.0 (is_n ∙ z)), sym is_s ∙ h.1, some-injective _ _ (sym at_result ∙ h.2))),
-    );
-    callback = λ c. (
-      (λ e. let h = (callback c).0 e in let there = callback_there callback_slot c h.2 in ((λ z. h.0 (sym is_n ∙ z)), (h.1.0, is_s ∙ h.1.1), (there.0, at_callback ∙ ap (λ x. maybe.some x) there.1))),
-      (λ h. (callback c).1 ((λ z. h.0 (is_n ∙ z)), (h.1.0, sym is_s ∙ h.1.1), ap callback_of (some-injective _ _ (sym at_callback ∙ h.2.1)))),
-    );
-    proxy = λ k. (
-      (λ e. let h = (proxy k).0 e in ((λ z. h.0 (sym is_n ∙ z)), is_s ∙ h.1, at_proxy ∙ ap (λ x. maybe.some x) h.2)),
-      (λ h. (proxy k).1 ((λ z. h.0 (is_n ∙ z)), sym is_s ∙ h.1, some-injective _ _ (sym at_proxy ∙ h.2))),
-    );
-  }
+      → HandsOut unspent
+  hands_out unspent s n slots result_slot callback_slot proxy_slot at_result at_callback at_proxy is outcome callback proxy =
+      let is_s : unspent.end.state ≡ s = ap (λ (e : SeenEnd T C P). e.state) is in
+      let is_n : unspent.end.attached ≡ n = ap (λ (e : SeenEnd T C P). e.attached) is in
+      let there : (k : ℕ) (x : Held T C P) → get_elem? slots k ≡ maybe.some x → get_elem? unspent.end.slots k ≡ maybe.some x = λ k x e. ap (λ (z : SeenEnd T C P). get_elem? z.slots k) is ∙ e in
+      record {
+        outcome = λ r. (
+          (λ e. let h = (outcome r).0 e in ((λ z. h.0 (sym is_n ∙ z)), is_s ∙ h.1, there 0 _ (at_result ∙ ap (λ x. maybe.some x) h.2))),
+          (λ h. (outcome r).1 ((λ z. h.0 (is_n ∙ z)), sym is_s ∙ h.1, some-injective _ _ (sym (there 0 _ at_result) ∙ h.2))),
+        );
+        callback = λ c. (
+          (λ e. let h = (callback c).0 e in let held = callback_there callback_slot c h.2 in ((λ z. h.0 (sym is_n ∙ z)), (h.1.0, is_s ∙ h.1.1), (held.0, there 1 _ (at_callback ∙ ap (λ x. maybe.some x) held.1)))),
+          (λ h. (callback c).1 ((λ z. h.0 (is_n ∙ z)), (h.1.0, sym is_s ∙ h.1.1), ap callback_of (some-injective _ _ (sym (there 1 _ at_callback) ∙ h.2.1)))),
+        );
+        proxy = λ k. (
+          (λ e. let h = (proxy k).0 e in ((λ z. h.0 (sym is_n ∙ z)), is_s ∙ h.1, there 2 _ (at_proxy ∙ ap (λ x. maybe.some x) h.2))),
+          (λ h. (proxy k).1 ((λ z. h.0 (is_n ∙ z)), sym is_s ∙ h.1, some-injective _ _ (sym (there 2 _ at_proxy) ∙ h.2))),
+        );
+      }
 
   -- where a seat still has the key, nothing was begun
   pub unbegun_words : (id : ℕ) (v : View T C P) → v ≡ view.Key 0 → (words : List ℕ) (slots : List (Held T C P)) → Final (Seen StandsFor id v) words slots → words ≡ code_of state.Start ∷ 2 ∷ []
@@ -283,3 +303,8 @@ at_one_place xs k a b e f = some-injective b a (sym f ∙ e)
 pub there_is : {A : Type 0} (o : Option A) → is_none o ≡ false → IsSome o
 there_is None e = let clash : true ≡ false = e in cc
 there_is (Some a) e = refl
+
+module _ {T C P : Type 0} where
+  -- an end whose words are these
+  pub is_end : (end : SeenEnd T C P) (words : List ℕ) (slots : List (Held T C P)) → Final StandsFor words slots → words ≡ code_of end.state ∷ end.attached ∷ [] → end.slots ≡ slots → IsEnd end
+  is_end end words slots final are held = subst (λ (z : List ℕ × List (Held T C P)). Final StandsFor z.0 z.1) (λ i. (are i, (sym held) i)) final

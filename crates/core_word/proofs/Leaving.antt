@@ -5,7 +5,7 @@ use mathlib.Core.Option as maybe
 use lib.ListN.{get_elem?}
 use Rattle.fan_base.specs.declared.outcome.Try.{Try}
 use Rattle.core_state.specs.declared.schedule.Request.{Request}
-use Rattle.core_word.specs.declared.view.Sight.{Sight}
+use Rattle.core_word.specs.declared.view.Learned.{Learned}
 use Rattle.core_word.specs.declared.view.Sight.TheVariants as seen
 use Rattle.core_word.specs.Views.{attached}
 use Rattle.core_state.specs.declared.schedule.Offer.{Offer}
@@ -26,11 +26,11 @@ use Rattle.core_word.proofs.Owing.{ProducerOwes, ConsumerOwes, producer_steps, c
 abbrev pub less : ℕ → ℕ
 less n = (n + (2 ^ 64 - 1)) % 2 ^ 64
 
-module _ {T C P : Type 0} (id u : ℕ) (sight : Sight) where
+module _ {T C P : Type 0} (id u : ℕ) (learned : Learned) where
   abbrev Owes : List (ℕ × Held T C P) → ℕ → (ℕ → ℕ) → (ℕ → Standing T C P → Type 0) → ProducerPhase T C P → Type 0
-  Owes = ProducerOwes id u sight
+  Owes = ProducerOwes id u learned
 
-  result_leaves : (r : Try T) → Owes [] 1 less (departs (producer_acted u sight (offered.Result r) demanded.Nothing)) (producer.Acted (offered.Result r) demanded.Nothing departed.No)
+  result_leaves : (r : Try T) → Owes [] 1 less (departs (producer_acted u learned (offered.Result r) demanded.Nothing)) (producer.Acted (offered.Result r) demanded.Nothing departed.No)
   result_leaves r consumer.Ready fit low = (producer.Acted (offered.Result r) demanded.Nothing departed.First, keeps, tt, refl, refl, (fit.0, tt), ((λ e. absurd (omega arith)), λ ne. (refl, refl)))
   result_leaves r consumer.Holding fit low = (producer.Acted (offered.Result r) demanded.Nothing departed.First, keeps, tt, refl, refl, (fit.0, tt), ((λ e. absurd (omega arith)), λ ne. (refl, refl)))
   result_leaves r (consumer.Aware s) fit low = (producer.Acted (offered.Result r) demanded.Nothing departed.First, keeps, tt, refl, refl, (fit.0, tt), ((λ e. absurd (omega arith)), λ ne. (refl, refl)))
@@ -38,7 +38,7 @@ module _ {T C P : Type 0} (id u : ℕ) (sight : Sight) where
   result_leaves r (consumer.Acted demand got departed.First) fit low = (producer.Acted (offered.Result r) demanded.Nothing departed.Last, keeps, tt, refl, refl, (fit.0, tt), ((λ e. refl), λ ne. absurd (ne refl)))
   result_leaves r (consumer.Acted demand got departed.Last) fit low = absurd fit.1
 
-  result_met_leaves : (r : Try T) (c : Request C) → Owes (producer_slots (offered.Result r) (demanded.Callback c)) 1 less (departs (producer_acted u sight (offered.Result r) (demanded.Callback c))) (producer.Acted (offered.Result r) (demanded.Callback c) departed.No)
+  result_met_leaves : (r : Try T) (c : Request C) → Owes (producer_slots (offered.Result r) (demanded.Callback c)) 1 less (departs (producer_acted u learned (offered.Result r) (demanded.Callback c))) (producer.Acted (offered.Result r) (demanded.Callback c) departed.No)
   result_met_leaves r c consumer.Ready fit low = absurd fit.0.1
   result_met_leaves r c consumer.Holding fit low = absurd fit.0.1
   result_met_leaves r c (consumer.Aware s) fit low = absurd fit.0.1
@@ -49,7 +49,7 @@ module _ {T C P : Type 0} (id u : ℕ) (sight : Sight) where
   result_met_leaves r c (consumer.Acted (demanded.Callback d) offered.Nothing departed.First) fit low = (producer.Acted (offered.Result r) (demanded.Callback c) departed.Last, chain gives gives, (tt, tt), refl, refl, (fit.0, tt), ((λ e. refl), λ ne. absurd (ne refl)))
   result_met_leaves r c (consumer.Acted (demanded.Callback d) offered.Nothing departed.Last) fit low = absurd fit.1
 
-  proxy_leaves : (r : P) → Owes [] 1 less (departs (producer_acted u sight (offered.Proxy r) demanded.Nothing)) (producer.Acted (offered.Proxy r) demanded.Nothing departed.No)
+  proxy_leaves : (r : P) → Owes [] 1 less (departs (producer_acted u learned (offered.Proxy r) demanded.Nothing)) (producer.Acted (offered.Proxy r) demanded.Nothing departed.No)
   proxy_leaves r consumer.Ready fit low = (producer.Acted (offered.Proxy r) demanded.Nothing departed.First, keeps, tt, refl, refl, (fit.0, tt), ((λ e. absurd (omega arith)), λ ne. (refl, refl)))
   proxy_leaves r consumer.Holding fit low = (producer.Acted (offered.Proxy r) demanded.Nothing departed.First, keeps, tt, refl, refl, (fit.0, tt), ((λ e. absurd (omega arith)), λ ne. (refl, refl)))
   proxy_leaves r (consumer.Aware s) fit low = (producer.Acted (offered.Proxy r) demanded.Nothing departed.First, keeps, tt, refl, refl, (fit.0, tt), ((λ e. absurd (omega arith)), λ ne. (refl, refl)))
@@ -57,7 +57,7 @@ module _ {T C P : Type 0} (id u : ℕ) (sight : Sight) where
   proxy_leaves r (consumer.Acted demand got departed.First) fit low = (producer.Acted (offered.Proxy r) demanded.Nothing departed.Last, keeps, tt, refl, refl, (fit.0, tt), ((λ e. refl), λ ne. absurd (ne refl)))
   proxy_leaves r (consumer.Acted demand got departed.Last) fit low = absurd fit.1
 
-  proxy_met_leaves : (r : P) (c : Request C) → Owes (producer_slots (offered.Proxy r) (demanded.Callback c)) 1 less (departs (producer_acted u sight (offered.Proxy r) (demanded.Callback c))) (producer.Acted (offered.Proxy r) (demanded.Callback c) departed.No)
+  proxy_met_leaves : (r : P) (c : Request C) → Owes (producer_slots (offered.Proxy r) (demanded.Callback c)) 1 less (departs (producer_acted u learned (offered.Proxy r) (demanded.Callback c))) (producer.Acted (offered.Proxy r) (demanded.Callback c) departed.No)
   proxy_met_leaves r c consumer.Ready fit low = absurd fit.0.1
   proxy_met_leaves r c consumer.Holding fit low = absurd fit.0.1
   proxy_met_leaves r c (consumer.Aware s) fit low = absurd fit.0.1
@@ -68,23 +68,23 @@ module _ {T C P : Type 0} (id u : ℕ) (sight : Sight) where
   proxy_met_leaves r c (consumer.Acted (demanded.Callback d) offered.Nothing departed.First) fit low = (producer.Acted (offered.Proxy r) (demanded.Callback c) departed.Last, chain gives gives, (tt, tt), refl, refl, (fit.0, tt), ((λ e. refl), λ ne. absurd (ne refl)))
   proxy_met_leaves r c (consumer.Acted (demanded.Callback d) offered.Nothing departed.Last) fit low = absurd fit.1
 
-  producer_leaves : (slots : ℕ) (offer : Offer (Try T) P) (got : Demand C) → IsSet offer → Allows StandsFor slots id (producer_acted u sight offer got) 1 less (departs (producer_acted u sight offer got))
+  producer_leaves : (slots : ℕ) (offer : Offer (Try T) P) (got : Demand C) → IsSet offer → Allows StandsFor slots id (producer_acted u learned offer got) 1 less (departs (producer_acted u learned offer got))
   producer_leaves slots offered.Nothing got set = absurd set
-  producer_leaves slots (offered.Result r) demanded.Nothing set = producer_steps id u sight [] 1 less (departs (producer_acted u sight (offered.Result r) demanded.Nothing)) (producer.Acted (offered.Result r) demanded.Nothing departed.No) (λ e. cc) slots (result_leaves r)
-  producer_leaves slots (offered.Result r) (demanded.Callback c) set = producer_steps id u sight _ 1 less (departs (producer_acted u sight (offered.Result r) (demanded.Callback c))) (producer.Acted (offered.Result r) (demanded.Callback c) departed.No) (λ e. cc) slots (result_met_leaves r c)
-  producer_leaves slots (offered.Proxy k) demanded.Nothing set = producer_steps id u sight [] 1 less (departs (producer_acted u sight (offered.Proxy k) demanded.Nothing)) (producer.Acted (offered.Proxy k) demanded.Nothing departed.No) (λ e. cc) slots (proxy_leaves k)
-  producer_leaves slots (offered.Proxy k) (demanded.Callback c) set = producer_steps id u sight _ 1 less (departs (producer_acted u sight (offered.Proxy k) (demanded.Callback c))) (producer.Acted (offered.Proxy k) (demanded.Callback c) departed.No) (λ e. cc) slots (proxy_met_leaves k c)
+  producer_leaves slots (offered.Result r) demanded.Nothing set = producer_steps id u learned [] 1 less (departs (producer_acted u learned (offered.Result r) demanded.Nothing)) (producer.Acted (offered.Result r) demanded.Nothing departed.No) (λ e. cc) slots (result_leaves r)
+  producer_leaves slots (offered.Result r) (demanded.Callback c) set = producer_steps id u learned _ 1 less (departs (producer_acted u learned (offered.Result r) (demanded.Callback c))) (producer.Acted (offered.Result r) (demanded.Callback c) departed.No) (λ e. cc) slots (result_met_leaves r c)
+  producer_leaves slots (offered.Proxy k) demanded.Nothing set = producer_steps id u learned [] 1 less (departs (producer_acted u learned (offered.Proxy k) demanded.Nothing)) (producer.Acted (offered.Proxy k) demanded.Nothing departed.No) (λ e. cc) slots (proxy_leaves k)
+  producer_leaves slots (offered.Proxy k) (demanded.Callback c) set = producer_steps id u learned _ 1 less (departs (producer_acted u learned (offered.Proxy k) (demanded.Callback c))) (producer.Acted (offered.Proxy k) (demanded.Callback c) departed.No) (λ e. cc) slots (proxy_met_leaves k c)
 
   -- a producer that has seen its consumer leave finds one half attached
-  producer_alone : (offer : Offer (Try T) P) (got : Demand C) (s : TableState T C P) → StandsFor s → get_elem? s.views id ≡ maybe.some (producer_acted u sight offer got).0
-      → sight ≡ seen.CallbackLeft → slice_index s.words 1 ≡ 1
+  producer_alone : (offer : Offer (Try T) P) (got : Demand C) (s : TableState T C P) → StandsFor s → get_elem? s.views id ≡ maybe.some (producer_acted u learned offer got).0
+      → learned.sight ≡ seen.CallbackLeft → slice_index s.words 1 ≡ 1
   producer_alone offer got s holds at left =
-      let b = beside_producer s id u (producer.Acted offer got departed.No) sight (λ e. cc) at holds in
+      let b = beside_producer s id u (producer.Acted offer got departed.No) learned (λ e. cc) at holds in
       let sees : SightFits seen.CallbackLeft b.c = subst (λ y. SightFits y b.c) left b.sees in
       subst (λ ws. slice_index ws 1 ≡ 1) (sym b.words) (ap (λ d. attached departed.No + attached d) sees.1)
 
-  pub producer_goes : (slots : ℕ) (offer : Offer (Try T) P) (got : Demand C) → IsSet offer → Allows StandsFor slots id (producer_acted u sight offer got) 1 less (leaves (producer_acted u sight offer got))
-  producer_goes slots offer got set = allows_also slots id (producer_acted u sight offer got) 1 less (departs (producer_acted u sight offer got)) (λ found. sight ≡ seen.CallbackLeft → found ≡ 1)
+  pub producer_goes : (slots : ℕ) (offer : Offer (Try T) P) (got : Demand C) → IsSet offer → Allows StandsFor slots id (producer_acted u learned offer got) 1 less (leaves (producer_acted u learned offer got))
+  producer_goes slots offer got set = allows_also slots id (producer_acted u learned offer got) 1 less (departs (producer_acted u learned offer got)) (λ found. learned.sight ≡ seen.CallbackLeft → found ≡ 1)
       (producer_alone offer got) (producer_leaves slots offer got set)
 
 module _ {T C P : Type 0} (id u : ℕ) where

@@ -1,3 +1,4 @@
+pub mod Firsts
 pub mod Owing
 pub mod Setting
 pub mod Demanding

@@ -11,6 +11,7 @@ use Rattle.core_state.specs.Schedule.{state_from}
 use Rattle.atomic_table.specs.Table.{rest, turned, Act, keeps, Valid, Allows, homes_after, carried_after}
 use Rattle.atomic_table.proofs.Lists.{set_here, set_else}
 use Rattle.core_word.specs.declared.view.Sight.{Sight}
+use Rattle.core_word.specs.declared.view.Learned.{Learned}
 use Rattle.core_word.specs.declared.view.Sight.TheVariants as seen
 use Rattle.core_word.specs.declared.view.Departure.{Departure}
 use Rattle.core_word.specs.declared.view.Departure.TheVariants as departed
@@ -20,8 +21,8 @@ use Rattle.core_word.specs.declared.view.ConsumerPhase.{ConsumerPhase}
 use Rattle.core_word.specs.declared.view.ConsumerPhase.TheVariants as consumer
 use Rattle.core_word.specs.declared.view.View.{View}
 use Rattle.core_word.specs.declared.view.View.TheVariants as view
-use Rattle.core_word.specs.Views.{use_of, sight_of, producer_left, consumer_left, Knows}
-use Rattle.core_word.specs.Rule.{Held, Home, TableState, words_of, homes_of, IsSet, Fit, Waits, SightFits, IsPast, IsFirstOf, Unbegun, Begun, Over, Reopening, Joined, StandsFor}
+use Rattle.core_word.specs.Views.{use_of, learned_of, producer_left, consumer_left, Knows}
+use Rattle.core_word.specs.Rule.{Held, Home, TableState, words_of, homes_of, IsSet, Fit, Waits, SightFits, IsPast, IsFirstOf, OneFirst, Unbegun, Begun, Over, Reopening, Joined, StandsFor}
 use Rattle.fan_base.specs.declared.outcome.Try.{Try}
 use Rattle.core_state.specs.declared.schedule.Offer.{Offer}
 use Rattle.core_state.specs.declared.schedule.Offer.TheVariants as offered
@@ -30,6 +31,7 @@ use Rattle.core_state.specs.declared.schedule.Demand.TheVariants as demanded
 use Rattle.atomic_table.specs.Seated.{TableId}
 use Rattle.atomic_table.specs.declared.shared.Seat.{Seat}
 use Rattle.core_word.specs.Plays.{Standing, Sits, producer_acted, consumer_acted, leaving, IsLast}
+use Rattle.core_word.proofs.Firsts.{not_first, one_view, once_plain, once_produced, once_consumed}
 
 pub within : {A : Type 0} (l : List A) (i : ℕ) (a : A) → get_elem? l i ≡ maybe.some a → i < length l
 within [] i a e = absurd (some-ne-none a (sym e))
@@ -60,13 +62,9 @@ module _ {T C P : Type 0} where
   pub filled : (me before : Standing T C P) (v : View T C P) (k : ℕ) (held x : Held T C P) → me ≡ (before.0, (k, x) ∷ rest before.1) → before ≡ (v, (k, held) ∷ []) → me ≡ (v, (k, x) ∷ [])
   filled me before v k held x put was = put ∙ ap (λ (m : Standing T C P). (m.0, (k, x) ∷ rest m.1)) was
 
-  -- one view at one place
-  pub one_view : (vs : List (View T C P)) (i j : ℕ) (v w : View T C P) → get_elem? vs i ≡ maybe.some v → get_elem? vs j ≡ maybe.some w → i ≡ j → v ≡ w
-  one_view vs i j v w e f same = some-injective v w (sym e ∙ (ap (get_elem? vs) same ∙ f))
-
   past_later : (u : ℕ) (v : View T C P) → IsPast u v → IsPast (suc u) v
   past_later u (view.Key n) past = absurd past
-  past_later u (view.Producer n p sight) past = let lt = past.0 in (omega arith, past.1)
+  past_later u (view.Producer n p learned) past = let lt = past.0 in (omega arith, past.1)
   past_later u (view.Consumer n c) past = let lt = past.0 in (omega arith, past.1)
   past_later u (view.Husk n o k) past = absurd past
   past_later u (view.Reopening n) past = absurd past
@@ -76,7 +74,7 @@ module _ {T C P : Type 0} where
 
   first_past : (u : ℕ) (v : View T C P) → IsFirstOf u v → IsPast (suc u) v
   first_past u (view.Key n) left = absurd left
-  first_past u (view.Producer n p sight) left = let same = left.0 in (omega arith, left.1)
+  first_past u (view.Producer n p learned) left = let same = left.0 in (omega arith, left.1)
   first_past u (view.Consumer n c) left = let same = left.0 in (omega arith, left.1)
   first_past u (view.Husk n o k) left = absurd left
   first_past u (view.Reopening n) left = absurd left
@@ -115,7 +113,7 @@ module _ {T C P : Type 0} where
     pub of_joined : (b : Joined s) → (id ≡ b.seat) × (v ≡ view.Joined b.number b.p b.c)
     of_joined b = only_one s.views b.seat b.number _ b.at b.others id v here live
 
-    pub of_begun : (b : Begun s) → ((id ≡ b.producer) × (v ≡ view.Producer b.number b.p b.sight)) ⊎ ((id ≡ b.consumer) × (v ≡ view.Consumer b.number b.c))
+    pub of_begun : (b : Begun s) → ((id ≡ b.producer) × (v ≡ view.Producer b.number b.p b.learned)) ⊎ ((id ≡ b.consumer) × (v ≡ view.Consumer b.number b.c))
     of_begun b = dite (ℕ_discrete id b.producer)
         (λ e. inl (e, one_view s.views id b.producer _ _ here b.at_p e))
         (λ np. dite (ℕ_discrete id b.consumer)
@@ -123,7 +121,7 @@ module _ {T C P : Type 0} where
         (λ nc. absurd (live b.number (b.others id v np nc here))))
 
   -- what a producer that hasn't left first stands beside: the consumer of its use, and past views
-  pub record BesideProducer (s : TableState T C P) (id u : ℕ) (p : ProducerPhase T C P) (sight : Sight) : Type 0 where
+  pub record BesideProducer (s : TableState T C P) (id u : ℕ) (p : ProducerPhase T C P) (learned : Learned) : Type 0 where
     pub consumer : ℕ
     pub c : ConsumerPhase T C P
     pub apart : id ≢ consumer
@@ -132,32 +130,34 @@ module _ {T C P : Type 0} where
     pub words : s.words ≡ words_of p c
     pub homes : s.homes ≡ homes_of p c
     pub fit : Fit p c
-    pub sees : SightFits sight c
+    pub sees : SightFits learned.sight c
+    pub once : OneFirst s.views
 
   -- the same of a consumer
   pub record BesideConsumer (s : TableState T C P) (id u : ℕ) (c : ConsumerPhase T C P) : Type 0 where
     pub producer : ℕ
     pub p : ProducerPhase T C P
-    pub sight : Sight
+    pub learned : Learned
     pub apart : producer ≢ id
-    pub at_p : get_elem? s.views producer ≡ maybe.some (view.Producer u p sight)
+    pub at_p : get_elem? s.views producer ≡ maybe.some (view.Producer u p learned)
     pub others : (k : ℕ) (v : View T C P) → k ≢ producer → k ≢ id → get_elem? s.views k ≡ maybe.some v → IsPast u v
     pub words : s.words ≡ words_of p c
     pub homes : s.homes ≡ homes_of p c
     pub fit : Fit p c
-    pub sees : SightFits sight c
+    pub sees : SightFits learned.sight c
+    pub once : OneFirst s.views
 
   module _ (s : TableState T C P) (id u : ℕ) where
-    module _ (p : ProducerPhase T C P) (sight : Sight) (stays : producer_left p ≢ departed.First) (here : get_elem? s.views id ≡ maybe.some (view.Producer u p sight)) where
-      live_producer : IsLive (view.Producer u p sight)
+    module _ (p : ProducerPhase T C P) (learned : Learned) (stays : producer_left p ≢ departed.First) (here : get_elem? s.views id ≡ maybe.some (view.Producer u p learned)) where
+      live_producer : IsLive (view.Producer u p learned)
       live_producer n past = stays past.1
 
-      of_producer : (b : Begun s) → (id ≡ b.producer) × (view.Producer u p sight ≡ view.Producer b.number b.p b.sight) → BesideProducer s id u p sight
+      of_producer : (b : Begun s) → (id ≡ b.producer) × (view.Producer u p learned ≡ view.Producer b.number b.p b.learned) → BesideProducer s id u p learned
       of_producer b r =
           let same = r.1 in
           let number : u ≡ b.number = cc in
           let phase : p ≡ b.p = cc in
-          let looked : sight ≡ b.sight = cc in record {
+          let looked : learned ≡ b.learned = cc in record {
             consumer = b.consumer;
             c = b.c;
             apart = λ e. b.apart (sym r.0 ∙ e);
@@ -166,12 +166,13 @@ module _ {T C P : Type 0} where
             words = b.words ∙ ap (λ q. words_of q b.c) (sym phase);
             homes = b.homes ∙ ap (λ q. homes_of q b.c) (sym phase);
             fit = subst (λ q. Fit q b.c) (sym phase) b.fit;
-            sees = subst (λ y. SightFits y b.c) (sym looked) b.sees;
+            sees = subst (λ (y : Learned). SightFits y.sight b.c) (sym looked) b.sees;
+            once = b.once;
           }
 
-      pub beside_producer : StandsFor s → BesideProducer s id u p sight
+      pub beside_producer : StandsFor s → BesideProducer s id u p learned
       beside_producer (inl b) = let r = of_unbegun s id _ here live_producer b in let e = r.1 in cc
-      beside_producer (inr (inl b)) = ⊎_elim (of_producer b) (λ (r : (id ≡ b.consumer) × (view.Producer u p sight ≡ view.Consumer b.number b.c)). let e = r.1 in cc) (of_begun s id _ here live_producer b)
+      beside_producer (inr (inl b)) = ⊎_elim (of_producer b) (λ (r : (id ≡ b.consumer) × (view.Producer u p learned ≡ view.Consumer b.number b.c)). let e = r.1 in cc) (of_begun s id _ here live_producer b)
       beside_producer (inr (inr (inl b))) = let r = of_over s id _ here live_producer b in let e = r.1 in cc
       beside_producer (inr (inr (inr (inl b)))) = let r = of_reopening s id _ here live_producer b in let e = r.1 in cc
       beside_producer (inr (inr (inr (inr b)))) = let r = of_joined s id _ here live_producer b in let e = r.1 in cc
@@ -187,19 +188,20 @@ module _ {T C P : Type 0} where
           let phase : c ≡ b.c = cc in record {
             producer = b.producer;
             p = b.p;
-            sight = b.sight;
+            learned = b.learned;
             apart = λ e. b.apart (e ∙ r.0);
-            at_p = b.at_p ∙ ap (λ n. maybe.some (view.Producer n b.p b.sight)) (sym number);
+            at_p = b.at_p ∙ ap (λ n. maybe.some (view.Producer n b.p b.learned)) (sym number);
             others = λ k v np ne e. subst (λ n. IsPast n v) (sym number) (b.others k v np (λ x. ne (x ∙ sym r.0)) e);
             words = b.words ∙ ap (λ q. words_of b.p q) (sym phase);
             homes = b.homes ∙ ap (λ q. homes_of b.p q) (sym phase);
             fit = subst (λ q. Fit b.p q) (sym phase) b.fit;
-            sees = subst (λ q. SightFits b.sight q) (sym phase) b.sees;
+            sees = subst (λ q. SightFits b.learned.sight q) (sym phase) b.sees;
+            once = b.once;
           }
 
       pub beside_consumer : StandsFor s → BesideConsumer s id u c
       beside_consumer (inl b) = let r = of_unbegun s id _ here live_consumer b in let e = r.1 in cc
-      beside_consumer (inr (inl b)) = ⊎_elim (λ (r : (id ≡ b.producer) × (view.Consumer u c ≡ view.Producer b.number b.p b.sight)). let e = r.1 in cc) (of_consumer b) (of_begun s id _ here live_consumer b)
+      beside_consumer (inr (inl b)) = ⊎_elim (λ (r : (id ≡ b.producer) × (view.Consumer u c ≡ view.Producer b.number b.p b.learned)). let e = r.1 in cc) (of_consumer b) (of_begun s id _ here live_consumer b)
       beside_consumer (inr (inr (inl b))) = let r = of_over s id _ here live_consumer b in let e = r.1 in cc
       beside_consumer (inr (inr (inr (inl b)))) = let r = of_reopening s id _ here live_consumer b in let e = r.1 in cc
       beside_consumer (inr (inr (inr (inr b)))) = let r = of_joined s id _ here live_consumer b in let e = r.1 in cc
@@ -229,27 +231,27 @@ module _ {T C P : Type 0} where
     pub placed : (ws : List ℕ) (hs : List (Home T C P)) (vs : List (View T C P)) (ws' : List ℕ) (hs' : List (Home T C P)) → ws ≡ ws' → hs ≡ hs' → Steps ws' hs' vs → Steps ws hs vs
     placed ws hs vs ws' hs' e f g = subst (λ x. Steps x hs vs) (sym e) (subst (λ y. Steps ws' y vs) (sym f) g)
 
-  module _ (id : ℕ) (u : ℕ) (sight : Sight) (cs : List (ℕ × Held T C P)) (i : ℕ) (f : ℕ → ℕ) (then : ℕ → Standing T C P → Type 0) where
+  module _ (id : ℕ) (u : ℕ) (learned : Learned) (cs : List (ℕ × Held T C P)) (i : ℕ) (f : ℕ → ℕ) (then : ℕ → Standing T C P → Type 0) where
     -- what it gives beside this consumer
     abbrev pub ProducerRow : ProducerPhase T C P → ConsumerPhase T C P → Type 0
     ProducerRow p c = (q : ProducerPhase T C P) × (a : Act (Held T C P)) × Valid (homes_of p c) cs a
         × (slice_set (words_of p c) i (f (slice_index (words_of p c) i)) ≡ words_of q c)
         × (homes_after (homes_of p c) cs a ≡ homes_of q c)
         × Fit q c
-        × then (slice_index (words_of p c) i) (view.Producer u q sight, carried_after cs a)
+        × then (slice_index (words_of p c) i) (view.Producer u q learned, carried_after cs a)
 
     abbrev pub ProducerOwes : ProducerPhase T C P → Type 0
     ProducerOwes p = (c : ConsumerPhase T C P) → Fit p c → slice_index (words_of p c) i < 18446744073709551616 → ProducerRow p c
 
     -- a producer's step keeps what it has learned of its consumer
     module _ (p : ProducerPhase T C P) (stays : producer_left p ≢ departed.First) where
-      pub producer_steps : (slots : ℕ) → ProducerOwes p → Allows StandsFor slots id (view.Producer u p sight, cs) i f then
+      pub producer_steps : (slots : ℕ) → ProducerOwes p → Allows StandsFor slots id (view.Producer u p learned, cs) i f then
       producer_steps slots owes s holds long at small =
-          let b = beside_producer s id u p sight stays at holds in
+          let b = beside_producer s id u p learned stays at holds in
           let c = b.c in
           let low : slice_index (words_of p c) i < 18446744073709551616 = subst (λ ws. slice_index ws i < 18446744073709551616) b.words small in
           let r = owes c b.fit low in
-          let w : View T C P = view.Producer u r.0 sight in
+          let w : View T C P = view.Producer u r.0 learned in
           let away : b.consumer ≢ id = λ e. b.apart (sym e) in
           placed id cs i f then s.words s.homes s.views (words_of p c) (homes_of p c) b.words b.homes (
             w,
@@ -261,7 +263,7 @@ module _ {T C P : Type 0} where
               apart = b.apart;
               number = u;
               p = r.0;
-              sight = sight;
+              learned = learned;
               c = c;
               at_p = set_here s.views id w (within s.views id _ at);
               at_c = set_else s.views id b.consumer w away ∙ b.at_c;
@@ -270,17 +272,18 @@ module _ {T C P : Type 0} where
               homes = r.4;
               fit = r.5;
               sees = b.sees;
+              once = once_produced s.views id b.consumer u r.0 learned c (within s.views id _ at) b.once b.at_c b.others r.5;
             }),
             r.6,
           )
 
   -- a producer that hasn't acted looks at a word, and learns something of its consumer
-  pub producer_looks : (id u i : ℕ) (sight : Sight) (then : ℕ → Standing T C P → Type 0)
-      → ((c : ConsumerPhase T C P) → Fit producer.Ready c → SightFits sight c → (new : Sight) × SightFits new c × then (slice_index (words_of producer.Ready c) i) (view.Producer u producer.Ready new, []))
+  pub producer_looks : (id u i : ℕ) (learned : Learned) (then : ℕ → Standing T C P → Type 0)
+      → ((c : ConsumerPhase T C P) → Fit producer.Ready c → SightFits learned.sight c → (new : Learned) × SightFits new.sight c × then (slice_index (words_of producer.Ready c) i) (view.Producer u producer.Ready new, []))
       → ((c : ConsumerPhase T C P) → slice_set (words_of producer.Ready c) i (slice_index (words_of producer.Ready c) i) ≡ words_of producer.Ready c)
-      → (slots : ℕ) → Allows StandsFor slots id (view.Producer u producer.Ready sight, []) i (λ n. n) then
-  producer_looks id u i sight then learns same slots s holds long at small =
-      let b = beside_producer s id u producer.Ready sight (λ n. cc) at holds in
+      → (slots : ℕ) → Allows StandsFor slots id (view.Producer u producer.Ready learned, []) i (λ n. n) then
+  producer_looks id u i learned then learns same slots s holds long at small =
+      let b = beside_producer s id u producer.Ready learned (λ n. cc) at holds in
       let c = b.c in
       let r = learns c b.fit b.sees in
       let w : View T C P = view.Producer u producer.Ready r.0 in
@@ -295,7 +298,7 @@ module _ {T C P : Type 0} where
           apart = b.apart;
           number = u;
           p = producer.Ready;
-          sight = r.0;
+          learned = r.0;
           c = c;
           at_p = set_here s.views id w (within s.views id _ at);
           at_c = set_else s.views id b.consumer w away ∙ b.at_c;
@@ -304,6 +307,7 @@ module _ {T C P : Type 0} where
           homes = refl;
           fit = b.fit;
           sees = r.1;
+          once = once_plain s.views id w (within s.views id _ at) b.once (λ n first. not_first first.1);
         }),
         r.2,
       )
@@ -351,7 +355,7 @@ module _ {T C P : Type 0} where
               apart = b.apart;
               number = u;
               p = p;
-              sight = b.sight;
+              learned = b.learned;
               c = r.0;
               at_p = set_else s.views id b.producer w b.apart ∙ b.at_p;
               at_c = set_here s.views id w (within s.views id _ at);
@@ -359,26 +363,27 @@ module _ {T C P : Type 0} where
               words = r.3;
               homes = r.4;
               fit = r.5;
-              sees = r.6 b.sight b.sees;
+              sees = r.6 b.learned.sight b.sees;
+              once = once_consumed s.views id b.producer u r.0 b.learned p (within s.views id _ at) b.once b.at_p b.others r.5;
             }),
             r.7,
           )
 
 module _ {T C P : Type 0} where
   -- where a seat stands, by the number of its own view
-  pub sits_by_both : (home : TableId) (seat : Seat (Held T C P) (View T C P)) (f : ℕ → Sight → Standing T C P) → ((n : ℕ) (y : Sight) → (use_of (f n y).0 ≡ n) × (sight_of (f n y).0 ≡ y)) → (u : ℕ) (sight : Sight) → Sits home seat (f u sight) → Sits home seat (f (use_of seat.me.0) (sight_of seat.me.0))
-  sits_by_both home seat f is u sight h = record {
+  pub sits_by_both : (home : TableId) (seat : Seat (Held T C P) (View T C P)) (f : ℕ → Learned → Standing T C P) → ((n : ℕ) (y : Learned) → (use_of (f n y).0 ≡ n) × (learned_of (f n y).0 ≡ y)) → (u : ℕ) (learned : Learned) → Sits home seat (f u learned) → Sits home seat (f (use_of seat.me.0) (learned_of seat.me.0))
+  sits_by_both home seat f is u learned h = record {
     of_home = h.of_home;
-    stands = h.stands ∙ ((λ i. f (sym (ap (λ (m : Standing T C P). use_of m.0) h.stands ∙ (is u sight).0) i) (sym (ap (λ (m : Standing T C P). sight_of m.0) h.stands ∙ (is u sight).1) i)));
+    stands = h.stands ∙ ((λ i. f (sym (ap (λ (m : Standing T C P). use_of m.0) h.stands ∙ (is u learned).0) i) (sym (ap (λ (m : Standing T C P). learned_of m.0) h.stands ∙ (is u learned).1) i)));
   }
 
   pub sits_by_view : (home : TableId) (seat : Seat (Held T C P) (View T C P)) (f : ℕ → Standing T C P) → ((n : ℕ) → use_of (f n).0 ≡ n) → (u : ℕ) → Sits home seat (f u) → Sits home seat (f (use_of seat.me.0))
   sits_by_view home seat f is u h = record { of_home = h.of_home; stands = h.stands ∙ ap f (sym (ap (λ (m : Standing T C P). use_of m.0) h.stands ∙ is u)) }
 
-  pub producer_is_last : (before after : Standing T C P) (u : ℕ) (sight : Sight) (offer : Offer (Try T) P) (got : Demand C) → before ≡ producer_acted u sight offer got → after ≡ (leaving departed.Last before.0, []) → (after.1 ≡ []) × IsLast after.0
-  producer_is_last before after u sight offer got e f = (
+  pub producer_is_last : (before after : Standing T C P) (u : ℕ) (learned : Learned) (offer : Offer (Try T) P) (got : Demand C) → before ≡ producer_acted u learned offer got → after ≡ (leaving departed.Last before.0, []) → (after.1 ≡ []) × IsLast after.0
+  producer_is_last before after u learned offer got e f = (
     ap (λ (m : Standing T C P). m.1) f,
-    inl (u, sight, offer, got, ap (λ (m : Standing T C P). m.0) f ∙ ap (λ (m : Standing T C P). leaving departed.Last m.0) e),
+    inl (u, learned, offer, got, ap (λ (m : Standing T C P). m.0) f ∙ ap (λ (m : Standing T C P). leaving departed.Last m.0) e),
   )
 
   pub consumer_is_last : (before after : Standing T C P) (u : ℕ) (demand : Demand C) (got : Offer (Try T) P) → before ≡ consumer_acted u demand got → after ≡ (leaving departed.Last before.0, []) → (after.1 ≡ []) × IsLast after.0

@@ -12,6 +12,7 @@ use Rattle.core_word.specs.declared.view.View.{View}
 use Rattle.core_word.specs.declared.view.View.TheVariants as view
 use Rattle.core_word.specs.Rule.{TableState, IsPast, Over, Reopening, StandsFor}
 use Rattle.core_word.specs.Plays.{Standing, husk_at, reopening_at, sets_back, reopens}
+use Rattle.core_word.proofs.Firsts.{once_plain}
 use Rattle.core_word.proofs.Owing.{within, of_unbegun, of_begun, of_over, of_reopening, of_joined, over_others}
 
 module _ {T C P : Type 0} where
@@ -19,7 +20,7 @@ module _ {T C P : Type 0} where
   pub husk_ends : (id u : ℕ) (offer : Offer (Try T) P) (demand : Demand C) (s : TableState T C P) → StandsFor s → get_elem? s.views id ≡ maybe.some (view.Husk u offer demand) → (b : Over s) × (id ≡ b.last) × (u ≡ b.number)
   husk_ends id u offer demand s (inl b) at = let r = of_unbegun s id _ at (λ n past. past) b in let e = r.1 in cc
   husk_ends id u offer demand s (inr (inl b)) at = ⊎_elim
-      (λ (r : (id ≡ b.producer) × (view.Husk u offer demand ≡ view.Producer b.number b.p b.sight)). let e = r.1 in cc)
+      (λ (r : (id ≡ b.producer) × (view.Husk u offer demand ≡ view.Producer b.number b.p b.learned)). let e = r.1 in cc)
       (λ (r : (id ≡ b.consumer) × (view.Husk u offer demand ≡ view.Consumer b.number b.c)). let e = r.1 in cc)
       (of_begun s id _ at (λ n past. past) b)
   husk_ends id u offer demand s (inr (inr (inl b))) at = let r = of_over s id _ at (λ n past. past) b in let same = r.1 in let number : u ≡ b.number = cc in (b, r.0, number)
@@ -29,7 +30,7 @@ module _ {T C P : Type 0} where
   reopening_is : (id u : ℕ) (s : TableState T C P) → StandsFor s → get_elem? s.views id ≡ maybe.some (view.Reopening u) → (b : Reopening s) × (id ≡ b.seat) × (u ≡ b.number)
   reopening_is id u s (inl b) at = let r = of_unbegun s id _ at (λ n past. past) b in let e = r.1 in cc
   reopening_is id u s (inr (inl b)) at = ⊎_elim
-      (λ (r : (id ≡ b.producer) × (view.Reopening u ≡ view.Producer b.number b.p b.sight)). let e = r.1 in cc)
+      (λ (r : (id ≡ b.producer) × (view.Reopening u ≡ view.Producer b.number b.p b.learned)). let e = r.1 in cc)
       (λ (r : (id ≡ b.consumer) × (view.Reopening u ≡ view.Consumer b.number b.c)). let e = r.1 in cc)
       (of_begun s id _ at (λ n past. past) b)
   reopening_is id u s (inr (inr (inl b))) at = let r = of_over s id _ at (λ n past. past) b in let e = r.1 in cc
@@ -51,6 +52,7 @@ module _ {T C P : Type 0} where
           others = λ k v ne e. subst (λ n. IsPast (suc n) v) (sym r.2) (over_others s b k v (λ x. ne (x ∙ sym r.1)) (sym (set_else s.views id k w ne) ∙ e));
           words = ap (λ ws. slice_set ws 0 0) b.words;
           homes = b.homes;
+          once = once_plain s.views id w (within s.views id _ at) b.once (λ n first. first);
         }))),
         refl,
       )
@@ -74,6 +76,7 @@ module _ {T C P : Type 0} where
           others = λ k v ne e. subst (λ n. IsPast (suc n) v) (sym r.2) (b.others k v (λ x. ne (x ∙ sym r.1)) (sym (set_else s.views id k w ne) ∙ e));
           words = ap (λ ws. slice_set ws 1 2) b.words;
           homes = ap (λ hs. homes_after hs (reopening_at {T = T} {C = C} {P = P} u).1 (chain gives (chain gives gives))) b.homes;
+          once = once_plain s.views id w (within s.views id _ at) b.once (λ n first. first);
         },
         refl,
       )

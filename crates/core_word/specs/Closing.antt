@@ -1,5 +1,5 @@
 -- What a home hands out when it is closed.
-use Rattle.std.specs.Prelude.{◌≡◌, ◌≢◌, ◌↔◌, ℕ, Bool, List, [], ◌∷◌, Option, Some, None}
+use Rattle.std.specs.Prelude.{◌≡◌, ◌≢◌, ◌↔◌, Bool, List, [], ◌∷◌, Option, Some, None}
 use mathlib.Core.Option as maybe
 use lib.ListN.{get_elem?}
 use Rattle.fan_base.specs.declared.outcome.Try.{Try}
@@ -10,6 +10,7 @@ use Rattle.atomic_table.specs.Table.{Final}
 use Rattle.core_word.specs.declared.view.Item.TheVariants as item
 use Rattle.core_word.specs.declared.close.Unspent.{Unspent}
 use Rattle.core_word.specs.Rule.{Held, StandsFor}
+use Rattle.core_word.specs.Ends.{SeenEnd}
 
 -- a state in which a callback waits, with the allowance to run inline or without it
 abbrev pub IsWaiting : State → Type 0
@@ -36,14 +37,14 @@ module _ {T C P : Type 0} where
   proxy_of (Some (item.Proxy k)) = Some k
 
   -- an end of a home by the core rule: the state and the number of attached halves, and what the slots hold
-  abbrev pub IsEnd : State → ℕ → List (Held T C P) → Type 0
-  IsEnd s attached slots = Final StandsFor (code_of s ∷ attached ∷ []) slots
+  abbrev pub IsEnd : SeenEnd T C P → Type 0
+  IsEnd end = Final StandsFor (code_of end.state ∷ end.attached ∷ []) end.slots
 
   -- A field has a value exactly where a half is attached, the state is the one in which such a value waits, and the slot of its kind held that value.
-  pub record HandsOut (slots : List (Held T C P)) (unspent : Unspent T C P) : Type 0 where
-    pub outcome : (r : Try T) → (unspent.outcome ≡ Some r) ↔ ((unspent.attached ≢ 0) × (unspent.state ≡ state.OnlyResult) × (get_elem? slots 0 ≡ maybe.some (Some (item.Outcome r))))
-    pub callback : (c : C) → (unspent.callback ≡ Some c) ↔ ((unspent.attached ≢ 0) × IsWaiting unspent.state × ((inline : Bool) × (get_elem? slots 1 ≡ maybe.some (Some (item.Callback record { callback = c; inline = inline })))))
-    pub proxy : (k : P) → (unspent.proxy ≡ Some k) ↔ ((unspent.attached ≢ 0) × (unspent.state ≡ state.Proxy) × (get_elem? slots 2 ≡ maybe.some (Some (item.Proxy k))))
+  pub record HandsOut (unspent : Unspent T C P) : Type 0 where
+    pub outcome : (r : Try T) → (unspent.outcome ≡ Some r) ↔ ((unspent.end.attached ≢ 0) × (unspent.end.state ≡ state.OnlyResult) × (get_elem? unspent.end.slots 0 ≡ maybe.some (Some (item.Outcome r))))
+    pub callback : (c : C) → (unspent.callback ≡ Some c) ↔ ((unspent.end.attached ≢ 0) × IsWaiting unspent.end.state × ((inline : Bool) × (get_elem? unspent.end.slots 1 ≡ maybe.some (Some (item.Callback record { callback = c; inline = inline })))))
+    pub proxy : (k : P) → (unspent.proxy ≡ Some k) ↔ ((unspent.end.attached ≢ 0) × (unspent.end.state ≡ state.Proxy) × (get_elem? unspent.end.slots 2 ≡ maybe.some (Some (item.Proxy k))))
 
   -- nothing is handed out
   pub record HasNothing (unspent : Unspent T C P) : Type 0 where
@@ -53,4 +54,4 @@ module _ {T C P : Type 0} where
 
   -- what a home hands out whose key was never taken
   abbrev pub NothingBegun : Unspent T C P → Type 0
-  NothingBegun unspent = (unspent.state ≡ state.Start) × (unspent.attached ≡ 2) × HasNothing unspent
+  NothingBegun unspent = (unspent.end.state ≡ state.Start) × (unspent.end.attached ≡ 2) × HasNothing unspent

@@ -4,5 +4,6 @@ pub mod Seen
 pub mod Views
 pub mod Rule
 pub mod Plays
+pub mod Ends
 pub mod Closing
 pub mod Answers

@@ -16,7 +16,7 @@ use Rattle.atomic_table.specs.declared.shared.Seat.{Seat}
 use Rattle.core_word.specs.declared.view.Item.TheVariants as item
 use Rattle.core_word.specs.declared.view.Departure.{Departure}
 use Rattle.core_word.specs.declared.view.Departure.TheVariants as departed
-use Rattle.core_word.specs.declared.view.Sight.{Sight}
+use Rattle.core_word.specs.declared.view.Learned.{Learned}
 use Rattle.core_word.specs.declared.view.Sight.TheVariants as seen
 use Rattle.core_word.specs.declared.view.ProducerSlot.{ProducerSlot}
 use Rattle.core_word.specs.declared.view.ProducerSlot.TheVariants as slot
@@ -25,7 +25,7 @@ use Rattle.core_word.specs.declared.view.ProducerPhase.TheVariants as producer
 use Rattle.core_word.specs.declared.view.ConsumerPhase.TheVariants as consumer
 use Rattle.core_word.specs.declared.view.View.{View}
 use Rattle.core_word.specs.declared.view.View.TheVariants as view
-use Rattle.core_word.specs.Views.{use_of, sight_of, IsAwaited, offer_of, demand_got, demand_of, offer_got, Knows}
+use Rattle.core_word.specs.Views.{use_of, learned_of, unlooked, with_callback, IsAwaited, offer_of, demand_got, demand_of, offer_got, Knows}
 use Rattle.core_word.specs.Rule.{Held, IsSet, Fit}
 
 -- where a seat stands
@@ -47,6 +47,20 @@ found_by_consumer offered.Nothing = state.Start
 found_by_consumer (offered.Result r) = state.OnlyResult
 found_by_consumer (offered.Proxy k) = state.Proxy
 
+-- a look that found no callback, and one that found whether the consumer has left
+abbrev pub none_seen : Learned → Learned
+none_seen learned = record { sight = seen.NoCallback; looks = suc learned.looks }
+
+abbrev pub leave_seen : Learned → Learned
+leave_seen learned = record { sight = seen.CallbackLeft; looks = suc learned.looks }
+
+abbrev pub stay_seen : Learned → Learned
+stay_seen learned = record { sight = seen.Callback; looks = suc learned.looks }
+
+-- half a look: it found that a callback is set
+abbrev pub callback_seen : Learned → Learned
+callback_seen learned = record { sight = with_callback learned.sight; looks = learned.looks }
+
 -- a word in which a producer that hasn't acted may find the state: Start, or that of a callback that waits
 abbrev pub FindsStartOrWaiting : ℕ → Type 0
 FindsStartOrWaiting found = (found ≡ code_of state.Start) ⊎ ((a : Bool) × (found ≡ code_of (waiting_state a)))
@@ -55,14 +69,14 @@ module _ {T C P : Type 0} where
   abbrev pub key_at : ℕ → Standing T C P
   key_at number = (view.Key number, [])
 
-  abbrev pub producer_ready : ℕ → Sight → Standing T C P
-  producer_ready number sight = (view.Producer number producer.Ready sight, [])
+  abbrev pub producer_ready : ℕ → Learned → Standing T C P
+  producer_ready number learned = (view.Producer number producer.Ready learned, [])
 
-  abbrev pub producer_holding : ℕ → Sight → ProducerSlot → Held T C P → Standing T C P
-  producer_holding number sight o held = (view.Producer number (producer.Holding o) sight, (slot_of o, held) ∷ [])
+  abbrev pub producer_holding : ℕ → Learned → ProducerSlot → Held T C P → Standing T C P
+  producer_holding number learned o held = (view.Producer number (producer.Holding o) learned, (slot_of o, held) ∷ [])
 
-  abbrev pub producer_aware : ℕ → Sight → ProducerSlot → Bool → Held T C P → Standing T C P
-  producer_aware number sight o a held = (view.Producer number (producer.Aware o a) sight, (slot_of o, held) ∷ [])
+  abbrev pub producer_aware : ℕ → Learned → ProducerSlot → Bool → Held T C P → Standing T C P
+  producer_aware number learned o a held = (view.Producer number (producer.Aware o a) learned, (slot_of o, held) ∷ [])
 
   -- A producer that found nothing has no slot. One that found a callback has two, and has emptied them.
   abbrev pub producer_slots : Offer (Try T) P → Demand C → List (ℕ × Held T C P)
@@ -71,8 +85,8 @@ module _ {T C P : Type 0} where
   producer_slots (offered.Result r) (demanded.Callback c) = (0, None) ∷ (1, None) ∷ []
   producer_slots (offered.Proxy k) (demanded.Callback c) = (2, None) ∷ (1, None) ∷ []
 
-  abbrev pub producer_acted : ℕ → Sight → Offer (Try T) P → Demand C → Standing T C P
-  producer_acted number sight offer got = (view.Producer number (producer.Acted offer got departed.No) sight, producer_slots offer got)
+  abbrev pub producer_acted : ℕ → Learned → Offer (Try T) P → Demand C → Standing T C P
+  producer_acted number learned offer got = (view.Producer number (producer.Acted offer got departed.No) learned, producer_slots offer got)
 
   abbrev pub consumer_ready : ℕ → Standing T C P
   consumer_ready number = (view.Consumer number consumer.Ready, [])
@@ -110,37 +124,39 @@ module _ {T C P : Type 0} where
 
   -- a producer takes the slot of what it is about to set, which is empty
   abbrev pub takes_producer_slot : ProducerSlot → Standing T C P → ℕ → Standing T C P → Type 0
-  takes_producer_slot o before found after = after ≡ producer_holding (use_of before.0) (sight_of before.0) o None
+  takes_producer_slot o before found after = after ≡ producer_holding (use_of before.0) (learned_of before.0) o None
 
   abbrev pub takes_callback_slot : Standing T C P → ℕ → Standing T C P → Type 0
   takes_callback_slot before found after = after ≡ consumer_holding (use_of before.0) None
 
-  -- A producer's look at the state. A callback is set, or not yet.
+  -- A producer's look at the state. A callback is set, or not yet. One that had seen a callback finds one.
   abbrev pub looks_for_callback : Standing T C P → ℕ → Standing T C P → Type 0
   looks_for_callback before found after =
-      (found ≡ code_of state.Start → after ≡ producer_ready (use_of before.0) seen.NoCallback)
-      × (found ≢ code_of state.Start → after ≡ producer_ready (use_of before.0) seen.Callback)
+      (found ≡ code_of state.Start → after ≡ producer_ready (use_of before.0) (none_seen (learned_of before.0)))
+      × (found ≢ code_of state.Start → after ≡ producer_ready (use_of before.0) (callback_seen (learned_of before.0)))
+      × (IsAwaited (learned_of before.0).sight → found ≢ code_of state.Start)
 
-  -- The look at the count of a producer that has seen a callback. The consumer has left, or not yet.
+  -- The look at the count of a producer that has seen a callback. The consumer has left, or not yet. One that had seen it leave finds one half attached.
   abbrev pub looks_for_leave : Standing T C P → ℕ → Standing T C P → Type 0
   looks_for_leave before found after =
-      (found ≡ 1 → after ≡ producer_ready (use_of before.0) seen.CallbackLeft)
-      × (found ≢ 1 → after ≡ producer_ready (use_of before.0) seen.Callback)
+      (found ≡ 1 → after ≡ producer_ready (use_of before.0) (leave_seen (learned_of before.0)))
+      × (found ≢ 1 → after ≡ producer_ready (use_of before.0) (stay_seen (learned_of before.0)))
+      × ((learned_of before.0).sight ≡ seen.CallbackLeft → found ≡ 1)
 
   -- A producer's exchange from Start. It sets what its slot holds, or sees that a callback waits, and whether it was set with the allowance. One that had seen a callback doesn't find Start.
   abbrev pub tries_first : ProducerSlot → Standing T C P → ℕ → Standing T C P → Type 0
   tries_first o before found after =
-      (found ≡ code_of state.Start → after ≡ producer_acted (use_of before.0) (sight_of before.0) (offer_in_hand before.1) demanded.Nothing)
-      × ((a : Bool) → found ≡ code_of (waiting_state a) → after ≡ (view.Producer (use_of before.0) (producer.Aware o a) (sight_of before.0), before.1))
+      (found ≡ code_of state.Start → after ≡ producer_acted (use_of before.0) (learned_of before.0) (offer_in_hand before.1) demanded.Nothing)
+      × ((a : Bool) → found ≡ code_of (waiting_state a) → after ≡ (view.Producer (use_of before.0) (producer.Aware o a) (learned_of before.0), before.1))
       × FindsStartOrWaiting found
 
   abbrev pub sets_first : ProducerSlot → Standing T C P → ℕ → Standing T C P → Type 0
-  sets_first o before found after = tries_first o before found after × (IsAwaited (sight_of before.0) → found ≢ code_of state.Start)
+  sets_first o before found after = tries_first o before found after × (IsAwaited (learned_of before.0).sight → found ≢ code_of state.Start)
 
   -- A producer's exchange from the state of a callback that waits. It sets what its slot holds, and takes the callback.
   abbrev pub sets_second : Standing T C P → ℕ → Standing T C P → Type 0
   sets_second before found after =
-      (c : Request C) × (after ≡ (view.Producer (use_of before.0) (producer.Acted (offer_in_hand before.1) (demanded.Callback c) departed.No) (sight_of before.0), (1, Some (item.Callback c)) ∷ before.1))
+      (c : Request C) × (after ≡ (view.Producer (use_of before.0) (producer.Acted (offer_in_hand before.1) (demanded.Callback c) departed.No) (learned_of before.0), (1, Some (item.Callback c)) ∷ before.1))
 
   -- A consumer's exchange from Start. It sets the callback, or sees what the producer has set.
   abbrev pub demands_first : Standing T C P → ℕ → Standing T C P → Type 0
@@ -161,7 +177,7 @@ module _ {T C P : Type 0} where
 
   abbrev pub leaving : Departure → View T C P → View T C P
   leaving left (view.Key number) = view.Key number
-  leaving left (view.Producer number p sight) = view.Producer number (producer.Acted (offer_of p) (demand_got p) left) sight
+  leaving left (view.Producer number p learned) = view.Producer number (producer.Acted (offer_of p) (demand_got p) left) learned
   leaving left (view.Consumer number c) = view.Consumer number (consumer.Acted (demand_of c) (offer_got c) left)
   leaving left (view.Husk number offer demand) = view.Husk number offer demand
   leaving left (view.Reopening number) = view.Reopening number
@@ -177,7 +193,7 @@ module _ {T C P : Type 0} where
 
   -- Besides, a producer that had seen its consumer leave finds one.
   abbrev pub leaves : Standing T C P → ℕ → Standing T C P → Type 0
-  leaves before found after = departs before found after × (sight_of before.0 ≡ seen.CallbackLeft → found ≡ 1)
+  leaves before found after = departs before found after × ((learned_of before.0).sight ≡ seen.CallbackLeft → found ≡ 1)
 
   abbrev pub result_left : Offer (Try T) P → Held T C P
   result_left offered.Nothing = None
@@ -196,8 +212,8 @@ module _ {T C P : Type 0} where
       × (after ≡ (view.Husk (use_of before.0) offer demand, (2, proxy_left (leftover_from offer demand)) ∷ (1, None) ∷ (0, result_left (leftover_from offer demand)) ∷ []))
 
   abbrev pub begin_producer : View T C P → View T C P
-  begin_producer (view.Key number) = view.Producer number producer.Ready seen.Unseen
-  begin_producer (view.Producer number p sight) = view.Producer number p sight
+  begin_producer (view.Key number) = view.Producer number producer.Ready unlooked
+  begin_producer (view.Producer number p learned) = view.Producer number p learned
   begin_producer (view.Consumer number c) = view.Consumer number c
   begin_producer (view.Husk number offer demand) = view.Husk number offer demand
   begin_producer (view.Reopening number) = view.Reopening number
@@ -207,7 +223,7 @@ module _ {T C P : Type 0} where
 
   abbrev pub begin_consumer : View T C P → View T C P
   begin_consumer (view.Key number) = view.Consumer number consumer.Ready
-  begin_consumer (view.Producer number p sight) = view.Producer number p sight
+  begin_consumer (view.Producer number p learned) = view.Producer number p learned
   begin_consumer (view.Consumer number c) = view.Consumer number c
   begin_consumer (view.Husk number offer demand) = view.Husk number offer demand
   begin_consumer (view.Reopening number) = view.Reopening number
@@ -218,13 +234,13 @@ module _ {T C P : Type 0} where
   -- a half that may leave: a producer that has acted, or a consumer that has acted or gives up
   abbrev pub IsLeaving : Standing T C P → Type 0
   IsLeaving standing =
-      ((number : ℕ) × (sight : Sight) × (offer : Offer (Try T) P) × (got : Demand C) × IsSet offer × (standing ≡ producer_acted number sight offer got))
+      ((number : ℕ) × (learned : Learned) × (offer : Offer (Try T) P) × (got : Demand C) × IsSet offer × (standing ≡ producer_acted number learned offer got))
       ⊎ ((number : ℕ) × (demand : Demand C) × (got : Offer (Try T) P) × (standing ≡ consumer_acted number demand got))
 
   -- a half that was the last to leave
   abbrev pub IsLast : View T C P → Type 0
   IsLast v =
-      ((number : ℕ) × (sight : Sight) × (offer : Offer (Try T) P) × (got : Demand C) × (v ≡ view.Producer number (producer.Acted offer got departed.Last) sight))
+      ((number : ℕ) × (learned : Learned) × (offer : Offer (Try T) P) × (got : Demand C) × (v ≡ view.Producer number (producer.Acted offer got departed.Last) learned))
       ⊎ ((number : ℕ) × (demand : Demand C) × (got : Offer (Try T) P) × (v ≡ view.Consumer number (consumer.Acted demand got departed.Last)))
 
   -- a last leaver that has emptied all slots
@@ -246,7 +262,7 @@ module _ {T C P : Type 0} where
   -- a producer's seat with a consumer's put into it
   abbrev pub with_consumer : ℕ → ProducerPhase T C P → View T C P → View T C P
   with_consumer number p (view.Key n) = view.Clash
-  with_consumer number p (view.Producer n q sight) = view.Clash
+  with_consumer number p (view.Producer n q learned) = view.Clash
   with_consumer number p (view.Consumer n c) = view.Joined number p c
   with_consumer number p (view.Husk n offer demand) = view.Clash
   with_consumer number p (view.Reopening n) = view.Clash
@@ -256,7 +272,7 @@ module _ {T C P : Type 0} where
 
   abbrev pub both_halves : View T C P → View T C P → View T C P
   both_halves (view.Key n) v = view.Clash
-  both_halves (view.Producer n p sight) v = with_consumer n p v
+  both_halves (view.Producer n p learned) v = with_consumer n p v
   both_halves (view.Consumer n c) v = view.Clash
   both_halves (view.Husk n offer demand) v = view.Clash
   both_halves (view.Reopening n) v = view.Clash
@@ -267,7 +283,7 @@ module _ {T C P : Type 0} where
   -- A look of a seat that has both halves: they fit.
   abbrev pub HalvesFit : View T C P → Type 0
   HalvesFit (view.Key n) = ⊥
-  HalvesFit (view.Producer n p sight) = ⊥
+  HalvesFit (view.Producer n p learned) = ⊥
   HalvesFit (view.Consumer n c) = ⊥
   HalvesFit (view.Husk n offer demand) = ⊥
   HalvesFit (view.Reopening n) = ⊥

@@ -18,6 +18,7 @@ use Rattle.core_word.specs.declared.view.Departure.{Departure}
 use Rattle.core_word.specs.declared.view.Departure.TheVariants as departed
 use Rattle.core_word.specs.declared.view.Sight.{Sight}
 use Rattle.core_word.specs.declared.view.Sight.TheVariants as seen
+use Rattle.core_word.specs.declared.view.Learned.{Learned}
 use Rattle.core_word.specs.declared.view.ProducerPhase.{ProducerPhase}
 use Rattle.core_word.specs.declared.view.ProducerPhase.TheVariants as producer
 use Rattle.core_word.specs.declared.view.ConsumerPhase.{ConsumerPhase}
@@ -145,7 +146,7 @@ module _ {T C P : Type 0} where
   -- A view of a use below this number: the half was the first to leave it. Or a seat that was put into another.
   abbrev pub IsPast : ℕ → View T C P → Type 0
   IsPast number (view.Key n) = ⊥
-  IsPast number (view.Producer n p sight) = (n < number) × (producer_left p ≡ departed.First)
+  IsPast number (view.Producer n p learned) = (n < number) × (producer_left p ≡ departed.First)
   IsPast number (view.Consumer n c) = (n < number) × (consumer_left c ≡ departed.First)
   IsPast number (view.Husk n offer demand) = ⊥
   IsPast number (view.Reopening n) = ⊥
@@ -156,13 +157,17 @@ module _ {T C P : Type 0} where
   -- the view of the half that was the first to leave this use
   abbrev pub IsFirstOf : ℕ → View T C P → Type 0
   IsFirstOf number (view.Key n) = ⊥
-  IsFirstOf number (view.Producer n p sight) = (n ≡ number) × (producer_left p ≡ departed.First)
+  IsFirstOf number (view.Producer n p learned) = (n ≡ number) × (producer_left p ≡ departed.First)
   IsFirstOf number (view.Consumer n c) = (n ≡ number) × (consumer_left c ≡ departed.First)
   IsFirstOf number (view.Husk n offer demand) = ⊥
   IsFirstOf number (view.Reopening n) = ⊥
   IsFirstOf number (view.Joined n p c) = ⊥
   IsFirstOf number view.Spent = ⊥
   IsFirstOf number view.Clash = ⊥
+
+  -- Of each use one seat at most has the view of a half that was the first to leave it.
+  abbrev pub OneFirst : List (View T C P) → Type 0
+  OneFirst views = (number j k : ℕ) (v w : View T C P) → get_elem? views j ≡ maybe.some v → get_elem? views k ≡ maybe.some w → IsFirstOf number v → IsFirstOf number w → j ≡ k
 
   -- Nobody has begun the greatest use: one seat has its key. All slots are at home and empty.
   pub record Unbegun (s : TableState T C P) : Type 0 where
@@ -172,6 +177,7 @@ module _ {T C P : Type 0} where
     pub others : (k : ℕ) (v : View T C P) → k ≢ seat → get_elem? s.views k ≡ maybe.some v → IsPast number v
     pub words : s.words ≡ code_of state.Start ∷ 2 ∷ []
     pub homes : s.homes ≡ maybe.some None ∷ maybe.some None ∷ maybe.some None ∷ []
+    pub once : OneFirst s.views
 
   -- One producer and one consumer have the greatest use, and decide what the words and the slots are.
   pub record Begun (s : TableState T C P) : Type 0 where
@@ -180,15 +186,16 @@ module _ {T C P : Type 0} where
     pub apart : producer ≢ consumer
     pub number : ℕ
     pub p : ProducerPhase T C P
-    pub sight : Sight
+    pub learned : Learned
     pub c : ConsumerPhase T C P
-    pub at_p : get_elem? s.views producer ≡ maybe.some (view.Producer number p sight)
+    pub at_p : get_elem? s.views producer ≡ maybe.some (view.Producer number p learned)
     pub at_c : get_elem? s.views consumer ≡ maybe.some (view.Consumer number c)
     pub others : (k : ℕ) (v : View T C P) → k ≢ producer → k ≢ consumer → get_elem? s.views k ≡ maybe.some v → IsPast number v
     pub words : s.words ≡ words_of p c
     pub homes : s.homes ≡ homes_of p c
     pub fit : Fit p c
-    pub sees : SightFits sight c
+    pub sees : SightFits learned.sight c
+    pub once : OneFirst s.views
 
   -- Both have left the greatest use. The last leaver has read the state, so it knows what both have set, and has all slots. The first leaver's view still tells its act.
   pub record Over (s : TableState T C P) : Type 0 where
@@ -207,6 +214,7 @@ module _ {T C P : Type 0} where
     pub others : (k : ℕ) (v : View T C P) → k ≢ last → k ≢ first → get_elem? s.views k ≡ maybe.some v → IsPast number v
     pub words : s.words ≡ code_of (state_from offer demand) ∷ 0 ∷ []
     pub homes : s.homes ≡ maybe.none ∷ maybe.none ∷ maybe.none ∷ []
+    pub once : OneFirst s.views
 
   -- The last leaver has set the state back to Start, and attaches nobody yet. It has all slots.
   pub record Reopening (s : TableState T C P) : Type 0 where
@@ -216,6 +224,7 @@ module _ {T C P : Type 0} where
     pub others : (k : ℕ) (v : View T C P) → k ≢ seat → get_elem? s.views k ≡ maybe.some v → IsPast (suc number) v
     pub words : s.words ≡ code_of state.Start ∷ 0 ∷ []
     pub homes : s.homes ≡ maybe.none ∷ maybe.none ∷ maybe.none ∷ []
+    pub once : OneFirst s.views
 
   -- One seat has both halves of the greatest use. It stands so for the law over both alone: such a home is used no more.
   pub record Joined (s : TableState T C P) : Type 0 where
@@ -228,6 +237,7 @@ module _ {T C P : Type 0} where
     pub words : s.words ≡ words_of p c
     pub homes : s.homes ≡ homes_of p c
     pub fit : Fit p c
+    pub once : OneFirst s.views
 
   abbrev pub StandsFor : TableState T C P → Type 0
   StandsFor s = Unbegun s ⊎ (Begun s ⊎ (Over s ⊎ (Reopening s ⊎ Joined s)))

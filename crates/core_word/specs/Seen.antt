@@ -30,12 +30,13 @@ home_coded = table_id_coded
 abbrev pub key_coded : Coded SeenKey
 key_coded = coded_via (coded× home_coded coded_ℕ) (λ (key : SeenKey). (key.home, key.use_number)) (λ x y e i. record { home = (e i).0; use_number = (e i).1 })
 
--- a producer that hasn't acted: its home, the number of the use, the core's number, and what it has learned of its consumer
+-- A producer that hasn't acted: its home, the number of the use, the core's number, what it has learned of its consumer, and how many looks it has made.
 pub record SeenProducer : Type 0 where
   pub home : HomeId
   pub use_number : ℕ
   pub no : ℕ
   pub sight : Sight
+  pub looks : ℕ
 
 -- a consumer that hasn't acted: its home, the number of the use, and the core's number
 pub record SeenConsumer : Type 0 where

@@ -11,6 +11,7 @@ use Rattle.core_word.specs.declared.view.Departure.{Departure}
 use Rattle.core_word.specs.declared.view.Departure.TheVariants as departed
 use Rattle.core_word.specs.declared.view.Sight.{Sight}
 use Rattle.core_word.specs.declared.view.Sight.TheVariants as seen
+use Rattle.core_word.specs.declared.view.Learned.{Learned}
 use Rattle.core_word.specs.declared.view.ProducerSlot.TheVariants as slot
 use Rattle.core_word.specs.declared.view.ProducerPhase.{ProducerPhase}
 use Rattle.core_word.specs.declared.view.ProducerPhase.TheVariants as producer
@@ -42,6 +43,24 @@ IsAwaited seen.Unseen = ⊥
 IsAwaited seen.NoCallback = ⊥
 IsAwaited seen.Callback = Unit {0}
 IsAwaited seen.CallbackLeft = Unit {0}
+
+-- What a producer knew of its consumer, it knows still: a callback stays set, and a consumer that has left stays away.
+abbrev pub KnowsStill : Sight → Sight → Type 0
+KnowsStill seen.Unseen after = Unit {0}
+KnowsStill seen.NoCallback after = Unit {0}
+KnowsStill seen.Callback after = IsAwaited after
+KnowsStill seen.CallbackLeft after = after ≡ seen.CallbackLeft
+
+-- a producer that has seen that a callback is set, and what it knew before
+abbrev pub with_callback : Sight → Sight
+with_callback seen.Unseen = seen.Callback
+with_callback seen.NoCallback = seen.Callback
+with_callback seen.Callback = seen.Callback
+with_callback seen.CallbackLeft = seen.CallbackLeft
+
+-- a producer that hasn't looked
+abbrev pub unlooked : Learned
+unlooked = record { sight = seen.Unseen; looks = 0 }
 
 -- what a half got is what the other half set
 abbrev pub GotDemand : {C : Type 0} → Demand C → Demand C → Type 0
@@ -151,7 +170,7 @@ module _ {T C P : Type 0} where
   -- the use of the home to which a view belongs
   abbrev pub use_of : View T C P → ℕ
   use_of (view.Key number) = number
-  use_of (view.Producer number phase sight) = number
+  use_of (view.Producer number phase learned) = number
   use_of (view.Consumer number phase) = number
   use_of (view.Husk number offer demand) = number
   use_of (view.Reopening number) = number
@@ -159,21 +178,21 @@ module _ {T C P : Type 0} where
   use_of view.Spent = 0
   use_of view.Clash = 0
 
-  -- what a producer has learned of its consumer
-  abbrev pub sight_of : View T C P → Sight
-  sight_of (view.Key number) = seen.Unseen
-  sight_of (view.Producer number p sight) = sight
-  sight_of (view.Consumer number c) = seen.Unseen
-  sight_of (view.Husk number offer demand) = seen.Unseen
-  sight_of (view.Reopening number) = seen.Unseen
-  sight_of (view.Joined number p c) = seen.Unseen
-  sight_of view.Spent = seen.Unseen
-  sight_of view.Clash = seen.Unseen
+  -- what a producer has learned of its consumer, and by how many looks
+  abbrev pub learned_of : View T C P → Learned
+  learned_of (view.Key number) = unlooked
+  learned_of (view.Producer number p learned) = learned
+  learned_of (view.Consumer number c) = unlooked
+  learned_of (view.Husk number offer demand) = unlooked
+  learned_of (view.Reopening number) = unlooked
+  learned_of (view.Joined number p c) = unlooked
+  learned_of view.Spent = unlooked
+  learned_of view.Clash = unlooked
 
   -- How many halves the leave of a half found attached. A view comes to First only by a count that was above 1, and to Last only by a count of 1.
   abbrev pub count_found : View T C P → ℕ
   count_found (view.Key number) = 0
-  count_found (view.Producer number p sight) = count_at_leave (producer_left p)
+  count_found (view.Producer number p learned) = count_at_leave (producer_left p)
   count_found (view.Consumer number c) = count_at_leave (consumer_left c)
   count_found (view.Husk number offer demand) = 1
   count_found (view.Reopening number) = 0
@@ -184,7 +203,7 @@ module _ {T C P : Type 0} where
   -- the view of this half, which was the first to leave
   abbrev pub IsFirstLeave : Half → View T C P → Type 0
   IsFirstLeave half.Producer (view.Key number) = ⊥
-  IsFirstLeave half.Producer (view.Producer number p sight) = producer_left p ≡ departed.First
+  IsFirstLeave half.Producer (view.Producer number p learned) = producer_left p ≡ departed.First
   IsFirstLeave half.Producer (view.Consumer number c) = ⊥
   IsFirstLeave half.Producer (view.Husk number offer demand) = ⊥
   IsFirstLeave half.Producer (view.Reopening number) = ⊥
@@ -192,7 +211,7 @@ module _ {T C P : Type 0} where
   IsFirstLeave half.Producer view.Spent = ⊥
   IsFirstLeave half.Producer view.Clash = ⊥
   IsFirstLeave half.Consumer (view.Key number) = ⊥
-  IsFirstLeave half.Consumer (view.Producer number p sight) = ⊥
+  IsFirstLeave half.Consumer (view.Producer number p learned) = ⊥
   IsFirstLeave half.Consumer (view.Consumer number c) = consumer_left c ≡ departed.First
   IsFirstLeave half.Consumer (view.Husk number offer demand) = ⊥
   IsFirstLeave half.Consumer (view.Reopening number) = ⊥
@@ -203,7 +222,7 @@ module _ {T C P : Type 0} where
   -- what the producer has set, and what the consumer has set, as far as a half knows
   abbrev pub offer_in_view : View T C P → Offer (Try T) P
   offer_in_view (view.Key number) = offered.Nothing
-  offer_in_view (view.Producer number p sight) = offer_of p
+  offer_in_view (view.Producer number p learned) = offer_of p
   offer_in_view (view.Consumer number c) = offer_got c
   offer_in_view (view.Husk number offer demand) = offer
   offer_in_view (view.Reopening number) = offered.Nothing
@@ -213,7 +232,7 @@ module _ {T C P : Type 0} where
 
   abbrev pub demand_in_view : View T C P → Demand C
   demand_in_view (view.Key number) = demanded.Nothing
-  demand_in_view (view.Producer number p sight) = demand_got p
+  demand_in_view (view.Producer number p learned) = demand_got p
   demand_in_view (view.Consumer number c) = demand_of c
   demand_in_view (view.Husk number offer demand) = demand
   demand_in_view (view.Reopening number) = demanded.Nothing
@@ -224,7 +243,7 @@ module _ {T C P : Type 0} where
   -- what both halves have set, by what one of them knows
   abbrev pub Knows : View T C P → Offer (Try T) P → Demand C → Type 0
   Knows (view.Key number) offer demand = ⊥
-  Knows (view.Producer number p sight) offer demand = (offer ≡ offer_of p) × GotDemand (demand_got p) demand
+  Knows (view.Producer number p learned) offer demand = (offer ≡ offer_of p) × GotDemand (demand_got p) demand
   Knows (view.Consumer number c) offer demand = (demand ≡ demand_of c) × GotOffer (offer_got c) offer
   Knows (view.Husk number o k) offer demand = ⊥
   Knows (view.Reopening number) offer demand = ⊥

@@ -140,7 +140,8 @@ impl<'h, T, C, P> Model for LeftC<'h, T, C, P> {
 }
 
 impl<'h, T, C, P> LeftC<'h, T, C, P> {
-    /// Leaves the core. The later of the two halves gets the husk, with what is left over.
+    /// Leaves the core. The later of the two halves gets the husk, with what is left over: the result or the proxy where
+    /// this consumer gave up, else nothing.
     pub fn leave(self) -> Left<'h, T, C, P>
         ensures home { MatchLeft result (λ receipt. receipt.home ≡ self.entry.home) (λ leftover husk. husk.home ≡ self.entry.home) }
         ensures use_number { MatchLeft result (λ receipt. receipt.use_number ≡ self.entry.use_number) (λ leftover husk. husk.use_number ≡ self.entry.use_number) }
@@ -154,7 +155,7 @@ impl<'h, T, C, P> LeftC<'h, T, C, P> {
             no: _,
         } = self;
         if !steps::leave(table, &mut seat) {
-            return Left::First(Receipt::new(Half::Consumer, seat));
+            return Left::First(Receipt::new(table, Half::Consumer, seat));
         }
         let leftover = steps::read_end(table, &mut seat);
         Left::Last(leftover, Husk::new(table, seat))

@@ -56,7 +56,7 @@ impl<T, C> Fire<T, C> {
         self.inline
     }
 
-    /// The core's number, the result and the callback.
+    /// The core's number, the result and the callback. Raises `handed`.
     pub fn unpack(self, t: &mut Tally) -> (u64, Try<T>, C)
         ensures parts { result ≡ (self.no, self.outcome, self.callback) }
         ensures tally { t.new ≡ record t.old { handed = raised t.old.handed } }
@@ -107,7 +107,7 @@ impl<C, P> Forward<C, P> {
         self.inline
     }
 
-    /// The callback and the proxy.
+    /// The callback and the proxy. Raises `forwarded`.
     pub fn unpack(self, t: &mut Tally) -> (C, P)
         ensures parts { result ≡ (self.callback, self.proxy) }
         ensures tally { t.new ≡ record t.old { forwarded = raised t.old.forwarded } }

@@ -51,7 +51,7 @@ impl<T, C, P> Home<T, C, P> {
         }
     }
 
-    /// The key of the home's first use. It comes once.
+    /// The key of the home's first use. It comes once: None exactly where it was taken before.
     pub fn key<'h>(&'h mut self) -> Option<Key<'h, T, C, P>>
         ensures none { IsNone result ↔ (self.old.taken ≡ true) }
         ensures key { IfSome result (λ key. (key.home ≡ self.old.home) × (key.use_number ≡ 0)) }
@@ -63,23 +63,25 @@ impl<T, C, P> Home<T, C, P> {
         })
     }
 
-    /// Gives the memory back, and hands out what waits in the slots by the state: a result, a callback or a proxy that
-    /// was set, that nobody got, and that the last leaver didn't take. A half can be left over only where its owner
-    /// forgot it, as with a proxy that lies in a slot.
+    /// Ends the home, and hands out what waits in its slots by the state, where a half is still attached: the result in
+    /// OnlyResult, the callback in OnlyCallback and OnlyCallbackAllowInline, the proxy in Proxy, and else nothing. A half
+    /// can be left over only where its owner forgot it, as with a proxy that lies in a slot. The memory is given back
+    /// where the answer's `end` is dropped.
     pub fn close(self) -> Unspent<T, C, P>
         ensures untaken { self.taken ≡ false → NothingBegun result }
-        ensures ended { (slots : List (Held T C P)) × IsEnd result.state result.attached slots × HandsOut slots result }
-        ensures spent { result.attached ≡ 0 → HasNothing result }
-        ensures outcome { result.attached ≢ 0 → result.state ≡ State.OnlyResult → IsSome result.outcome }
-        ensures callback { (inline : Bool) → result.attached ≢ 0 → result.state ≡ waiting_state inline → IsSome result.callback }
-        ensures proxy { result.attached ≢ 0 → result.state ≡ State.Proxy → IsSome result.proxy }
+        ensures ended { IsEnd result.end }
+        ensures items { HandsOut result }
+        ensures spent { result.end.attached ≡ 0 → HasNothing result }
+        ensures outcome { result.end.attached ≢ 0 → result.end.state ≡ State.OnlyResult → IsSome result.outcome }
+        ensures callback { (inline : Bool) → result.end.attached ≢ 0 → result.end.state ≡ waiting_state inline → IsSome result.callback }
+        ensures proxy { result.end.attached ≢ 0 → result.end.state ≡ State.Proxy → IsSome result.proxy }
     {
         let Home { table, key } = self;
         Unspent::of_closed(close::closed(table, key))
     }
 }
 
-/// The right to begin a use of a home. It may be dropped.
+/// The right to begin a use of a home. It may be dropped; then the home is used no more. Uses are numbered from 0.
 pub struct Key<'h, T, C, P> {
     table: &'h CoreTable<T, C, P>,
     seat: CoreSeat<T, C, P>,
@@ -109,9 +111,9 @@ impl<'h, T, C, P> Key<'h, T, C, P> {
         Key { table, seat }
     }
 
-    /// Begins a core with this number, in Start, with both halves attached.
+    /// Begins a core with this number, which may be any, in Start, with both halves attached. Raises `made`.
     pub fn start(self, no: u64, t: &mut Tally) -> (Producer<'h, T, C, P>, Consumer<'h, T, C, P>)
-        ensures producer { result.0 ≡ record { home = self.entry.home; use_number = self.entry.use_number; no = no; sight = Sight.Unseen } }
+        ensures producer { result.0 ≡ record { home = self.entry.home; use_number = self.entry.use_number; no = no; sight = Sight.Unseen; looks = 0 } }
         ensures consumer { result.1 ≡ record { home = self.entry.home; use_number = self.entry.use_number; no = no } }
         ensures tally { t.new ≡ record t.old { made = raised t.old.made } }
     {

@@ -24,42 +24,71 @@ pub enum Leftover<T, P> {
 /// What a leave answers.
 pub enum Left<'h, T, C, P> {
     /// The other half was still attached.
-    First(Receipt<T, C, P>),
+    First(Receipt<'h, T, C, P>),
     /// The other half had left. The husk must be spent.
     Last(Leftover<T, P>, Husk<'h, T, C, P>),
 }
 
-/// Shows that a half has left its core while the other half was attached. It may be dropped.
-pub struct Receipt<T, C, P> {
+/// Shows that a half has left its core while the other half was attached: its leave found 2. It may be dropped.
+pub struct Receipt<'h, T, C, P> {
+    table: &'h CoreTable<T, C, P>,
     half: Half,
     seat: CoreSeat<T, C, P>,
 }
 
-impl<T, C, P> Model for Receipt<T, C, P> {
+impl<'h, T, C, P> Model for Receipt<'h, T, C, P> {
+    ghost use Rattle.std.specs.Prelude.{◌≡◌, []};
     ghost use Rattle.core_word.specs.Seen.{SeenReceipt};
     ghost use Rattle.core_word.specs.Views.{use_of, count_found, offer_in_view, demand_in_view, IsFirstLeave};
+    ghost use Rattle.core_word.specs.Plays.{IsHome};
 
     ghost Value = { SeenReceipt T C P };
 
-    ghost view = { λ r. record { home = r.seat.table_id; use_number = use_of r.seat.me.0; half = r.half; count_found = count_found r.seat.me.0; offer = offer_in_view r.seat.me.0; demand = demand_in_view r.seat.me.0 } };
+    ghost view = { λ r. record { home = r.table.now.table_id; use_number = use_of r.seat.me.0; half = r.half; count_found = count_found r.seat.me.0; offer = offer_in_view r.seat.me.0; demand = demand_in_view r.seat.me.0 } };
 
-    ghost invariant = { λ r. IsFirstLeave r.half r.seat.me.0 };
+    ghost invariant = { λ r. IsHome r.table.now.table_id × (r.seat.table_id ≡ r.table.now.table_id) × (r.seat.me.1 ≡ []) × IsFirstLeave r.half r.seat.me.0 };
 }
 
-impl<T, C, P> Receipt<T, C, P> {
+impl<'h, T, C, P> Receipt<'h, T, C, P> {
+    ghost use Rattle.std.specs.Prelude.{[]};
     ghost use Rattle.core_word.specs.Views.{use_of, offer_in_view, demand_in_view, IsFirstLeave};
+    ghost use Rattle.core_word.specs.Plays.{IsHome};
 
-    pub(crate) fn new(half: Half, seat: CoreSeat<T, C, P>) -> Receipt<T, C, P>
-        requires { IsFirstLeave half seat.me.0 }
-        ensures { result ≡ record { home = seat.table_id; use_number = use_of seat.me.0; half = half; count_found = 2; offer = offer_in_view seat.me.0; demand = demand_in_view seat.me.0 } }
+    pub(crate) fn new(
+        table: &'h CoreTable<T, C, P>,
+        half: Half,
+        seat: CoreSeat<T, C, P>,
+    ) -> Receipt<'h, T, C, P>
+        requires home { IsHome table.now.table_id }
+        requires sits { (seat.table_id ≡ table.now.table_id) × (seat.me.1 ≡ []) }
+        requires first { IsFirstLeave half seat.me.0 }
+        ensures { result ≡ record { home = table.now.table_id; use_number = use_of seat.me.0; half = half; count_found = 2; offer = offer_in_view seat.me.0; demand = demand_in_view seat.me.0 } }
     {
-        Receipt { half, seat }
+        Receipt { table, half, seat }
+    }
+
+    // Its table and its seat.
+    pub(crate) fn into_seat(self) -> (&'h CoreTable<T, C, P>, CoreSeat<T, C, P>)
+        ensures home { IsHome result.0.now.table_id × (result.0.now.table_id ≡ self.entry.home) }
+        ensures sits { (result.1.table_id ≡ result.0.now.table_id) × (result.1.me.1 ≡ []) × (use_of result.1.me.0 ≡ self.entry.use_number) }
+        ensures first { IsFirstLeave self.entry.half result.1.me.0 }
+    {
+        let Self {
+            table,
+            half: _,
+            seat,
+        } = self;
+        (table, seat)
     }
 }
 
-impl<T, C, P> Drop for Receipt<T, C, P> {
+impl<'h, T, C, P> Drop for Receipt<'h, T, C, P> {
     fn drop(self) {
-        let Self { half: _, seat } = self;
+        let Self {
+            table: _,
+            half: _,
+            seat,
+        } = self;
         drop(seat);
     }
 }
@@ -94,7 +123,7 @@ impl<'h, T, C, P> Husk<'h, T, C, P> {
         Husk { table, seat }
     }
 
-    /// Frees the core.
+    /// Frees the core. Its home is used no more. Raises `freed`.
     pub fn end(self, t: &mut Tally)
         ensures { t.new ≡ record t.old { freed = raised t.old.freed } }
     {
@@ -103,7 +132,8 @@ impl<'h, T, C, P> Husk<'h, T, C, P> {
         t.count_freed();
     }
 
-    /// Frees the core, and makes its home ready for another use. The key is that use's.
+    /// Frees the core, and makes its home ready for another use, whose number is one more. The key is that use's. Raises
+    /// `freed` and `reopened`.
     pub fn reopen(self, t: &mut Tally) -> Key<'h, T, C, P>
         ensures key { result ≡ record { home = self.entry.home; use_number = suc self.entry.use_number } }
         ensures tally { t.new ≡ record t.old { freed = raised t.old.freed; reopened = raised t.old.reopened } }

@@ -1,8 +1,8 @@
 //! The producer's half of a core.
-ghost use Rattle.std.specs.Prelude.{◌≡◌, ◌≢◌, ◌<◌};
+ghost use Rattle.std.specs.Prelude.{◌≡◌, ◌≢◌, ◌<◌, suc};
 ghost use Rattle.core_state.specs.Schedule.{leftover_from};
 ghost use Rattle.core_word.specs.Answers.{LandsAt, PassesAt, IsFire, IsForward, MatchLeft, IfLast, IsLastLeave, leftover_as};
-ghost use Rattle.core_word.specs.Views.{IsAwaited, GotDemand};
+ghost use Rattle.core_word.specs.Views.{IsAwaited, KnowsStill, GotDemand};
 
 use crate::fire::{Fire, Forward};
 use crate::left::{Husk, Left, Receipt};
@@ -38,18 +38,18 @@ pub struct Producer<'h, T, C, P> {
 
 impl<'h, T, C, P> Model for Producer<'h, T, C, P> {
     ghost use Rattle.core_word.specs.Seen.{SeenProducer};
-    ghost use Rattle.core_word.specs.Views.{use_of, sight_of};
+    ghost use Rattle.core_word.specs.Views.{use_of, learned_of};
     ghost use Rattle.core_word.specs.Plays.{IsHome, Sits, producer_ready};
 
     ghost Value = { SeenProducer };
 
-    ghost view = { λ p. record { home = p.table.now.table_id; use_number = use_of p.seat.me.0; no = p.no; sight = sight_of p.seat.me.0 } };
+    ghost view = { λ p. record { home = p.table.now.table_id; use_number = use_of p.seat.me.0; no = p.no; sight = (learned_of p.seat.me.0).sight; looks = (learned_of p.seat.me.0).looks } };
 
-    ghost invariant = { λ p. IsHome p.table.now.table_id × Sits p.table.now.table_id p.seat (producer_ready (use_of p.seat.me.0) (sight_of p.seat.me.0)) };
+    ghost invariant = { λ p. IsHome p.table.now.table_id × Sits p.table.now.table_id p.seat (producer_ready (use_of p.seat.me.0) (learned_of p.seat.me.0)) };
 }
 
 impl<'h, T, C, P> Producer<'h, T, C, P> {
-    ghost use Rattle.core_word.specs.Views.{use_of, sight_of};
+    ghost use Rattle.core_word.specs.Views.{use_of, learned_of};
     ghost use Rattle.core_word.specs.Plays.{IsHome, Sits, producer_ready};
 
     pub(crate) fn new(
@@ -58,18 +58,19 @@ impl<'h, T, C, P> Producer<'h, T, C, P> {
         no: u64,
     ) -> Producer<'h, T, C, P>
         requires home { IsHome table.now.table_id }
-        requires sits { Sits table.now.table_id seat (producer_ready (use_of seat.me.0) (sight_of seat.me.0)) }
-        ensures { result ≡ record { home = table.now.table_id; use_number = use_of seat.me.0; no = no; sight = sight_of seat.me.0 } }
+        requires sits { Sits table.now.table_id seat (producer_ready (use_of seat.me.0) (learned_of seat.me.0)) }
+        ensures { result ≡ record { home = table.now.table_id; use_number = use_of seat.me.0; no = no; sight = (learned_of seat.me.0).sight; looks = (learned_of seat.me.0).looks } }
     {
         Producer { table, seat, no }
     }
 
-    /// Looks what the consumer has done so far: first whether its callback is set, and if so, whether it has left. After
-    /// `Callback` this producer's act is a Fire or a Forward, and after `CallbackLeft` its leave is the last one too.
-    /// After `NoCallback` either may come.
+    /// Looks what the consumer has done so far: first whether its callback is set, and if so, whether it has left. It
+    /// never answers `Unseen`, nor less than an earlier look. After `Callback` this producer's act is a Fire or a Forward,
+    /// and after `CallbackLeft` its leave is the last one too. After `NoCallback` either may come.
     pub fn look(&mut self) -> Sight
-        ensures kept { self.new ≡ record self.old { sight = result } }
+        ensures kept { self.new ≡ record self.old { sight = result; looks = suc self.old.looks } }
         ensures seen { result ≢ Sight.Unseen }
+        ensures still { KnowsStill self.old.sight result }
     {
         if !steps::look_for_callback(self.table, &mut self.seat) {
             return Sight::NoCallback;
@@ -142,19 +143,20 @@ pub struct LeftP<'h, T, C, P> {
 
 impl<'h, T, C, P> Model for LeftP<'h, T, C, P> {
     ghost use Rattle.core_word.specs.Seen.{SeenLeftP};
-    ghost use Rattle.core_word.specs.Views.{use_of, sight_of, offer_in_view, demand_in_view};
+    ghost use Rattle.core_word.specs.Views.{use_of, learned_of, offer_in_view, demand_in_view};
     ghost use Rattle.core_word.specs.Rule.{IsSet};
     ghost use Rattle.core_word.specs.Plays.{IsHome, Sits, producer_acted, found_by_producer};
 
     ghost Value = { SeenLeftP T C P };
 
-    ghost view = { λ p. record { home = p.table.now.table_id; use_number = use_of p.seat.me.0; no = p.no; offer = offer_in_view p.seat.me.0; found = found_by_producer (demand_in_view p.seat.me.0); got = demand_in_view p.seat.me.0; sight = sight_of p.seat.me.0 } };
+    ghost view = { λ p. record { home = p.table.now.table_id; use_number = use_of p.seat.me.0; no = p.no; offer = offer_in_view p.seat.me.0; found = found_by_producer (demand_in_view p.seat.me.0); got = demand_in_view p.seat.me.0; sight = (learned_of p.seat.me.0).sight } };
 
-    ghost invariant = { λ p. IsHome p.table.now.table_id × IsSet (offer_in_view p.seat.me.0) × Sits p.table.now.table_id p.seat (producer_acted (use_of p.seat.me.0) (sight_of p.seat.me.0) (offer_in_view p.seat.me.0) (demand_in_view p.seat.me.0)) };
+    ghost invariant = { λ p. IsHome p.table.now.table_id × IsSet (offer_in_view p.seat.me.0) × Sits p.table.now.table_id p.seat (producer_acted (use_of p.seat.me.0) (learned_of p.seat.me.0) (offer_in_view p.seat.me.0) (demand_in_view p.seat.me.0)) };
 }
 
 impl<'h, T, C, P> LeftP<'h, T, C, P> {
-    /// Leaves the core. The later of the two halves gets the husk, with what is left over.
+    /// Leaves the core. The later of the two halves gets the husk, with what is left over: the result or the proxy where
+    /// the consumer gave up, else nothing.
     pub fn leave(self) -> Left<'h, T, C, P>
         ensures last { self.entry.sight ≡ Sight.CallbackLeft → IsLastLeave result }
         ensures home { MatchLeft result (λ receipt. receipt.home ≡ self.entry.home) (λ leftover husk. husk.home ≡ self.entry.home) }
@@ -169,7 +171,7 @@ impl<'h, T, C, P> LeftP<'h, T, C, P> {
             no: _,
         } = self;
         if !steps::leave(table, &mut seat) {
-            return Left::First(Receipt::new(Half::Producer, seat));
+            return Left::First(Receipt::new(table, Half::Producer, seat));
         }
         let leftover = steps::read_end(table, &mut seat);
         Left::Last(leftover, Husk::new(table, seat))

@@ -13,10 +13,10 @@ ghost use Rattle.core_word.specs.declared.view.ProducerSlot.{ProducerSlot};
 ghost use Rattle.core_word.specs.declared.view.Sight.{Sight};
 ghost use Rattle.core_word.specs.declared.view.Item.{Item};
 ghost use Rattle.core_word.specs.declared.view.Departure.{Departure};
-ghost use Rattle.core_word.specs.Views.{use_of, sight_of, offer_in_view, demand_in_view, Knows, IsAwaited};
+ghost use Rattle.core_word.specs.Views.{use_of, learned_of, offer_in_view, demand_in_view, Knows, IsAwaited};
 ghost use Rattle.core_word.specs.Answers.{leftover_as};
 ghost use Rattle.core_word.specs.Rule.{IsSet};
-ghost use Rattle.core_word.specs.Plays.{IsHome, Sits, producer_ready, producer_holding, producer_aware, producer_acted, consumer_ready, consumer_holding, consumer_aware, consumer_acted, leaving, IsLeaving, IsLast, husk_at, reopening_at, key_at, FindsStartOrWaiting};
+ghost use Rattle.core_word.specs.Plays.{IsHome, Sits, producer_ready, producer_holding, producer_aware, producer_acted, none_seen, leave_seen, stay_seen, callback_seen, consumer_ready, consumer_holding, consumer_aware, consumer_acted, leaving, IsLeaving, IsLast, husk_at, reopening_at, key_at, FindsStartOrWaiting};
 
 use crate::left::Leftover;
 use crate::rule::{
@@ -41,8 +41,8 @@ const PROXY: usize = 2;
 /// Takes the result slot, which is empty, for a producer that is about to act.
 pub(crate) fn take_result_slot<T, C, P>(table: &CoreTable<T, C, P>, seat: &mut CoreSeat<T, C, P>)
     requires home { IsHome table.now.table_id }
-    requires ready { Sits table.now.table_id seat.old (producer_ready (use_of seat.old.me.0) (sight_of seat.old.me.0)) }
-    ensures { Sits table.now.table_id seat.new (producer_holding (use_of seat.old.me.0) (sight_of seat.old.me.0) ProducerSlot.Result None) }
+    requires ready { Sits table.now.table_id seat.old (producer_ready (use_of seat.old.me.0) (learned_of seat.old.me.0)) }
+    ensures { Sits table.now.table_id seat.new (producer_holding (use_of seat.old.me.0) (learned_of seat.old.me.0) ProducerSlot.Result None) }
 {
     table.load::<TakesResultSlot>(seat, STATE);
 }
@@ -50,8 +50,8 @@ pub(crate) fn take_result_slot<T, C, P>(table: &CoreTable<T, C, P>, seat: &mut C
 /// Takes the proxy slot, which is empty, for a producer that is about to act.
 pub(crate) fn take_proxy_slot<T, C, P>(table: &CoreTable<T, C, P>, seat: &mut CoreSeat<T, C, P>)
     requires home { IsHome table.now.table_id }
-    requires ready { Sits table.now.table_id seat.old (producer_ready (use_of seat.old.me.0) (sight_of seat.old.me.0)) }
-    ensures { Sits table.now.table_id seat.new (producer_holding (use_of seat.old.me.0) (sight_of seat.old.me.0) ProducerSlot.Proxy None) }
+    requires ready { Sits table.now.table_id seat.old (producer_ready (use_of seat.old.me.0) (learned_of seat.old.me.0)) }
+    ensures { Sits table.now.table_id seat.new (producer_holding (use_of seat.old.me.0) (learned_of seat.old.me.0) ProducerSlot.Proxy None) }
 {
     table.load::<TakesProxySlot>(seat, STATE);
 }
@@ -134,9 +134,10 @@ pub(crate) fn look_for_callback<T, C, P>(
     seat: &mut CoreSeat<T, C, P>,
 ) -> bool
     requires home { IsHome table.now.table_id }
-    requires ready { Sits table.now.table_id seat.old (producer_ready (use_of seat.old.me.0) (sight_of seat.old.me.0)) }
-    ensures set { OnTrue result (Sits table.now.table_id seat.new (producer_ready (use_of seat.old.me.0) Sight.Callback)) }
-    ensures none { OnFalse result (Sits table.now.table_id seat.new (producer_ready (use_of seat.old.me.0) Sight.NoCallback)) }
+    requires ready { Sits table.now.table_id seat.old (producer_ready (use_of seat.old.me.0) (learned_of seat.old.me.0)) }
+    ensures set { OnTrue result (Sits table.now.table_id seat.new (producer_ready (use_of seat.old.me.0) (callback_seen (learned_of seat.old.me.0)))) }
+    ensures none { OnFalse result (Sits table.now.table_id seat.new (producer_ready (use_of seat.old.me.0) (none_seen (learned_of seat.old.me.0)))) }
+    ensures awaited { IsAwaited (learned_of seat.old.me.0).sight → result ≡ true }
 {
     table.load::<LooksForCallback>(seat, STATE) != code(State::Start)
 }
@@ -147,9 +148,11 @@ pub(crate) fn look_for_leave<T, C, P>(
     seat: &mut CoreSeat<T, C, P>,
 ) -> bool
     requires home { IsHome table.now.table_id }
-    requires set { Sits table.now.table_id seat.old (producer_ready (use_of seat.old.me.0) Sight.Callback) }
-    ensures left { OnTrue result (Sits table.now.table_id seat.new (producer_ready (use_of seat.old.me.0) Sight.CallbackLeft)) }
-    ensures attached { OnFalse result (Sits table.now.table_id seat.new (producer_ready (use_of seat.old.me.0) Sight.Callback)) }
+    requires ready { Sits table.now.table_id seat.old (producer_ready (use_of seat.old.me.0) (learned_of seat.old.me.0)) }
+    requires set { IsAwaited (learned_of seat.old.me.0).sight }
+    ensures left { OnTrue result (Sits table.now.table_id seat.new (producer_ready (use_of seat.old.me.0) (leave_seen (learned_of seat.old.me.0)))) }
+    ensures attached { OnFalse result (Sits table.now.table_id seat.new (producer_ready (use_of seat.old.me.0) (stay_seen (learned_of seat.old.me.0)))) }
+    ensures alone { (learned_of seat.old.me.0).sight ≡ Sight.CallbackLeft → result ≡ true }
 {
     table.load::<LooksForLeave>(seat, ATTACHED) == 1
 }
@@ -175,10 +178,10 @@ pub(crate) fn set_first_result<T, C, P>(
     outcome: Try<T>,
 ) -> Option<bool>
     requires home { IsHome table.now.table_id }
-    requires holding { Sits table.now.table_id seat.old (producer_holding (use_of seat.old.me.0) (sight_of seat.old.me.0) ProducerSlot.Result None) }
-    ensures set { result ≡ None → Sits table.now.table_id seat.new (producer_acted (use_of seat.old.me.0) (sight_of seat.old.me.0) (Offer.Result outcome) Demand.Nothing) }
-    ensures aware { (inline : Bool) → result ≡ Some inline → Sits table.now.table_id seat.new (producer_aware (use_of seat.old.me.0) (sight_of seat.old.me.0) ProducerSlot.Result inline (Some (Item.Outcome outcome))) }
-    ensures awaited { IsAwaited (sight_of seat.old.me.0) → result ≢ None }
+    requires holding { Sits table.now.table_id seat.old (producer_holding (use_of seat.old.me.0) (learned_of seat.old.me.0) ProducerSlot.Result None) }
+    ensures set { result ≡ None → Sits table.now.table_id seat.new (producer_acted (use_of seat.old.me.0) (learned_of seat.old.me.0) (Offer.Result outcome) Demand.Nothing) }
+    ensures aware { (inline : Bool) → result ≡ Some inline → Sits table.now.table_id seat.new (producer_aware (use_of seat.old.me.0) (learned_of seat.old.me.0) ProducerSlot.Result inline (Some (Item.Outcome outcome))) }
+    ensures awaited { IsAwaited (learned_of seat.old.me.0).sight → result ≢ None }
 {
     put(table, seat, RESULT, Item::Outcome(outcome));
     let start = code(State::Start);
@@ -194,9 +197,9 @@ pub(crate) fn set_second_result<T, C, P>(
     inline: bool,
 ) -> (Try<T>, Request<C>)
     requires home { IsHome table.now.table_id }
-    requires aware { (r : Try T) × Sits table.now.table_id seat.old (producer_aware (use_of seat.old.me.0) (sight_of seat.old.me.0) ProducerSlot.Result inline (Some (Item.Outcome r))) }
-    ensures had { seat.old.me ≡ producer_aware (use_of seat.old.me.0) (sight_of seat.old.me.0) ProducerSlot.Result inline (Some (Item.Outcome result.0)) }
-    ensures set { Sits table.now.table_id seat.new (producer_acted (use_of seat.old.me.0) (sight_of seat.old.me.0) (Offer.Result result.0) (Demand.Callback result.1)) }
+    requires aware { (r : Try T) × Sits table.now.table_id seat.old (producer_aware (use_of seat.old.me.0) (learned_of seat.old.me.0) ProducerSlot.Result inline (Some (Item.Outcome r))) }
+    ensures had { seat.old.me ≡ producer_aware (use_of seat.old.me.0) (learned_of seat.old.me.0) ProducerSlot.Result inline (Some (Item.Outcome result.0)) }
+    ensures set { Sits table.now.table_id seat.new (producer_acted (use_of seat.old.me.0) (learned_of seat.old.me.0) (Offer.Result result.0) (Demand.Callback result.1)) }
 {
     let waiting = code(waiting_with(inline));
     let done = code(State::Done);
@@ -215,10 +218,10 @@ pub(crate) fn set_first_proxy<T, C, P>(
     to: P,
 ) -> Option<bool>
     requires home { IsHome table.now.table_id }
-    requires holding { Sits table.now.table_id seat.old (producer_holding (use_of seat.old.me.0) (sight_of seat.old.me.0) ProducerSlot.Proxy None) }
-    ensures set { result ≡ None → Sits table.now.table_id seat.new (producer_acted (use_of seat.old.me.0) (sight_of seat.old.me.0) (Offer.Proxy to) Demand.Nothing) }
-    ensures aware { (inline : Bool) → result ≡ Some inline → Sits table.now.table_id seat.new (producer_aware (use_of seat.old.me.0) (sight_of seat.old.me.0) ProducerSlot.Proxy inline (Some (Item.Proxy to))) }
-    ensures awaited { IsAwaited (sight_of seat.old.me.0) → result ≢ None }
+    requires holding { Sits table.now.table_id seat.old (producer_holding (use_of seat.old.me.0) (learned_of seat.old.me.0) ProducerSlot.Proxy None) }
+    ensures set { result ≡ None → Sits table.now.table_id seat.new (producer_acted (use_of seat.old.me.0) (learned_of seat.old.me.0) (Offer.Proxy to) Demand.Nothing) }
+    ensures aware { (inline : Bool) → result ≡ Some inline → Sits table.now.table_id seat.new (producer_aware (use_of seat.old.me.0) (learned_of seat.old.me.0) ProducerSlot.Proxy inline (Some (Item.Proxy to))) }
+    ensures awaited { IsAwaited (learned_of seat.old.me.0).sight → result ≢ None }
 {
     put(table, seat, PROXY, Item::Proxy(to));
     let start = code(State::Start);
@@ -234,9 +237,9 @@ pub(crate) fn set_second_proxy<T, C, P>(
     inline: bool,
 ) -> (P, Request<C>)
     requires home { IsHome table.now.table_id }
-    requires aware { (k : P) × Sits table.now.table_id seat.old (producer_aware (use_of seat.old.me.0) (sight_of seat.old.me.0) ProducerSlot.Proxy inline (Some (Item.Proxy k))) }
-    ensures had { seat.old.me ≡ producer_aware (use_of seat.old.me.0) (sight_of seat.old.me.0) ProducerSlot.Proxy inline (Some (Item.Proxy result.0)) }
-    ensures set { Sits table.now.table_id seat.new (producer_acted (use_of seat.old.me.0) (sight_of seat.old.me.0) (Offer.Proxy result.0) (Demand.Callback result.1)) }
+    requires aware { (k : P) × Sits table.now.table_id seat.old (producer_aware (use_of seat.old.me.0) (learned_of seat.old.me.0) ProducerSlot.Proxy inline (Some (Item.Proxy k))) }
+    ensures had { seat.old.me ≡ producer_aware (use_of seat.old.me.0) (learned_of seat.old.me.0) ProducerSlot.Proxy inline (Some (Item.Proxy result.0)) }
+    ensures set { Sits table.now.table_id seat.new (producer_acted (use_of seat.old.me.0) (learned_of seat.old.me.0) (Offer.Proxy result.0) (Demand.Callback result.1)) }
 {
     let waiting = code(waiting_with(inline));
     let empty = code(State::Empty);
@@ -316,7 +319,7 @@ pub(crate) fn leave<T, C, P>(table: &CoreTable<T, C, P>, seat: &mut CoreSeat<T, 
     requires leaving { (seat.old.table_id ≡ table.now.table_id) × IsLeaving seat.old.me }
     ensures last { OnTrue result (Sits table.now.table_id seat.new (leaving Departure.Last seat.old.me.0, [])) }
     ensures first { OnFalse result (Sits table.now.table_id seat.new (leaving Departure.First seat.old.me.0, [])) }
-    ensures alone { sight_of seat.old.me.0 ≡ Sight.CallbackLeft → result ≡ true }
+    ensures alone { (learned_of seat.old.me.0).sight ≡ Sight.CallbackLeft → result ≡ true }
 {
     table.fetch_sub::<Leaves>(seat, ATTACHED, 1) == 1
 }

@@ -4,8 +4,8 @@ ghost use Rattle.core_word.specs.Count.{added, raised};
 
 use std::marker::Model;
 
-/// Numbers that only the calls of this crate raise, each by one. A number that stands at the last of
-/// `u64` stays there.
+/// Numbers from 0 to 2^64 - 1 that only the calls of this crate raise, each by one. A number that stands at the last
+/// of `u64` stays there.
 #[derive(Drop)]
 pub struct Tally {
     made: u64,

@@ -31,6 +31,12 @@ pub enum Sight {
     CallbackLeft,
 }
 
+/// What a producer that hasn't acted knows of its consumer, and how many looks it has made.
+pub struct Learned {
+    pub sight: Sight,
+    pub looks: u64,
+}
+
 /// The slot that a producer takes before it acts.
 pub enum ProducerSlot {
     Result,
@@ -65,7 +71,7 @@ pub enum ConsumerPhase<T, C, P> {
 pub enum View<T, C, P> {
     /// It may begin this use.
     Key(u64),
-    Producer(u64, ProducerPhase<T, C, P>, Sight),
+    Producer(u64, ProducerPhase<T, C, P>, Learned),
     Consumer(u64, ConsumerPhase<T, C, P>),
     /// The last leaver, once it has read the final state: what both halves had set. It has all slots.
     Husk(u64, Offer<Try<T>, P>, Demand<C>),

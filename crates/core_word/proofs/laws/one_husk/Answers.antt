@@ -8,7 +8,7 @@ pub join_seat-requires : goal.join_seat-requires
 join_seat-requires g c =
     let home = c.husk.invariant.0 in
     let same = ap (λ (h : SeenHusk _ _ _). h.home) c.other.view_is ∙ (sym c.requires ∙ sym (ap (λ (h : SeenHusk _ _ _). h.home) c.husk.view_is)) in
-    let sits = c.attach_both.ensures in
+    let sits = c.reopen.ensures in
     let is_v = ap (λ (m : Standing _ _ _). m.0) c.husk.invariant.1.stands in
     let is_w = ap (λ (m : Standing _ _ _). m.0) sits.stands in (
       c.husk.invariant.1.of_home,

@@ -1,6 +1,6 @@
 ghost use Rattle.std.specs.Prelude.{◌≡◌, ◌<◌};
 
-use crate::{
+use core_word::{
     Consumer, Home, Key, Landed, Left, LeftC, LeftP, Leftover, Met, Passed, Producer, Sight, State,
     Tally, Unspent,
 };
@@ -569,8 +569,7 @@ fn closed(home: Home<Token, Token, Token>) -> Rest {
         outcome,
         callback,
         proxy,
-        state,
-        attached,
+        end,
     } = home.close();
     let outcome = match outcome {
         Some(outcome) => Some(outcome_read(outcome)),
@@ -580,8 +579,8 @@ fn closed(home: Home<Token, Token, Token>) -> Rest {
         outcome,
         slot_read(callback),
         slot_read(proxy),
-        state,
-        attached,
+        end.state(),
+        end.attached(),
     )
 }
 
@@ -653,10 +652,9 @@ fn rest(home: Numbers) -> Rest {
         outcome,
         callback,
         proxy,
-        state,
-        attached,
+        end,
     } = home.close();
-    (outcome, callback, proxy, state, attached)
+    (outcome, callback, proxy, end.state(), end.attached())
 }
 
 // A home that is closed with a result in it, of which the producer has left or not.
