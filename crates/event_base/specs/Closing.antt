@@ -4,8 +4,9 @@ use Rattle.std.specs.List.{All, sum_by}
 use Rattle.fan_base.specs.declared.number.ExecId.{ExecId}
 use Rattle.job_trait.specs.declared.job.Head.{Head}
 use Rattle.notify_queue.specs.declared.stamp.Stamped.{Stamped}
-use Rattle.notify_queue.specs.Ends.{Sending, IsDry}
-use Rattle.notify_queue.specs.Stamps.{messages_of, IsInOrder}
+use Rattle.notify_queue.specs.Ends.{Sending, IsDry, weight_sent}
+use Rattle.notify_queue.specs.Stamps.{messages_of, total_weight, IsInOrder}
+use Rattle.tick_wheel.specs.declared.timer.Timer.{Timer}
 use Rattle.tick_wheel.specs.TimerList.{items_of, by_due}
 use Rattle.event_base.specs.Seen.{AgendaSeen, BaseSeen, NoteSeen}
 
@@ -18,7 +19,12 @@ module _ {J : Type 0} where
   abbrev pub message_of : Stamped J → J
   message_of x = x.message
 
-  -- what an agenda holds: the callbacks for the beginning of a round, those of the loop phase as they would run, and the timers by due tick and order of scheduling
+  -- callbacks for the beginning of a round, those of a loop phase, and the jobs of timers, in this order
+  abbrev pub held_in : List J → List J → List (Timer J) → List J
+  held_in before loops timers = before ++ (loops ++ items_of timers)
+
+  -- what an agenda holds: the callbacks for the beginning of a round, those of the loop phase as they would run, and the timers by due
+  -- tick and order of scheduling
   abbrev pub held_by : AgendaSeen J → List J
   held_by a = a.before ++ ((a.loops ++ a.later) ++ items_of (by_due a.wheel.timers))
 
@@ -35,7 +41,7 @@ module _ {J : Type 0} (head : J → Head) where
     pub whole : All (λ (e : Sending J). messages_of e.number base.queue.taken ++ messages_of e.number left ≡ e.sent) ends
     pub in_order : IsInOrder (base.queue.taken ++ left)
     pub from_senders : All (λ (x : Stamped J). x.stamp.sender < base.queue.senders) (base.queue.taken ++ left)
-    pub account : (weight : J → ℕ) → sum_by (λ (x : Stamped J). weight x.message) base.queue.taken + sum_by (λ (x : Stamped J). weight x.message) left ≡ sum_by (λ (e : Sending J). sum_by weight e.sent) ends
+    pub account : (weight : J → ℕ) → total_weight weight base.queue.taken + total_weight weight left ≡ weight_sent weight ends
     -- all that was taken and all that is left has the base's executor
     pub on_base : All (λ (x : Stamped J). (head x.message).exec ≡ base.agenda.exec) (base.queue.taken ++ left)
     pub exec : note.exec ≡ base.agenda.exec

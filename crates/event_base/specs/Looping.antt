@@ -42,7 +42,8 @@ module _ {W J : Type 0} (head : J → Head) (runs : JobId → Place W J → Mark
   abbrev pub RoundsThrough : W → BaseSeen J → List (Phases J) → W → BaseSeen J → Type 0
   RoundsThrough w old [] v new = (v ≡ w) × (new ≡ old)
   RoundsThrough w old (did ∷ more) v new =
-      (m : W) × (between : BaseSeen J) × IsRoundBehindLook w old did m between × (between.agenda.terminating ≡ false) × RoundsThrough m between more v new
+      (m : W) × (between : BaseSeen J) × IsRoundBehindLook w old did m between
+      × (between.agenda.terminating ≡ false) × RoundsThrough m between more v new
 
   -- rounds one after another, after each of which the mark to end was off
   pub record AreRounds (w : W) (old : BaseSeen J) (rounds : List (Phases J)) (v : W) (new : BaseSeen J) : Type 0 where

@@ -51,12 +51,12 @@ pub fn held_after_a_loop_phase<W, J: LoopJob<W>>()
         → (q.1.later ≡ []) × (q.1.in_loop ≡ false) }
 {}
 
-/// The jobs of a round, in its order, lead from the world and the agenda before it to those after it, where between two jobs the
-/// agenda changes by the base's own part alone.
+/// The jobs of a round, in its order, lead from the world and the agenda before it to those after it. Between two jobs the agenda
+/// changes by the base's own steps alone: it makes a tick, begins or ends the loop phase, and takes the very job that runs next.
 pub fn a_round_leads<W, J: LoopJob<W>>()
     ensures { (ticks : ℕ) (w : W) (old : BaseSeen J) (round : Round) (did : Phases J) (v : W) (new : BaseSeen J)
         → IsWholeRound J.head J.runs ticks w old round did v new
-        → LeadsUpTo J.runs (w, old.agenda) (ran_in J.head did) (v, new.agenda) }
+        → LeadsUpTo J.head J.runs (w, old.agenda) (ran_in J.head did) (v, new.agenda) }
 {}
 
 /// Rounds and loops keep the base's executor, its queue and the number of its posters, and the ticks that were made are counted.

@@ -1,6 +1,7 @@
 // What is left of a base at its close.
 ghost use Rattle.std.specs.Prelude.{◌≡◌, ◌++◌, ◌∷◌, [], MatchOption};
 ghost use Rattle.tick_wheel.specs.TimerList.{items_of};
+ghost use Rattle.event_base.specs.Closing.{held_in};
 
 use fan_base::ExecId;
 use notify_queue::{Rest, Stamped};
@@ -98,7 +99,10 @@ impl<J> BaseRest<J> {
         loops: VecDeque<J>,
         timers: TimersRest<J>,
     ) -> BaseRest<J>
-        ensures { result ≡ record { jobs = map message_of messages.left ++ (before.items ++ (loops.items ++ items_of timers)); popped = messages.popped } }
+        ensures { result ≡ record {
+          jobs = map message_of messages.left ++ held_in before.items loops.items timers;
+          popped = messages.popped;
+        } }
     {
         BaseRest {
             messages,
@@ -141,8 +145,10 @@ fn pop_held<J>(
     loops: &mut VecDeque<J>,
     timers: &mut TimersRest<J>,
 ) -> Option<J>
-    ensures next { MatchOption result (before.old.items ++ (loops.old.items ++ items_of timers.old) ≡ []) (λ job. before.old.items ++ (loops.old.items ++ items_of timers.old) ≡ job ∷ (before.new.items ++ (loops.new.items ++ items_of timers.new))) }
-    ensures none { MatchOption result ((before.new.items ≡ before.old.items) × (loops.new.items ≡ loops.old.items) × (timers.new ≡ timers.old)) (λ _. Unit {0}) }
+    ensures next { MatchOption result (held_in before.old.items loops.old.items timers.old ≡ [])
+        (λ job. held_in before.old.items loops.old.items timers.old ≡ job ∷ held_in before.new.items loops.new.items timers.new) }
+    ensures none { MatchOption result
+        ((before.new.items ≡ before.old.items) × (loops.new.items ≡ loops.old.items) × (timers.new ≡ timers.old)) (λ _. Unit {0}) }
 {
     match before.pop_front() {
         Some(job) => Some(job),
@@ -151,7 +157,8 @@ fn pop_held<J>(
 }
 
 fn pop_loop<J>(loops: &mut VecDeque<J>, timers: &mut TimersRest<J>) -> Option<J>
-    ensures next { MatchOption result (loops.old.items ++ items_of timers.old ≡ []) (λ job. loops.old.items ++ items_of timers.old ≡ job ∷ (loops.new.items ++ items_of timers.new)) }
+    ensures next { MatchOption result (loops.old.items ++ items_of timers.old ≡ [])
+        (λ job. loops.old.items ++ items_of timers.old ≡ job ∷ (loops.new.items ++ items_of timers.new)) }
     ensures none { MatchOption result ((loops.new.items ≡ loops.old.items) × (timers.new ≡ timers.old)) (λ _. Unit {0}) }
 {
     match loops.pop_front() {

@@ -57,7 +57,8 @@ module _ {M : Type 0} where
     pub has_pass : 0 < length views
     pub known : (pass : ℕ) (v : Knowledge M) → get_elem? views pass ≡ some v → IsKnown history pass_of made pass v
 
-  -- what a take of one message or more tells: they stand behind those that were taken, and what was taken is in order. Of a sender that has ended no more is taken than it put
+  -- what a take of one message or more tells: they stand behind those that were taken, and what was taken is in order.
+  -- Of a sender that has ended no more is taken than it put
   pub record Takes (v : Knowledge M) (xs : List (Stamped M)) (w : Knowledge M) : Type 0 where
     pub view : w ≡ receiving v.made v.ended (v.taken ++ xs)
     pub in_order : IsInOrder (v.taken ++ xs)

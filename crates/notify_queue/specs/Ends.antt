@@ -1,11 +1,12 @@
 -- What contracts see of the ends of a queue.
-use Rattle.std.specs.Prelude.{◌≡◌, ℕ, ◌<◌, ◌≤◌, false, true, List, [], ◌∷◌, ◌++◌, length}
-use Rattle.std.specs.List.{All, Any}
+use Rattle.std.specs.Prelude.{◌≡◌, ℕ, ◌<◌, ◌≤◌, Bool, false, true, IsTrue, List, [], ◌∷◌, ◌++◌, length, Some}
+use Rattle.std.specs.List.{All, Any, slice_get, sum_by}
 use Rattle.std.specs.declared.alloc.Global.{Global}
 use mathlib.Core.List.{IsPrefix}
 use Rattle.crossbeam_queue.specs.SegTies.{SegId}
 use Rattle.notify_queue.specs.declared.delivery.EndedSender.{EndedSender}
 use Rattle.notify_queue.specs.declared.marks.Look.{Look}
+use Rattle.notify_queue.specs.declared.stamp.Stamp.{Stamp}
 use Rattle.notify_queue.specs.declared.stamp.Stamped.{Stamped}
 use Rattle.notify_queue.specs.Stamps.{messages_of, IsInOrder}
 
@@ -19,7 +20,8 @@ pub record Sending (M : Type 0) : Type 0 where
   pub number : ℕ
   pub sent : List M
 
--- the receiver: how many senders there are, and what was taken. Of each sender that it has found ended, what that one put in all. What it found at the senders' words, look by look
+-- the receiver: how many senders there are, and what was taken. Of each sender that it has found ended, what that one put in all.
+-- What it found at the senders' words, look by look
 pub record Receiving (M : Type 0) : Type 0 where
   pub queue : QueueId
   pub senders : ℕ
@@ -36,6 +38,31 @@ module _ {M : Type 0} where
   -- a sender that has put nothing
   abbrev pub new_sender : QueueId → ℕ → Sending M
   new_sender queue number = record { queue = queue; number = number; sent = [] }
+
+  -- so many senders that have put nothing, numbered from 0 on
+  abbrev pub AreNewSenders : QueueId → ℕ → List (Sending M) → Type 0
+  AreNewSenders queue count senders =
+      (length senders ≡ count) × ((number : ℕ) → number < count → slice_get senders number ≡ Some (new_sender queue number))
+
+  -- the stamp of a sender's next message
+  abbrev pub next_stamp : Sending M → Stamp
+  next_stamp s = record { sender = s.number; index = length s.sent }
+
+  -- a sender that has put one message more
+  abbrev pub with_put : Sending M → M → Sending M
+  with_put s message = record s { sent = s.sent ++ message ∷ [] }
+
+  -- what was left, with one message more in front
+  abbrev pub with_first : Stamped M → Leaving M → Leaving M
+  with_first first rest = record rest { left = first ∷ rest.left }
+
+  -- each message that these ends put passes the test
+  abbrev pub AllPass : (M → Bool) → List (Sending M) → Type 0
+  AllPass test ends = All (λ e. All (λ m. IsTrue (test m)) e.sent) ends
+
+  -- the sum of the weights of all messages that these ends put
+  abbrev pub weight_sent : (M → ℕ) → List (Sending M) → ℕ
+  weight_sent weight ends = sum_by (λ e. sum_by weight e.sent) ends
 
   -- the receiver of a new queue
   abbrev pub new_receiver : QueueId → ℕ → Receiving M

@@ -1,9 +1,13 @@
--- The rule of the senders' words and slots. A sender's word is twice the number of its puts, and one more where it has ended; its slot then has a copy of its pass, which knows all that it put.
-use Rattle.std.specs.Prelude.{◌≡◌, ◌≢◌, ℕ, ◌+◌, ◌*◌, ◌/◌, ◌%◌, ◌<◌, ◌≤◌, ◌==◌, ◌⊎◌, Bool, true, false, List, [], ◌∷◌, ◌++◌, length, slice_index, Option, Some, None}
+-- The rule of the senders' words and slots. A sender's word is twice the number of its puts, and one more where it has ended; its
+-- slot then has a copy of its pass, which knows all that it put.
+use Rattle.std.specs.Prelude.{◌≡◌, ◌≢◌, ℕ, ◌+◌, ◌*◌, ◌/◌, ◌%◌, ◌<◌, ◌≤◌, ◌==◌, ◌⊎◌, Bool, true, false}
+use Rattle.std.specs.Prelude.{List, [], ◌∷◌, ◌++◌, length, slice_index, Option, Some, None}
 use Rattle.std.specs.List.{All}
 use Rattle.std.specs.declared.alloc.Global.{Global}
 use mathlib.Core.Option as core
 use lib.ListN.{get_elem?}
+use Rattle.atomic_table.specs.declared.shared.Seat.{Seat}
+use Rattle.atomic_table.specs.Seated.{TableId}
 use Rattle.atomic_table.specs.Table.{State, Step, Me}
 use Rattle.crossbeam_queue.specs.SegTies.{SegId, IsSegPassOf}
 use Rattle.notify_queue.specs.declared.marks.Look.{Look}
@@ -51,6 +55,13 @@ module _ {M : Type 0} where
   abbrev pub marks_ended : SegId Global → ℕ → ℕ → List Look → Marking M
   marks_ended queue number puts looks = record { role = Ended; number = number; made = 0; read = 0; puts = puts; looks = looks; queue = queue }
 
+  abbrev pub SeatOf : Type 0
+  SeatOf = Seat (Option (PassOf M)) (Marking M)
+
+  -- the receiver's seat of these marks: so many senders were made, and it has looked at nothing
+  abbrev pub IsFirstSeatOf : TableId → SegId Global → ℕ → SeatOf → Type 0
+  IsFirstSeatOf table queue made seat = (seat.table_id ≡ table) × (seat.id ≡ 0) × (seat.me.0 ≡ reading queue made 0 [])
+
   -- the pass of the queue knows what the sender put in all
   pub record KnowsAll (queue : SegId Global) (sender : ℕ) (pass : PassOf M) : Type 0 where
     pub of_queue : IsSegPassOf queue pass
@@ -64,7 +75,8 @@ module _ {M : Type 0} where
   IsSlotAt queue sender is_ended home = (pass : PassOf M) × KnowsAll queue sender pass × (home ≡ core.some (core.some (Some pass)))
   IsSlotAt queue sender is_read home = home ≡ core.some core.none
 
-  -- a sender's seat knows how many puts its word shows. What the receiver has found there since this seat's last step is that number, and whether it has ended
+  -- a sender's seat knows how many puts its word shows. What the receiver has found there since this seat's last step is that
+  -- number, and whether it has ended
   pub record IsShown (puts : ℕ → ℕ) (looks : List Look) (v : Marking M) (mark : ℕ) : Type 0 where
     pub puts_are : puts v.number ≡ v.puts
     pub since : List Look
@@ -72,13 +84,17 @@ module _ {M : Type 0} where
     pub found : All (λ look. look.sender ≡ v.number → look ≡ look_at v.number (2 * v.puts + mark)) since
 
   -- what a seat knows is so. `looks` are all looks of the receiver
-  pub record IsMarked (queue : SegId Global) (seat_of : ℕ → Option ℕ) (stage : ℕ → Stage) (puts : ℕ → ℕ) (made : ℕ) (looks : List Look) (seat : ℕ) (v : Marking M) : Type 0 where
+  pub record IsMarked (queue : SegId Global) (seat_of : ℕ → Option ℕ) (stage : ℕ → Stage) (puts : ℕ → ℕ) (made : ℕ) (looks : List Look)
+      (seat : ℕ) (v : Marking M) : Type 0 where
     pub of_queue : v.queue ≡ queue
-    pub sends : v.role ≡ Sends → (seat_of v.number ≡ Some seat) × (v.number < made) × (stage v.number ≡ is_waiting) × IsShown puts looks v 0
-    pub fills : v.role ≡ Fills → (seat_of v.number ≡ Some seat) × (v.number < made) × (stage v.number ≡ is_filling) × IsShown puts looks v 0
+    pub sends : v.role ≡ Sends
+        → (seat_of v.number ≡ Some seat) × (v.number < made) × (stage v.number ≡ is_waiting) × IsShown puts looks v 0
+    pub fills : v.role ≡ Fills
+        → (seat_of v.number ≡ Some seat) × (v.number < made) × (stage v.number ≡ is_filling) × IsShown puts looks v 0
     pub ended : v.role ≡ Ended → ((stage v.number ≡ is_ended) ⊎ (stage v.number ≡ is_read)) × IsShown puts looks v 1
     -- the receiver has read the marks in turn
-    pub reads : seat ≡ 0 → (v.role ≡ Reads) × (v.made ≡ made) × (v.looks ≡ looks) × ((sender : ℕ) → sender < v.read → stage sender ≡ is_read) × ((sender : ℕ) → v.read ≤ sender → stage sender ≢ is_read)
+    pub reads : seat ≡ 0 → (v.role ≡ Reads) × (v.made ≡ made) × (v.looks ≡ looks)
+        × ((sender : ℕ) → sender < v.read → stage sender ≡ is_read) × ((sender : ℕ) → v.read ≤ sender → stage sender ≢ is_read)
 
   pub record Marked (queue : SegId Global) (s : State (Option (PassOf M)) (Marking M)) : Type 0 where
     pub seat_of : ℕ → Option ℕ
@@ -123,6 +139,7 @@ module _ {M : Type 0} where
     pub me_is : me' ≡ (reading me.0.queue me.0.made (me.0.read + 1) (me.0.looks ++ look_at me.0.read word ∷ []), (me.0.read, Some pass) ∷ me.1)
 
   -- the mark in turn was read
-  pub record HasRead (step : Step (Option (PassOf M))) (me : Me (Option (PassOf M)) (Marking M)) (word : ℕ) (me' : Me (Option (PassOf M)) (Marking M)) : Type 0 where
+  pub record HasRead (step : Step (Option (PassOf M))) (me : Me (Option (PassOf M)) (Marking M)) (word : ℕ)
+      (me' : Me (Option (PassOf M)) (Marking M)) : Type 0 where
     pub found : word % 2 ≡ 1 → FoundMark me word me'
     pub live : word % 2 ≢ 1 → me' ≡ (reading me.0.queue me.0.made me.0.read (me.0.looks ++ look_at me.0.read word ∷ []), me.1)

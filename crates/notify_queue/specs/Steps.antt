@@ -34,4 +34,5 @@ module _ {M : Type 0} where
 
   -- or that it had, and the pass there knows what it put
   abbrev pub HasFoundEnd : SegId Global → ℕ → PassOf M → Marking M → Marking M → Type 0
-  HasFoundEnd queue sender pass old new = (look : Look) × HasLooked sender (sender + 1) look old new × (look.ended ≡ true) × KnowsAll queue sender pass
+  HasFoundEnd queue sender pass old new =
+      (look : Look) × HasLooked sender (sender + 1) look old new × (look.ended ≡ true) × KnowsAll queue sender pass

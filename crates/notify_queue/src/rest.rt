@@ -1,4 +1,5 @@
-ghost use Rattle.std.specs.Prelude.{◌≡◌, [], ◌∷◌, ◌↔◌, length, IsTrue, MatchOption};
+ghost use Rattle.std.specs.Prelude.{◌≡◌, [], ◌↔◌, length, IsTrue, MatchOption};
+ghost use Rattle.notify_queue.specs.Ends.{with_first};
 
 use crate::delivery::Pass;
 use crate::stamp::Stamped;
@@ -33,22 +34,23 @@ impl<M> Rest<M> {
         Rest { parcels, len, pass }
     }
 
-    /// How many there are.
+    /// How many messages are left.
     pub fn len(&self) -> usize
         ensures { result ≡ length self.now.left }
     {
         self.len
     }
 
+    /// Whether none is left.
     pub fn is_empty(&self) -> bool
         ensures { IsTrue result ↔ (self.now.left ≡ []) }
     {
         self.len == 0
     }
 
-    /// Takes the oldest message.
+    /// Takes the oldest message. None comes exactly where none is left.
     pub fn pop(&mut self) -> Option<Stamped<M>>
-        ensures { MatchOption result ((self.old.left ≡ []) × (self.new ≡ self.old)) (λ first. self.old ≡ record self.new { left = first ∷ self.new.left }) }
+        ensures { MatchOption result ((self.old.left ≡ []) × (self.new ≡ self.old)) (λ first. self.old ≡ with_first first self.new) }
     {
         let parcel = self.parcels.pop_front()?;
         self.len -= 1;

@@ -4,6 +4,7 @@ ghost use Rattle.notify_queue.specs.Ends.{new_receiver, new_sender};
 use super::*;
 use fan_base::{Memory, Parcel, Refused};
 use std::alloc::Global;
+use std::hint;
 use std::process::Abort;
 use std::sync::Wait;
 use std::thread::join;
@@ -47,7 +48,8 @@ fn message(sender: u32, index: u64, message: char) -> Stamped<char> {
 
 fn put<R: Abort + Wait>(rt: &R, sender: &mut Sender<char>, message: char) -> (u32, u64)
     requires { length sender.old.sent < 1000 }
-    ensures { (sender.new.queue ≡ sender.old.queue) × (sender.new.number ≡ sender.old.number) × (length sender.new.sent ≤ length sender.old.sent + 1) }
+    ensures same { (sender.new.queue ≡ sender.old.queue) × (sender.new.number ≡ sender.old.number) }
+    ensures few { length sender.new.sent ≤ length sender.old.sent + 1 }
 {
     let stamp = sender.put(rt, message).expect(rt, "memory");
     (stamp.sender, stamp.index)
@@ -209,6 +211,13 @@ fn all_that_was_put_comes_before_none(rt: HostRuntime) {
     assert_eq!(rt; (end.put, end.taken, end.rest.len()), (2000, 2000, 0));
 }
 
+// Longer and shorter, so that the other side is found asleep and awake.
+fn wait_a_little(round: u64) {
+    for _ in 0..round % 8 * 64 {
+        hint::spin_loop();
+    }
+}
+
 // Takes as many messages as there are rounds, and answers each by one.
 fn bounce<R: Abort + Wait>(
     rt: &R,
@@ -223,6 +232,7 @@ fn bounce<R: Abort + Wait>(
     for round in 0..ROUNDS {
         let came = next(rt, &mut receiver).expect(rt, "a message");
         assert_eq!(rt; came.message, round);
+        wait_a_little(round);
         sender.put(rt, round + ahead).expect(rt, "memory");
     }
     (receiver, sender.end(rt))

@@ -47,7 +47,8 @@ fn fire_first<T, L: Ledger>(
     ensures fits { AreBelow 18446744073709551616 index.new }
     ensures part { IsPartOf index.new index.old }
     ensures one { HasOneLess slots.old slots.new ((now + 1) % 256) }
-    ensures fired { fired.old.items ++ items_of (due_at (now + 1) (timers_of index.old)) ≡ fired.new.items ++ items_of (due_at (now + 1) (timers_of index.new)) }
+    ensures fired { fired.old.items ++ items_of (due_at (now + 1) (timers_of index.old))
+        ≡ fired.new.items ++ items_of (due_at (now + 1) (timers_of index.new)) }
     ensures rest { due_later (now + 1) (timers_of index.new) ≡ due_later (now + 1) (timers_of index.old) }
     ensures len { vec_len fired.new ≡ vec_len fired.old + 1 }
     ensures capacity { vec_capacity fired.old ≤ vec_capacity fired.new }

@@ -41,7 +41,7 @@ impl<T> Timers<T> {
     ghost use Rattle.tick_wheel.specs.TimerList.{TimerList, Ticks, timer_at, scheduled, cancelled, handed_back, items_of, by_id, by_due};
     ghost use Rattle.tick_wheel.specs.Steps.{tick_bound};
 
-    /// Holds nothing, with `start` ticks made.
+    /// Holds nothing, with `start` ticks made, at most 2^62. `Memory` comes where there is none for the slots.
     pub fn new(alloc: Global, start: u64) -> Result<Timers<T>, Memory>
         requires { start ≤ 2 ^ 62 }
         ensures { IfOk result (λ wheel. wheel ≡ record { tick = start; timers = [] }) }
@@ -88,7 +88,8 @@ impl<T> Timers<T> {
         self.index.is_empty()
     }
 
-    /// Holds a timer that is due after so many ticks. A refused call changes nothing and hands the item back.
+    /// Holds a timer that is due after so many ticks, 1 to 4,294,967,295. Its id may not be held, which [`Timers::holds`] tells. A refused
+    /// call changes nothing and hands the item back.
     ///
     /// Want of memory is also the answer once 2^64 - 1 timers were scheduled.
     pub fn schedule(&mut self, delay: u64, id: u64, item: T) -> Result<(), ScheduleFault<T>>
@@ -130,7 +131,8 @@ impl<T> Timers<T> {
         Some(Timer { due, id, item })
     }
 
-    /// Makes one tick, and hands out what is due then, in order of scheduling. A refused call leaves all as it was.
+    /// Makes one tick, where fewer than 2^63 were made, and hands out what is due then, in order of scheduling. A call that is refused for
+    /// want of memory leaves all as it was.
     ///
     /// One step is one entry taken out of a slot: each that fires is one, and the clause `steps` bounds them.
     pub fn tick<L: Ledger>(&mut self, steps: &mut Steps<L>) -> Result<Vec<T>, Memory>
@@ -155,7 +157,7 @@ impl<T> Timers<T> {
         Ok(fired)
     }
 
-    /// Takes all timers out, in ascending order of their ids. A refused call leaves all as it was.
+    /// Takes all timers out, in ascending order of their ids. A call that is refused for want of memory leaves all as it was.
     pub fn cancel_all(&mut self) -> Result<Vec<T>, Memory>
         ensures ok { IfOk result (λ items. items.items ≡ items_of (by_id self.old.timers)) }
         ensures gone { OnOk result (self.new ≡ record { tick = self.old.tick; timers = [] }) }

@@ -43,7 +43,7 @@ impl Wheel {
     ghost use Rattle.tick_wheel.specs.Steps.{tick_bound};
     ghost use Rattle.tick_wheel.specs.Wheel.{ids_of, due_of, TicksIds};
 
-    /// Holds nothing, with `start` ticks made.
+    /// Holds nothing, with `start` ticks made, at most 2^62. `Memory` comes where there is none for the slots.
     pub fn new(alloc: Global, start: u64) -> Result<Wheel, Memory>
         requires { start ≤ 2 ^ 62 }
         ensures { IfOk result (λ wheel. wheel ≡ record { tick = start; timers = [] }) }
@@ -82,7 +82,8 @@ impl Wheel {
         self.timers.is_empty()
     }
 
-    /// Holds an id that is due after so many ticks. A refused call changes nothing.
+    /// Holds an id that is due after so many ticks, 1 to 4,294,967,295. It may not be held, which [`Wheel::holds`] tells. A refused call
+    /// changes nothing.
     ///
     /// Want of memory is also the answer once 2^64 - 1 ids were scheduled.
     pub fn schedule(&mut self, delay: u64, id: u64) -> Result<(), Refuse>
@@ -109,7 +110,8 @@ impl Wheel {
         Some(due)
     }
 
-    /// Makes one tick, and hands out the ids that are due then, in order of scheduling. A refused call leaves all as it was.
+    /// Makes one tick, where fewer than 2^63 were made, and hands out the ids that are due then, in order of scheduling. A call that is
+    /// refused for want of memory leaves all as it was.
     ///
     /// One step is one entry taken out of a slot: each that fires is one, and the clause `steps` bounds them.
     pub fn tick<L: Ledger>(&mut self, steps: &mut Steps<L>) -> Result<Vec<u64>, Memory>
@@ -123,7 +125,7 @@ impl Wheel {
         Ok(ids)
     }
 
-    /// Takes all ids out, ascending. A refused call leaves all as it was.
+    /// Takes all ids out, ascending. A call that is refused for want of memory leaves all as it was.
     pub fn cancel_all(&mut self) -> Result<Vec<u64>, Memory>
         ensures ok { IfOk result (λ ids. ids.items ≡ ids_of (by_id self.old.timers)) }
         ensures gone { OnOk result (self.new ≡ record { tick = self.old.tick; timers = [] }) }

@@ -93,10 +93,10 @@ fn call_both<L: Ledger>(
     seed: &mut u64,
     steps: &mut Steps<L>,
 ) -> Result<(), Fail> {
-    let id = draw(seed) % 500;
+    let id = draw(seed) % 20_000;
     match draw(seed) % 8 {
         0 => tick_both(wheel, plain, steps),
-        1 => {
+        1 | 2 => {
             if wheel.cancel(id) != plain.cancel(id) {
                 return differ(plain.now);
             }
@@ -123,10 +123,10 @@ fn compare<L: Ledger>(alloc: Global, start: u64, steps: &mut Steps<L>) -> Result
     let mut wheel = Wheel::new(alloc, start)?;
     let mut plain = Plain::new(alloc, start);
     let mut seed = start.wrapping_add(14);
-    for _ in 0..4000 {
+    for _ in 0..50_000 {
         call_both(&mut wheel, &mut plain, &mut seed, steps)?;
     }
-    for _ in 0..66000 {
+    for _ in 0..66_000 {
         tick_both(&mut wheel, &mut plain, steps)?;
     }
     let left = wheel.cancel_all()?;

@@ -1,7 +1,9 @@
-ghost use Rattle.std.specs.Prelude.{◌≡◌, ◌<◌, ◌≤◌, ◌^◌, ◌↔◌, IsTrue, IsSome, Some, None, Ok, Err, IfOk, IfErr, OnOk, OnErr, option_map};
+ghost use Rattle.std.specs.Prelude.{◌≡◌, ◌<◌, ◌≤◌, ◌^◌, ◌↔◌, IsTrue, IsSome, None, Err};
+ghost use Rattle.std.specs.Prelude.{IfOk, IfErr, OnOk, OnErr, option_map};
 ghost use Rattle.tick_wheel.specs.declared.timer.Timer.{Timer};
 ghost use Rattle.tick_wheel.specs.TimerList.{timer_at, handed_back, items_of, by_id};
-ghost use Rattle.event_base.specs.Calls.{with_in_loop, with_this_iteration, with_before, with_timer, without_timer, without_timers, with_mark, IsReached};
+ghost use Rattle.event_base.specs.Calls.{with_in_loop, with_this_iteration, with_before, with_mark, IsReached};
+ghost use Rattle.event_base.specs.Calls.{with_timer, without_timer, without_timers};
 
 use super::Agenda;
 use crate::room::{push_behind, push_with_room};
@@ -70,8 +72,9 @@ impl<J: Headed> Agenda<J> {
         Ok(())
     }
 
-    /// Runs the job so many ticks from now. A refused call changes nothing and gives the job back: `ZeroDelay` comes exactly for 0,
-    /// `DelayTooLong` exactly above 4,294,967,295, and else `Memory` may come, also once 2^64 - 1 timers were scheduled.
+    /// Runs the job so many ticks from now, 1 to 4,294,967,295. No timer of its id may be held, which [`Agenda::has_timer`] tells. A
+    /// refused call changes nothing and gives the job back: `ZeroDelay` comes exactly for 0, `DelayTooLong` exactly above 4,294,967,295,
+    /// and else `Memory` may come, also once 2^64 - 1 timers were scheduled.
     pub fn schedule(&mut self, delay: u64, job: J) -> Result<(), ScheduleFault<J>>
         requires exec { (J.head job).exec ≡ self.old.exec }
         requires free { timer_at (J.head job).id.0 self.old.wheel.timers ≡ None }

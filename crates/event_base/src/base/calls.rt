@@ -1,5 +1,5 @@
-ghost use Rattle.std.specs.Prelude.{◌≡◌, ℕ, ◌<◌, ◌≤◌, ◌^◌, Some, IfOk, length, slice_get};
-ghost use Rattle.notify_queue.specs.Ends.{new_sender};
+ghost use Rattle.std.specs.Prelude.{◌≡◌, ◌≤◌, ◌^◌, IfOk};
+ghost use Rattle.notify_queue.specs.Ends.{AreNewSenders};
 ghost use Rattle.event_base.specs.Seen.{new_base};
 
 use super::{EventBase, Poster};
@@ -10,8 +10,8 @@ use std::alloc::Global;
 use tick_wheel::Timers;
 
 impl<J> EventBase<J> {
-    /// A base with this executor, so many posters, which have the numbers from 0 on, and `start` ticks made. `Memory` comes where
-    /// there is none for its timers or its queue.
+    /// A base with this executor, 1 to 64 posters, which have the numbers from 0 on, and `start` ticks made, which are at most 2^62.
+    /// `Memory` comes where there is none for its timers or its queue.
     pub fn new(
         alloc: Global,
         exec: ExecId,
@@ -22,8 +22,7 @@ impl<J> EventBase<J> {
         requires few { senders ≤ 64 }
         requires start { start ≤ 2 ^ 62 }
         ensures base { IfOk result (λ made. made.0 ≡ new_base exec start made.0.queue.queue senders) }
-        ensures posters { IfOk result (λ made. (length made.1.items ≡ senders)
-            × ((number : ℕ) → number < senders → slice_get made.1.items number ≡ Some (new_sender made.0.queue.queue number))) }
+        ensures posters { IfOk result (λ made. AreNewSenders made.0.queue.queue senders made.1.items) }
     {
         let timers = Timers::new(alloc, start)?;
         match queue(alloc, senders) {

@@ -15,8 +15,8 @@ use std::sync::Wait;
 const MESSAGE_LIMIT: usize = 10;
 
 impl<J> EventBase<J> {
-    /// Makes one round, with so many ticks: it takes up to 10 messages, and runs the callbacks that wait for the beginning of a
-    /// round, the messages, the timers tick by tick, and then up to 65,536 callbacks of the loop phase.
+    /// Makes one round, with so many ticks, by which `now` comes to at most 2^63: it takes up to 10 messages, and runs the callbacks
+    /// that wait for the beginning of a round, the messages, the timers tick by tick, and then up to 65,536 callbacks of the loop phase.
     ///
     /// Where the take is refused, the round has not begun: nothing ran, and nothing changed. Where a tick is, that tick and the
     /// later ones are not made and the loop phase is not run: what ran has run, and the rest is held.

@@ -42,7 +42,8 @@ impl<M> Channel<M> {
         ensures pass { IsFirstPassOf self.now.line pass.new }
         ensures empty { IfNone result (HasFoundNothing (known_by pass.old) (known_by pass.new)) }
         ensures few { IfSome result (λ batch. batch.len ≤ limit) }
-        ensures claimed { IfSome result (λ batch. (xs : List (Stamped M)) × Holds self.now.line pass.new batch xs × Takes (known_by pass.old) xs (known_by pass.new)) }
+        ensures claimed { IfSome result (λ batch. (xs : List (Stamped M))
+            × Holds self.now.line pass.new batch xs × Takes (known_by pass.old) xs (known_by pass.new)) }
     {
         for _ in rt.forever() {
             let head = self.line.head(pass);

@@ -1,11 +1,11 @@
 //! Each step that the ends of a queue make on it.
-ghost use Rattle.std.specs.Prelude.{◌≡◌, ℕ, ◌+◌, ◌-◌, ◌^◌, ◌<◌, ◌≤◌, ◌++◌, ◌∷◌, [], length, map, true, false, IfOk, IfErr, MatchOption};
+ghost use Rattle.std.specs.Prelude.{◌≡◌, ◌+◌, ◌-◌, ◌^◌, ◌<◌, ◌≤◌, ◌++◌, ◌∷◌, [], length, map, true, IfOk, IfErr, MatchOption};
 ghost use Rattle.std.specs.List.{All};
 ghost use Rattle.crossbeam_queue.specs.SegTies.{IsSegPassOf};
 ghost use Rattle.notify_queue.specs.declared.marks.Look.{Look};
 ghost use Rattle.notify_queue.specs.Delivery.{sending, receiving, ending, idle, Takes, Shows};
 ghost use Rattle.notify_queue.specs.Ends.{whole_of};
-ghost use Rattle.notify_queue.specs.Marks.{HasLooked, HasShown, HasMarked, KnowsAll, place, reading, marks_sending};
+ghost use Rattle.notify_queue.specs.Marks.{HasLooked, HasShown, HasMarked, IsFirstSeatOf, KnowsAll, place, reading, marks_sending};
 ghost use Rattle.notify_queue.specs.Passes.{IsFirstPassOf, known_by};
 ghost use Rattle.notify_queue.specs.Steps.{HasPut, HasFoundNothing, HasFoundLive, HasFoundEnd};
 
@@ -29,8 +29,9 @@ fn clear_marks<M>(
     line: &Line<M>,
 ) -> Result<(Marks<M>, MarkSeat<M>), AllocError>
     requires { senders ≤ 64 }
-    ensures marks { IfOk result (λ r. (r.0.shared.key ≡ line.now) × (r.0.shared.table_id.words ≡ place senders) × (r.0.shared.table_id.slots ≡ senders)) }
-    ensures seat { IfOk result (λ r. (r.1.table_id ≡ r.0.shared.table_id) × (r.1.id ≡ 0) × (r.1.me.0 ≡ reading line.now 0 0 [])) }
+    ensures key { IfOk result (λ r. r.0.shared.key ≡ line.now) }
+    ensures sizes { IfOk result (λ r. (r.0.shared.table_id.words ≡ place senders) × (r.0.shared.table_id.slots ≡ senders)) }
+    ensures seat { IfOk result (λ r. IsFirstSeatOf r.0.shared.table_id line.now 0 r.1) }
 {
     let words = [0; 512];
     let count = senders as usize;
@@ -73,7 +74,8 @@ impl<M> Channel<M> {
     pub(crate) fn take<R: Wait>(&self, rt: &R, pass: &mut Pass<M>) -> Option<Parcel<Stamped<M>>>
         requires { IsFirstPassOf self.now.line pass.old }
         ensures pass { IsFirstPassOf self.now.line pass.new }
-        ensures taken { MatchOption result (HasFoundNothing (known_by pass.old) (known_by pass.new)) (λ x. Takes (known_by pass.old) (x ∷ []) (known_by pass.new)) }
+        ensures taken { MatchOption result (HasFoundNothing (known_by pass.old) (known_by pass.new))
+            (λ x. Takes (known_by pass.old) (x ∷ []) (known_by pass.new)) }
     {
         self.line.pop_as::<Take, R>(rt, pass)
     }
@@ -91,7 +93,8 @@ impl<M> Channel<M> {
     pub(crate) fn join_end(&self, pass: &mut Pass<M>, end: Pass<M>)
         requires { IsFirstPassOf self.now.line pass.old × IsSegPassOf self.now.line end }
         ensures pass { IsFirstPassOf self.now.line pass.new }
-        ensures ended { known_by pass.new ≡ receiving (known_by pass.old).made ((known_by pass.old).ended ++ (known_by end).ended) (known_by pass.old).taken }
+        ensures ended { known_by pass.new
+            ≡ receiving (known_by pass.old).made ((known_by pass.old).ended ++ (known_by end).ended) (known_by pass.old).taken }
     {
         self.line.absorb::<JoinEnd>(pass, end);
     }
@@ -139,7 +142,8 @@ impl<M> Channel<M> {
         requires seat { (seat.old.table_id ≡ self.now.marks.shared.table_id) × (seat.old.id ≡ 0) × (sender < seat.old.table_id.slots) }
         requires turn { (seat.old.me.0.read ≡ sender) × (seat.old.me.0.queue ≡ self.now.line) }
         ensures seat { (seat.new.table_id ≡ seat.old.table_id) × (seat.new.id ≡ 0) }
-        ensures read { MatchOption result (HasFoundLive sender seat.old.me.0 seat.new.me.0) (λ pass. HasFoundEnd self.now.line sender pass seat.old.me.0 seat.new.me.0) }
+        ensures read { MatchOption result (HasFoundLive sender seat.old.me.0 seat.new.me.0)
+            (λ pass. HasFoundEnd self.now.line sender pass seat.old.me.0 seat.new.me.0) }
     {
         let table = &self.marks.shared;
         let slot = sender as usize;
@@ -178,7 +182,7 @@ impl<M> Channel<M> {
     ) -> Result<(Channel<M>, Pass<M>, MarkSeat<M>, Parker), Memory>
         requires { senders ≤ 64 }
         ensures pass { IfOk result (λ r. IsFirstPassOf r.0.line r.1 × (known_by r.1 ≡ idle)) }
-        ensures seat { IfOk result (λ r. (r.2.table_id ≡ r.0.marks.shared.table_id) × (r.2.table_id.slots ≡ senders) × (r.2.id ≡ 0) × (r.2.me.0 ≡ reading r.0.line 0 0 [])) }
+        ensures seat { IfOk result (λ r. IsFirstSeatOf r.0.marks.shared.table_id r.0.line 0 r.2 × (r.2.table_id.slots ≡ senders)) }
     {
         let parker = Parker::new(alloc)?;
         let unparker = parker.unparker().clone()?;
@@ -233,7 +237,8 @@ impl<M> Channel<M> {
         requires ends { All (λ e. e.queue.line ≡ self.now.line) ends.items }
         ensures count { result.1 ≡ length result.0 }
         ensures popped { (known_by result.2).taken ≡ (known_by pass).taken ++ result.0 }
-        ensures empty { Shows (receiving (known_by pass).made ((known_by pass).ended ++ map whole_of ends.items) ((known_by pass).taken ++ result.0)) [] }
+        ensures empty { Shows
+            (receiving (known_by pass).made ((known_by pass).ended ++ map whole_of ends.items) ((known_by pass).taken ++ result.0)) [] }
     {
         self.join_ends(&mut pass, ends);
         let (parcels, len) = self.drain(rt, &mut pass);

@@ -3,9 +3,13 @@ ghost use Rattle.std.specs.Prelude.{◌≡◌, ◌≤◌, length};
 
 use super::Channel;
 use crate::marks::word_of;
+use crossbeam_utils::Backoff;
 use crossbeam_utils::sync::Parker;
 use std::sync::Wait;
 use std::sync::atomic::Ordering::SeqCst;
+
+// How often the receiver looks at the words before it sleeps: the first looks spin between, the last ones yield the processor.
+const LOOKS_AWAKE: u32 = 10;
 
 impl<M> Channel<M> {
     /// Wakes the receiver where it sleeps or is about to.
@@ -19,9 +23,19 @@ impl<M> Channel<M> {
     }
 
     /// Sleeps until it is woken, and not where a word shows more puts than the sender's count, or the mark in turn is set.
+    ///
+    /// It looks a few times first, further and further apart: most messages come within the time that a sleep and a wake would take,
+    /// and a sender that finds the receiver awake doesn't call the kernel.
     pub(crate) fn sleep<R: Wait>(&self, rt: &R, parker: &Parker, counts: &[u64], turn: u32)
         requires { length counts.now ≡ self.now.marks.shared.table_id.slots }
     {
+        let backoff = Backoff::new();
+        for _ in 0..LOOKS_AWAKE {
+            if !self.shows_nothing(counts, turn) {
+                return;
+            }
+            backoff.snooze();
+        }
         self.asleep.store(true, SeqCst);
         if self.shows_nothing(counts, turn) {
             parker.park(rt);

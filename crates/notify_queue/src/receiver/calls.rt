@@ -1,11 +1,13 @@
-ghost use Rattle.std.specs.Prelude.{◌≡◌, ℕ, ◌+◌, ◌<◌, ◌≤◌, ◌++◌, ◌∷◌, [], Bool, true, IsTrue, length, replicate, IfOk, OnErr, IfSome, IfNone};
+ghost use Rattle.std.specs.Prelude.{◌≡◌, ℕ, ◌+◌, ◌<◌, ◌≤◌, ◌++◌, ◌∷◌, [], Bool, true, IsTrue, length, replicate};
+ghost use Rattle.std.specs.Prelude.{IfOk, OnErr, IfSome, IfNone};
 ghost use Rattle.std.specs.Arc.{arc_value};
 ghost use Rattle.std.specs.Bool.{OnTrue, OnFalse};
 ghost use Rattle.std.specs.List.{All, sum_by};
 ghost use mathlib.Core.List.{IsPrefix};
 ghost use Rattle.notify_queue.specs.Delivery.{receiving};
-ghost use Rattle.notify_queue.specs.Ends.{AreAllEnds, AreAllUnused, FoundEmpty, FoundEnded, FoundLive, HasEnded, IsDry, new_receiver};
-ghost use Rattle.notify_queue.specs.Marks.{reading};
+ghost use Rattle.notify_queue.specs.Ends.{AllPass, AreAllEnds, AreAllUnused, FoundEmpty, FoundEnded, FoundLive, HasEnded, IsDry};
+ghost use Rattle.notify_queue.specs.Ends.{new_receiver, weight_sent};
+ghost use Rattle.notify_queue.specs.Marks.{IsFirstSeatOf};
 ghost use Rattle.notify_queue.specs.Passes.{IsFirstPassOf, known_by};
 ghost use Rattle.notify_queue.specs.Stamps.{messages_of, total_weight, IsInOrder};
 
@@ -24,8 +26,9 @@ use std::sync::{Arc, Wait};
 impl<M> Receiver<M> {
     /// Takes the message in front. It takes no memory.
     ///
-    /// `None` comes only where the queue was empty at a moment of the call, and where after that a look at each sender's word
-    /// found no more puts than messages that were taken of it. Where a word shows more, it tries again.
+    /// `None` comes only where all is taken that the senders found ended had put, and where one look of this very call at each
+    /// sender's word found no more puts than messages that were taken of it. A put shows itself in that word as its last step. Where a
+    /// word shows more, it tries again.
     pub fn take<R: Wait>(&mut self, rt: &R) -> Option<Stamped<M>>
         ensures same { (self.new.queue ≡ self.old.queue) × (self.new.senders ≡ self.old.senders) × (self.new.ended ≡ self.old.ended) }
         ensures some { IfSome result (λ x. (self.new.taken ≡ self.old.taken ++ x ∷ []) × (x.stamp.sender < self.old.senders)) }
@@ -46,7 +49,8 @@ impl<M> Receiver<M> {
         unreachable!()
     }
 
-    /// Takes up to `n` messages, oldest first. It takes room for `n` first, and a refusal has taken no message.
+    /// Takes up to `n` messages, oldest first. It takes room for `n` first, and `Memory` comes where there is none: then no message
+    /// was taken and nothing looked at.
     ///
     /// Fewer come only where `None` of [`Receiver::take`] may come. They are taken in batches, each in one step, which ask
     /// for no more than is still wanted.
@@ -106,7 +110,8 @@ impl<M> Receiver<M> {
         true
     }
 
-    /// Ends the queue. What was not taken is left in the answer, in the queue's order: oldest first, over all senders.
+    /// Ends the queue, with the ends of all its senders, in any order. What was not taken is left in the answer, in the queue's
+    /// order: oldest first, over all senders. It takes no memory.
     pub fn close<R: Wait>(self, rt: &R, ends: Vec<SenderEnd<M>>) -> QueueEnd<M>
         requires { AreAllEnds self ends.items }
         ensures taken { result.taken ≡ length self.taken }
@@ -115,8 +120,9 @@ impl<M> Receiver<M> {
         ensures in_order { IsInOrder (self.taken ++ result.rest.left) }
         ensures order { result.rest.popped ≡ self.taken ++ result.rest.left }
         ensures from_senders { All (λ x. x.stamp.sender < self.senders) (self.taken ++ result.rest.left) }
-        ensures each { (test : M → Bool) → All (λ e. All (λ m. IsTrue (test m)) e.sent) ends.items → All (λ x. IsTrue (test x.message)) (self.taken ++ result.rest.left) }
-        ensures account { (weight : M → ℕ) → total_weight weight self.taken + total_weight weight result.rest.left ≡ sum_by (λ e. sum_by weight e.sent) ends.items }
+        ensures each { (test : M → Bool) → AllPass test ends.items → All (λ x. IsTrue (test x.message)) (self.taken ++ result.rest.left) }
+        ensures account { (weight : M → ℕ)
+            → total_weight weight self.taken + total_weight weight result.rest.left ≡ weight_sent weight ends.items }
         ensures dry { IsDry self → result.rest.left ≡ [] }
     {
         let Receiver {
@@ -168,7 +174,8 @@ impl<M> Receiver<M> {
         counts: Vec<u64>,
     ) -> Receiver<M>
         requires pass { IsFirstPassOf (arc_value channel).line pass × (known_by pass ≡ receiving senders [] []) }
-        requires seat { (seat.table_id ≡ (arc_value channel).marks.shared.table_id) × (seat.id ≡ 0) × (seat.me.0 ≡ reading (arc_value channel).line senders 0 []) × (seat.table_id.slots ≡ senders) }
+        requires seat { IsFirstSeatOf (arc_value channel).marks.shared.table_id (arc_value channel).line senders seat }
+        requires slots { seat.table_id.slots ≡ senders }
         requires counts { counts.items ≡ replicate senders 0 }
         ensures { result ≡ new_receiver (record { line = (arc_value channel).line }) senders }
     {

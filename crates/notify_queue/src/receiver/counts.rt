@@ -32,7 +32,8 @@ pub(crate) fn count_all<M>(counts: &mut Vec<u64>, messages: &[Stamped<M>])
     requires senders { All (λ x. x.stamp.sender < length counts.old.items) messages.now }
     requires room { (sender : ℕ) → sender < length counts.old.items → slice_index counts.old.items sender + length messages.now < 2 ^ 63 }
     ensures length { length counts.new.items ≡ length counts.old.items }
-    ensures counts { (sender : ℕ) → sender < length counts.old.items → slice_index counts.new.items sender ≡ slice_index counts.old.items sender + length (messages_of sender messages.now) }
+    ensures counts { (sender : ℕ) → sender < length counts.old.items
+        → slice_index counts.new.items sender ≡ slice_index counts.old.items sender + length (messages_of sender messages.now) }
 {
     for place in 0..messages.len() {
         count_one(counts, messages[place].stamp.sender);

@@ -1,9 +1,9 @@
-ghost use Rattle.std.specs.Prelude.{◌≡◌, ◌+◌, ◌<◌, ◌++◌, ◌∷◌, [], length, IfOk, IfErr, OnOk};
+ghost use Rattle.std.specs.Prelude.{◌≡◌, ◌+◌, ◌<◌, [], length, IfOk, IfErr, OnOk};
 ghost use Rattle.std.specs.Arc.{arc_value};
 ghost use Rattle.crossbeam_queue.specs.SegTies.{IsSegPassOf};
 ghost use Rattle.notify_queue.specs.Delivery.{receiving, ending};
-ghost use Rattle.notify_queue.specs.Ends.{new_sender};
-ghost use Rattle.notify_queue.specs.Marks.{reading};
+ghost use Rattle.notify_queue.specs.Ends.{new_sender, next_stamp, with_put};
+ghost use Rattle.notify_queue.specs.Marks.{IsFirstSeatOf};
 ghost use Rattle.notify_queue.specs.Passes.{IsFirstPassOf, known_by};
 
 use super::{Sender, SenderEnd};
@@ -16,10 +16,11 @@ use std::alloc::Global;
 use std::sync::{Arc, Wait};
 
 impl<M> Sender<M> {
-    /// Puts a message behind the others, shows it in the sender's word, and wakes the receiver. It gives the message back where there is no memory.
+    /// Puts a message behind the others, shows it in the sender's word, and wakes the receiver. A sender puts at most 4,294,967,295
+    /// messages. Where there is no memory it gives the message back, and nothing has changed.
     pub fn put<R: Wait>(&mut self, rt: &R, message: M) -> Result<Stamp, Refused<M>>
         requires { length self.old.sent < 4294967295 }
-        ensures ok { IfOk result (λ stamp. (stamp ≡ record { sender = self.old.number; index = length self.old.sent }) × (self.new ≡ record self.old { sent = self.old.sent ++ message ∷ [] })) }
+        ensures ok { IfOk result (λ stamp. (stamp ≡ next_stamp self.old) × (self.new ≡ with_put self.old message)) }
         ensures refused { IfErr result (λ back. (back ≡ Refused.Memory message) × (self.new ≡ self.old)) }
     {
         let stamp = Stamp {
@@ -79,10 +80,11 @@ impl<M> Sender<M> {
         seat: &mut MarkSeat<M>,
     ) -> Result<Sender<M>, Memory>
         requires pass { IsFirstPassOf (arc_value channel.now).line pass.old × (known_by pass.old ≡ receiving number [] []) × (number < 64) }
-        requires seat { (seat.old.table_id ≡ (arc_value channel.now).marks.shared.table_id) × (seat.old.id ≡ 0) × (seat.old.me.0 ≡ reading (arc_value channel.now).line number 0 []) × (number < seat.old.table_id.slots) }
+        requires seat { IsFirstSeatOf (arc_value channel.now).marks.shared.table_id (arc_value channel.now).line number seat.old }
+        requires slots { number < seat.old.table_id.slots }
         ensures sender { IfOk result (λ sender. sender ≡ new_sender (record { line = (arc_value channel.now).line }) number) }
         ensures pass { OnOk result (IsFirstPassOf (arc_value channel.now).line pass.new × (known_by pass.new ≡ receiving (number + 1) [] [])) }
-        ensures seat { OnOk result ((seat.new.table_id ≡ seat.old.table_id) × (seat.new.id ≡ 0) × (seat.new.me.0 ≡ reading (arc_value channel.now).line (number + 1) 0 [])) }
+        ensures seat { OnOk result (IsFirstSeatOf seat.old.table_id (arc_value channel.now).line (number + 1) seat.new) }
     {
         let theirs = Arc::try_clone(channel)?;
         Ok(Sender {

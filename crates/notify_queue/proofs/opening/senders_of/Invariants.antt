@@ -3,7 +3,7 @@ use Rattle.std.specs.Arc.{arc_value}
 use Rattle.std.specs.List.{slice_get}
 use Rattle.notify_queue.specs.Delivery.{receiving}
 use Rattle.notify_queue.specs.Ends.{new_sender}
-use Rattle.notify_queue.specs.Marks.{reading}
+use Rattle.notify_queue.specs.Marks.{IsFirstSeatOf}
 use Rattle.notify_queue.specs.Passes.{IsFirstPassOf, known_by}
 use Rattle.notify_queue.proofs.opening.senders_of.Given as goal
 
@@ -13,5 +13,5 @@ invariant-loop-number g l = record {
   room : l.senders ≤ vec_capacity l.made;
   made : (k : ℕ) → k < l.number → slice_get l.made.items k ≡ Some (new_sender (record { line = (arc_value l.channel).line }) k);
   pass_of : IsFirstPassOf (arc_value l.channel).line l.pass × (known_by l.pass ≡ receiving l.number [] []);
-  seat_of : (l.seat.table_id ≡ l.initial.seat.table_id) × (l.seat.id ≡ 0) × (l.seat.me.0 ≡ reading (arc_value l.channel).line l.number 0 []);
+  seat_of : IsFirstSeatOf l.initial.seat.table_id (arc_value l.channel).line l.number l.seat;
 }
