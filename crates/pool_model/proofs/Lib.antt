@@ -1,6 +1,6 @@
 pub mod Lists
 pub mod Tickets
 pub mod Histories
-pub mod Orders
 pub mod Accounts
 pub mod Lawful
+pub mod Turns

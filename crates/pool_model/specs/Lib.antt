@@ -2,6 +2,7 @@ pub mod Tickets
 pub mod History
 pub mod Orders
 pub mod Tasks
+pub mod Steps
 pub mod Records
 pub mod Seen
 pub mod Passes

@@ -1,6 +1,7 @@
 -- The adds of a pass, in order, and all passes of a pool.
 use Rattle.std.specs.Prelude.{◌≡◌, ℕ, ◌<◌, List, [], ◌∷◌, ◌++◌, ◌==◌, length, map, filter, slice_get, slice_index_or, Some, All}
 use Rattle.std.specs.List.{sum_by, count_by, range_with_len}
+use Rattle.pool_model.specs.Orders.{IsSameInAnyOrder}
 use Rattle.pool_model.specs.Tasks.{Task, Add, add_of, numbered, upwards}
 use Rattle.pool_model.specs.Seen.{PoolId, PassSeen, EndSeen}
 
@@ -22,6 +23,10 @@ pushed_by p = upwards 0 p.pushed
 -- the adds of the pass, in order: those with the indexes 0, 1, 2, .., as many as it pushed
 abbrev pub adds_of : PassSeen → List Add
 adds_of p = map (add_with (pushed_by p)) (range_with_len 0 (length (pushed_by p)))
+
+-- The adds have no gap: numbered 0, 1, 2, .. they are, in any order, what the pass pushed. So none of them is made up.
+pub record HasNoGap (p : PassSeen) : Type 0 where
+  pub all : IsSameInAnyOrder (numbered p.number 0 (adds_of p)) (pushed_by p)
 
 -- the tasks of all these passes
 abbrev pub tasks_of : List PassSeen → List Task

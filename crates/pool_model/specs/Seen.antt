@@ -9,6 +9,7 @@ use Rattle.pool_model.specs.declared.task.Ending.{Ending}
 use Rattle.pool_model.specs.declared.task.Entry.{Entry}
 use Rattle.pool_model.specs.declared.task.Ticket.{Ticket}
 use Rattle.pool_model.specs.Records.{Record}
+use Rattle.pool_model.specs.Steps.{LookSeen, Step, steps_in}
 use Rattle.pool_model.specs.Tasks.{Task}
 
 -- which pool it is: its queues, from the lowest, how many passes it has in all, and its end mark
@@ -37,15 +38,19 @@ pub record WorkerSeen : Type 0 where
   pub pool : PoolId
   pub number : ℕ
 
--- A helper's pass, or the end of a worker or helper: its records in order, and what it popped from each queue, from the lowest; the end of the
--- pool that its last look at the mark found; and how many queues, from the highest down, it found empty behind that look and its last pop.
+-- A helper's pass, or the end of a worker or helper: its records in order, and what it popped from each queue, from the lowest; all its looks at the
+-- queues and at the mark, oldest first; and the end of the pool that its last look at the mark found.
 pub record EndSeen : Type 0 where
   pub pool : PoolId
   pub number : ℕ
   pub records : List Record
   pub popped : List (List Entry)
+  pub looks : List LookSeen
   pub found : Option Ending
-  pub clear : ℕ
+
+-- all that it did at the queues and at the mark, oldest first
+abbrev pub steps_by : EndSeen → List Step
+steps_by e = steps_in e.looks
 
 -- a pool whose end has begun: which it is, the count of its keep-alives, which end, and the passes of its adders, as they were handed in
 pub record EndingSeen : Type 0 where

@@ -5,6 +5,7 @@ ghost use Rattle.pool_model.specs.History.{Event, PoolHistory, accepts, outs};
 ghost use Rattle.pool_model.specs.Records.{Record};
 ghost use Rattle.pool_model.specs.Seen.{PoolId, PassSeen, Returned};
 ghost use Rattle.pool_model.specs.Passes.{AreAllPasses, AreNumbered};
+ghost use Rattle.pool_model.specs.Steps.{Step, Worked, TakesFromTheHighest};
 ghost use Rattle.pool_model.specs.Accounts.{AllRun, AllRunOrReturned, RanOnce, RanOrReturnedOnce};
 ghost use Rattle.pool_model.specs.Tickets.{Ascend, tickets_of};
 
@@ -37,4 +38,10 @@ pub fn stop_accounts_for_each<J: Headed>()
 /// The passes of a pool's adders, in the order in which a new pool gives them, are all of them, whatever they have added.
 pub fn passes_in_order_are_all()
     ensures { (pool : PoolId) (adders : ℕ) (passes : List PassSeen) → AreNumbered pool adders passes → AreAllPasses pool adders passes }
+{}
+
+/// In all that a worker did, each take follows, behind the take before it, a look at the mark that found no stop, and for each
+/// higher queue a pop that found it empty.
+pub fn takes_follow_empty_looks()
+    ensures { (queues : ℕ) (steps : List Step) → Worked queues steps → TakesFromTheHighest queues steps }
 {}

@@ -32,8 +32,9 @@ use Rattle.task_queue.specs.contracts.passes.Taker.TheInside as of_taker
 use Rattle.task_queue.specs.contracts.passes.Gathered as gathered
 use Rattle.task_queue.specs.contracts.passes.Gathered.TheInside as of_gathered
 use Rattle.task_queue.specs.contracts.rule.Queued as queued
-use Rattle.task_queue.specs.contracts.look.EmptyLook as look
-use Rattle.task_queue.specs.contracts.look.EmptyLook.TheInside as of_look
+use Rattle.task_queue.specs.contracts.looks.Looks as looks
+use Rattle.task_queue.specs.contracts.looks.Looks.TheInside as of_looks
+use Rattle.task_queue.proofs.trail.Trail.TheSendSync as trail_task_queue
 use Rattle.task_queue.specs.contracts.queue.TaskQueue as queue
 use Rattle.task_queue.specs.contracts.queue.TaskQueue.TheInside as of_queue
 
@@ -72,8 +73,8 @@ queue_inside_send J g s = recorded_send (of_queue.the_field J g).row _ _ (of_que
 pub TaskQueue-send : (J : RattleType) (g : Ghosts J.Denot) → IsSend J → IsSend (queue.the_row J g)
 TaskQueue-send J g s = view_send (of_queue.the_row J g) _ _ _ _ (queue_inside_send J g s)
 
-look_inside : (J : RattleType) → IsSend (of_look.the_row J)
-look_inside J = recorded_send (of_look.the_field J).row _ _ (of_look.the_type J).to_one (struct_send (shape (of_look.the_type J)) (search (Queued-send, all) depth 60 fits 20000, tt))
+looks_inside : (J : RattleType) → IsSend (of_looks.the_row J)
+looks_inside J = recorded_send (of_looks.the_field J).row _ _ (of_looks.the_type J).to_one (struct_send (shape (of_looks.the_type J)) (search (trail_task_queue.the_send, all) depth 60 fits 20000, tt))
 
-pub EmptyLook-send : (J : RattleType) → IsSend (look.the_row J)
-EmptyLook-send J = view_send (of_look.the_row J) _ _ _ _ (look_inside J)
+pub Looks-send : (J : RattleType) → IsSend (looks.the_row J)
+Looks-send J = view_send (of_looks.the_row J) _ _ _ _ (looks_inside J)

@@ -7,7 +7,7 @@ use Rattle.std.proofs.lemmas.List.Sums.{sum_by-append}
 use Rattle.crossbeam_queue.specs.Fifo.{Forks, Merges}
 use Rattle.job_trait.specs.declared.job.Head.{Head}
 use Rattle.pool_model.specs.declared.task.Entry.{Entry}
-use Rattle.pool_model.proofs.Lists.{All-cons, All-none, All-snoc, All-into}
+use Rattle.task_queue.proofs.Lists.{All-cons, All-none, All-snoc, All-into}
 use Rattle.task_queue.specs.declared.view.Share.{Share}
 use Rattle.task_queue.specs.declared.view.View.{View}
 use Rattle.task_queue.specs.Views.{adding, taking, gathered, nobody, share, entries_of, pushes_of, pops_of, room_of}

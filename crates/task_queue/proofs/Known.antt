@@ -5,8 +5,8 @@ use mathlib.Core.Option.{some}
 use lib.ListN.{get_elem?}
 use Rattle.job_trait.specs.declared.job.Head.{Head}
 use Rattle.pool_model.specs.History.{accepts, lefts, accepted_by, taken_by}
-use Rattle.pool_model.proofs.Lists.{All-head, All-tail, All-into}
-use Rattle.pool_model.proofs.Orders.{sum_by-ones}
+use Rattle.task_queue.proofs.Lists.{All-head, All-tail, All-into}
+use Rattle.task_queue.proofs.Orders.{sum_by-ones}
 use Rattle.task_queue.specs.declared.rule.Queued.{Queued}
 use Rattle.task_queue.specs.declared.view.Role.{Role}
 use Rattle.task_queue.specs.declared.view.Role.TheVariants.{Maker, Adder, Taker, Gathered, Nobody}

@@ -1,3 +1,7 @@
+pub mod Lists
+pub mod Orders
+pub mod Tickets
+pub mod Histories
 pub mod Seats
 pub mod Sums
 pub mod Known
@@ -8,4 +12,6 @@ pub mod Gathering
 pub mod Calls
 pub mod Settling
 pub mod Marking
+pub mod Looking
+pub mod Walks
 pub mod Crossings

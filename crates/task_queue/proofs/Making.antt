@@ -7,7 +7,7 @@ use Rattle.crossbeam_queue.specs.Fifo.{Forks}
 use Rattle.job_trait.specs.declared.job.Head.{Head}
 use Rattle.pool_model.specs.declared.task.Entry.{Entry}
 use Rattle.pool_model.specs.History.{accepts, outs}
-use Rattle.pool_model.proofs.Lists.{All-head, All-tail, All-none, All-into}
+use Rattle.task_queue.proofs.Lists.{All-head, All-tail, All-none, All-into}
 use Rattle.task_queue.specs.declared.view.View.{View}
 use Rattle.task_queue.specs.Views.{making, adding, taking, nobody, pushes_of, pops_of, room_of}
 use Rattle.task_queue.specs.Rule.{Facts, QueueHolds, Knows}

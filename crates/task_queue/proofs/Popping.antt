@@ -7,8 +7,8 @@ use Rattle.job_trait.specs.declared.job.Head.{Head}
 use Rattle.pool_model.specs.declared.task.Entry.{Entry}
 use Rattle.pool_model.specs.History.{PoolHistory, taken, left, accepts, takes, outs, lefts, accepted_by, taken_by}
 use Rattle.pool_model.specs.Tickets.{Ascend, tickets_of}
-use Rattle.pool_model.proofs.Lists.{All-into}
-use Rattle.pool_model.proofs.Histories.{accepts-append, takes-append, lefts-append, outs-append, taken_by-append, accepted_by-append, taken_by-same, taken_by-other, lawful_take, lawful_left, outs_ascend, outs_short, ascend_taken_by, ascend_lefts, length-taken_by, length-lefts}
+use Rattle.task_queue.proofs.Lists.{All-into}
+use Rattle.task_queue.proofs.Histories.{accepts-append, takes-append, lefts-append, outs-append, taken_by-append, accepted_by-append, taken_by-same, taken_by-other, lawful_take, lawful_left, outs_ascend, outs_short, ascend_taken_by, ascend_lefts, length-taken_by, length-lefts}
 use Rattle.task_queue.specs.declared.view.Share.{Share}
 use Rattle.task_queue.specs.declared.view.View.{View}
 use Rattle.task_queue.specs.Views.{taking, gathered, entry_of, pushes_of, pops_of, room_of}

@@ -7,8 +7,8 @@ use Rattle.crossbeam_queue.specs.Fifo.{Pushes}
 use Rattle.job_trait.specs.declared.job.Head.{Head}
 use Rattle.pool_model.specs.declared.task.Entry.{Entry}
 use Rattle.pool_model.specs.History.{accepted, accepts, takes, outs, lefts, accepted_by, taken_by}
-use Rattle.pool_model.proofs.Lists.{All-snoc}
-use Rattle.pool_model.proofs.Histories.{accepts-append, takes-append, lefts-append, outs-append, taken_by-append, accepted_by-same, accepted_by-other, lawful_accept}
+use Rattle.task_queue.proofs.Lists.{All-snoc}
+use Rattle.task_queue.proofs.Histories.{accepts-append, takes-append, lefts-append, outs-append, taken_by-append, accepted_by-same, accepted_by-other, lawful_accept}
 use Rattle.task_queue.specs.declared.rule.Queued.{Queued}
 use Rattle.task_queue.specs.declared.view.View.{View}
 use Rattle.task_queue.specs.Views.{adding, entry_of, pushes_of, pops_of, room_of, most}

@@ -6,7 +6,7 @@ use Rattle.job_trait.specs.declared.job.Head.{Head}
 use Rattle.pool_model.specs.declared.task.Entry.{Entry}
 use Rattle.pool_model.specs.History.{Event, outs}
 use Rattle.pool_model.specs.Orders.{IsSameInAnyOrder}
-use Rattle.pool_model.proofs.Histories.{outs_are}
+use Rattle.task_queue.proofs.Histories.{outs_are}
 use Rattle.task_queue.specs.declared.rule.Queued.{Queued}
 use Rattle.task_queue.specs.declared.view.Share.{Share}
 use Rattle.task_queue.specs.declared.view.View.{View}

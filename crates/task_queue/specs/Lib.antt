@@ -4,4 +4,5 @@ pub mod Steps
 pub mod Seen
 pub mod Passes
 pub mod Settled
+pub mod Looks
 pub mod Marks

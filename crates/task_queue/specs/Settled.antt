@@ -1,20 +1,19 @@
--- What a look tells, and a queue that has ended.
-use Rattle.std.specs.Prelude.{◌≡◌, List, [], ◌∷◌, ◌++◌}
+-- What a take tells, and a queue that has ended.
+use Rattle.std.specs.Prelude.{◌≡◌, List, [], ◌∷◌, ◌++◌, Option, Some, None}
 use Rattle.job_trait.specs.declared.job.Head.{Head}
 use Rattle.pool_model.specs.declared.task.Entry.{Entry}
 use Rattle.pool_model.specs.History.{Event}
 use Rattle.pool_model.specs.Orders.{IsSameInAnyOrder}
-use Rattle.task_queue.specs.declared.queue.Look.{Look}
-use Rattle.task_queue.specs.declared.queue.Look.TheVariants.{Found, Empty}
+use Rattle.task_queue.specs.declared.rule.Queued.{Queued}
 use Rattle.task_queue.specs.declared.view.View.{View}
 use Rattle.task_queue.specs.Seen.{TakerSeen, GatheredSeen}
 use Rattle.task_queue.specs.Steps.{IsWhole}
 use Rattle.task_queue.specs.Views.{entry_of, entries_of}
 
--- the taker has popped the task; or it is as it was, and the evidence is of it
-abbrev pub LookTold : {J : Type 0} → (J → Head) → TakerSeen → TakerSeen → Look J → Type 0
-LookTold head old new (Found task) = new ≡ record old { popped = old.popped ++ entry_of head task ∷ [] }
-LookTold head old new (Empty look) = (new ≡ old) × (look ≡ old)
+-- the taker has popped the task; or it is as it was
+abbrev pub TakeTold : {J : Type 0} → (J → Head) → TakerSeen → TakerSeen → Option (Queued J) → Type 0
+TakeTold head old new (Some task) = new ≡ record old { popped = old.popped ++ entry_of head task ∷ [] }
+TakeTold head old new None = new ≡ old
 
 -- the queue has a whole history in which this was left and nothing waits
 pub record Drained (v : View) (rest : List Entry) : Type 0 where

@@ -1,5 +1,5 @@
 -- What a pop tells.
-use Rattle.std.specs.Prelude.{◌≡◌, ◌^◌, ◌≤◌, List, [], ◌∷◌, ◌++◌, map, length, All}
+use Rattle.std.specs.Prelude.{◌≡◌, ◌^◌, ◌≤◌, List, [], ◌∷◌, ◌++◌, map, length, Option, Some, None, All}
 use Rattle.job_trait.specs.declared.job.Head.{Head}
 use Rattle.pool_model.specs.declared.task.Entry.{Entry}
 use Rattle.pool_model.specs.History.{Event, PoolHistory, accepts, takes, lefts, outs, accepted_by, taken_by}
@@ -41,3 +41,8 @@ Shows head v items = v.role ≡ Gathered → v.parts ≡ v.whole → (history : 
 pub data MayPop (v : View) : Type 0 where
   may_take : v ≡ taking v.whole v.number v.popped → MayPop v
   is_whole : v ≡ gathered v.whole v.whole v.added v.taken v.popped → MayPop v
+
+-- a pop gave this task, or it found none, which tells the gathered pass that is whole what happened in all
+abbrev pub Popped : {J : Type 0} → (J → Head) → View → View → Option (Queued J) → Type 0
+Popped head v w (Some x) = Took head v x w
+Popped head v w None = (w ≡ v) × Shows head v []

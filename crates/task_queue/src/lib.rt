@@ -14,12 +14,13 @@
 //! - Between any two steps there is one lawful history (`PoolHistory` of `pool_model`): each adder's pushes are what it accepted
 //!   by that adder, each taker's pops what it has taken by that taker, and what waits is what the queue holds.
 //! - `settle` asks for all passes, and hands out what is left, in order, with the one whole history (`Settled`).
-//! - A pop that finds nothing gives evidence of it (`EmptyLook`), which nothing else makes.
+//! - Each look, at a queue or at the mark, is noted in order (`Looks`), with what it found, and nothing else makes that list
+//!   longer. So contracts above can say that a queue was found empty within a call, or behind another look.
 //! - While no end has begun the adders have all parts of the mark. `begin` needs them all and spends them, so whoever found an
 //!   end meets no adder any more (`no_part_is_left`).
 #![tactic(auto)]
 
-mod look;
+mod looks;
 mod mark;
 mod passes;
 mod queue;
@@ -27,10 +28,11 @@ mod rule;
 mod steps;
 #[cfg(test)]
 mod tests;
+mod trail;
 mod view;
 
-pub use look::EmptyLook;
+pub use looks::Looks;
 pub use mark::{EndMark, OpenSeat, Watch};
 pub use passes::{Adder, Gathered, Maker, Taker};
-pub use queue::{Look, TaskQueue};
+pub use queue::TaskQueue;
 pub use rule::Queued;

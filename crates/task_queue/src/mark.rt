@@ -1,12 +1,15 @@
 // The end mark of a pool: one word, 0 while no end has begun, 1 where a join has, 2 where a stop has.
-ghost use Rattle.std.specs.Prelude.{◌≡◌, ◌≢◌, ◌+◌, ◌-◌, ◌<◌, ◌≤◌, Some, None, IfOk};
+ghost use Rattle.std.specs.Prelude.{◌≡◌, ◌≢◌, ◌+◌, ◌-◌, ◌<◌, ◌≤◌, [], ◌∷◌, ◌++◌, Some, None, IfOk};
+ghost use Rattle.task_queue.specs.Looks.{mark_seen};
 ghost use Rattle.task_queue.specs.Marks.{ending_of};
 
+use crate::looks::{Looks, Noted};
 use atomic_table::{Join, Play, Seat, Split, Table, TableRule};
 use fan_base::Memory;
 use pool_model::Ending;
 use std::alloc::{AllocError, Global};
 use std::marker::Model;
+use std::snapshot::Snapshot;
 
 /// What a seat at the mark knows. No value of it is made.
 pub struct MarkView {
@@ -66,9 +69,9 @@ impl Join<MarkView> for Meet {
 }
 
 /// A look at the mark.
-struct Looks;
+struct LooksAt;
 
-impl Play<u32, MarkView> for Looks {
+impl Play<u32, MarkView> for LooksAt {
     ghost use Rattle.task_queue.specs.Marks.{looks};
 
     ghost then = { looks };
@@ -207,13 +210,25 @@ impl EndMark {
         }
     }
 
-    /// Which end has begun. What a look found stays.
-    pub fn look(&self, watch: &mut Watch) -> Option<Ending>
+    /// Which end has begun. What a look found stays. The look is noted.
+    pub fn look<J>(&self, watch: &mut Watch, looks: &mut Looks<J>) -> Option<Ending>
         requires mark { watch.old.mark ≡ self.now.mark }
-        ensures looked { watch.new ≡ record watch.old { looks = watch.old.looks + 1; found = result } }
+        ensures found { watch.new ≡ record watch.old { looks = watch.old.looks + 1; found = result } }
+        ensures stays { watch.old.found ≢ None → result ≡ watch.old.found }
+        ensures noted { looks.new ≡ looks.old ++ mark_seen self.now.mark result ∷ [] }
+    {
+        let found = self.load(watch);
+        looks.note(Noted::Looked(Snapshot::of(&*watch)));
+        found
+    }
+
+    // The look itself.
+    fn load(&self, watch: &mut Watch) -> Option<Ending>
+        requires mark { watch.old.mark ≡ self.now.mark }
+        ensures found { watch.new ≡ record watch.old { looks = watch.old.looks + 1; found = result } }
         ensures stays { watch.old.found ≢ None → result ≡ watch.old.found }
     {
-        ending(self.table.shared.load::<Looks>(&mut watch.seat, 0))
+        ending(self.table.shared.load::<LooksAt>(&mut watch.seat, 0))
     }
 
     /// Begins an end. It needs the parts of all adders, and spends them.

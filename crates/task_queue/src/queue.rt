@@ -2,9 +2,11 @@
 ghost use Rattle.std.specs.Prelude.{◌≡◌, ◌+◌, ◌-◌, ◌<◌, ◌≤◌, [], ◌∷◌, ◌++◌, length, map, All, IfOk, OnOk, IfErr};
 ghost use Rattle.crossbeam_queue.specs.SegTies.{IsSegPassOf};
 ghost use Rattle.task_queue.specs.Views.{entry_of, share, gathered};
-ghost use Rattle.task_queue.specs.Settled.{Settled, Drained, LookTold};
+ghost use Rattle.task_queue.specs.Looks.{pop_seen};
+ghost use Rattle.task_queue.specs.Settled.{Settled, Drained, TakeTold};
+ghost use Rattle.pool_model.specs.Tickets.{Ascend, tickets_of};
 
-use crate::look::{EmptyLook, pop};
+use crate::looks::{Looks, pop};
 use crate::passes::{Adder, Gathered, Maker, Taker};
 use crate::rule::{Line, Pass, Queued};
 use crate::steps::{Count, Gather, MakeAdder, MakeTaker, Push, PutAdder, PutTaker};
@@ -34,13 +36,6 @@ impl<J: Headed> Drop for TaskQueue<J> {
         let TaskQueue { line, alloc: _ } = self;
         line.destroy();
     }
-}
-
-/// What a look at a queue found: the task in front, or no task at a step of the call.
-#[derive(Drop)]
-pub enum Look<J> {
-    Found(Queued<J>),
-    Empty(EmptyLook<J>),
 }
 
 impl<J: Headed> TaskQueue<J> {
@@ -102,14 +97,24 @@ impl<J: Headed> TaskQueue<J> {
         }
     }
 
-    /// Takes the task in front. `Empty` comes only where the queue was empty at a step of this call.
-    pub fn take<R: Wait>(&self, rt: &R, taker: &mut Taker<J>) -> Look<J>
+    /// Takes the task in front. `None` comes only where the queue was empty at a step of this call. Either is noted, with the
+    /// place that the caller calls this queue by.
+    pub fn take<R: Wait>(
+        &self,
+        rt: &R,
+        taker: &mut Taker<J>,
+        place: u32,
+        looks: &mut Looks<J>,
+    ) -> Option<Queued<J>>
         requires queue { taker.old.queue ≡ self.now }
-        ensures { LookTold J.head taker.old taker.new result }
+        ensures told { TakeTold J.head taker.old taker.new result }
+        ensures noted { looks.new ≡ looks.old ++ pop_seen J.head self.now place result ∷ [] }
+        ensures ascend { Ascend (tickets_of taker.new.popped) }
+        ensures short { length taker.new.popped ≤ 274877906944 }
     {
-        match pop(&self.line, rt, &mut taker.pass) {
-            Ok(parcel) => Look::Found(parcel.open()),
-            Err(look) => Look::Empty(look),
+        match pop(&self.line, rt, &mut taker.pass, place, looks) {
+            Some(parcel) => Some(parcel.open()),
+            None => None,
         }
     }
 
@@ -159,10 +164,11 @@ fn drain<J: Headed, R: Wait>(line: &Line<J>, rt: &R, pass: &mut Pass<J>) -> Parc
     ensures { Drained pass.old.me.view.client (map (entry_of J.head) result) }
 {
     let mut parcels = Parcels::new();
+    let mut looks = Looks::new();
     for _ in rt.forever() {
-        match pop(line, rt, pass) {
-            Ok(parcel) => parcels.push_front(parcel),
-            Err(_) => return parcels.reversed(),
+        match pop(line, rt, pass, 0, &mut looks) {
+            Some(parcel) => parcels.push_front(parcel),
+            None => return parcels.reversed(),
         }
     }
     unreachable!()

@@ -37,10 +37,10 @@ fn make_note(adder: u32, index: u64, id: u64) -> Queued<Note>
 }
 
 // The id of the job that was found, or 0.
-fn found(look: Look<Note>) -> u64 {
-    match look {
-        Look::Found(task) => task.job.0.id.0,
-        Look::Empty(_) => 0,
+fn found(task: Option<Queued<Note>>) -> u64 {
+    match task {
+        Some(task) => task.job.0.id.0,
+        None => 0,
     }
 }
 
@@ -57,11 +57,12 @@ fn tasks_leave_in_order_and_the_rest_is_handed_out(rt: HostRuntime) -> Result<()
     let mut first = queue.next_adder(&mut maker);
     let mut second = queue.next_adder(&mut maker);
     let mut taker = queue.next_taker(&mut maker);
-    assert_eq!(rt; found(queue.take(&rt, &mut taker)), 0);
+    let mut looks = Looks::new();
+    assert_eq!(rt; found(queue.take(&rt, &mut taker, 0, &mut looks)), 0);
     let a = queue.push(&rt, &mut first, make_note(0, 0, 10)).is_ok();
     let b = queue.push(&rt, &mut second, make_note(1, 0, 11)).is_ok();
     assert_eq!(rt; (a, b), (true, true));
-    assert_eq!(rt; found(queue.take(&rt, &mut taker)), 10);
+    assert_eq!(rt; found(queue.take(&rt, &mut taker, 0, &mut looks)), 10);
     let mut all = queue.gather(first);
     queue.put_taker(&mut all, taker);
     queue.put_adder(&mut all, second);
@@ -74,12 +75,13 @@ fn tasks_leave_in_order_and_the_rest_is_handed_out(rt: HostRuntime) -> Result<()
 fn a_mark_is_found_once_it_is_set(rt: HostRuntime) -> Result<(), Fail> {
     let (mark, mut all) = EndMark::new(rt.alloc(), 2)?;
     let mut worker = mark.watch(&mut all);
+    let mut looks: Looks<Note> = Looks::new();
     let other = mark.one_part(&mut all);
-    assert_eq!(rt; mark.look(&mut worker), None);
+    assert_eq!(rt; mark.look(&mut worker, &mut looks), None);
     mark.put_parts(&mut all, other);
     let mut begun = mark.begin(all, Ending::Stops);
-    assert_eq!(rt; mark.look(&mut worker), Some(Ending::Stops));
+    assert_eq!(rt; mark.look(&mut worker, &mut looks), Some(Ending::Stops));
     mark.agree(&mut begun, worker);
-    assert_eq!(rt; mark.look(&mut begun), Some(Ending::Stops));
+    assert_eq!(rt; mark.look(&mut begun, &mut looks), Some(Ending::Stops));
     Ok(())
 }
