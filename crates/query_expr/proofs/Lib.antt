@@ -6,5 +6,6 @@ pub mod Trees
 pub mod Fronts
 pub mod Firsts
 pub mod Answered
+pub mod Nesting
 pub mod Splits
 pub mod Slowly

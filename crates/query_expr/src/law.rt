@@ -6,6 +6,7 @@ ghost use Rattle.query_grammar.specs.Grammar.{Reads, CanGoOn};
 ghost use Rattle.query_grammar.specs.Depth.{HasDepth};
 ghost use Rattle.query_grammar.specs.Faults.{Accepts, Refuses};
 ghost use Rattle.query_grammar.specs.Laws.{HasAnswer, IsUnexpected, HasOpener};
+ghost use Rattle.query_grammar.specs.Canonical.{KeepsCanonical};
 
 /// The law of the grammar, for every list of tokens. It speaks of no parser.
 pub fn grammar_law()
@@ -24,4 +25,10 @@ pub fn grammar_law()
     ensures too_deep { (tokens : List Token) (place : ℕ) → Refuses tokens (ExprFault.TooDeep place) → HasOpener tokens place }
     ensures some_depth { (tokens : List Token) → CanGoOn tokens → (n : ℕ) × HasDepth tokens n }
     ensures one_depth { (tokens : List Token) (m n : ℕ) → HasDepth tokens m → HasDepth tokens n → m ≡ n }
+{}
+
+/// Where some tokens are accepted with a tree, the canonical tokens of that tree are accepted with it: of all texts of a tree
+/// the canonical one has the fewest tokens and the least depth.
+pub fn canonical_tokens_are_accepted()
+    ensures { KeepsCanonical }
 {}

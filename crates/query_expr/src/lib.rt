@@ -2,7 +2,7 @@
 //! document.
 #![tactic(auto)]
 
-pub use law::grammar_law;
+pub use law::{canonical_tokens_are_accepted, grammar_law};
 pub use parsing::parse;
 pub use query_grammar::{Expr, ExprFault, Node, Token};
 pub use truth::holds;

@@ -7,3 +7,4 @@ pub mod Limits
 pub mod Faults
 pub mod Truth
 pub mod Laws
+pub mod Canonical

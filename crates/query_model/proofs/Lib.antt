@@ -1,7 +1,15 @@
 pub mod ListFacts
 pub mod LineLaws
 pub mod ReadingLaws
-pub mod LimitLaws
-pub mod PlaceLaws
+pub mod Building
+pub mod RowProofs
 pub mod FactLaws
 pub mod QueryFactLaws
+pub mod LimitLaws
+pub mod SortingLaws
+pub mod OrderLaws
+pub mod LineByLine
+pub mod PlaceLaws
+pub mod TextFacts
+pub mod CanonicalTokens
+pub mod CanonicalLaws

@@ -5,7 +5,7 @@ use Rattle.std.proofs.lemmas.Bool.{cases_lt}
 use Rattle.std.proofs.lemmas.Bool.Decides.{nat_tests}
 use Rattle.std.proofs.lemmas.Nat.{mod-mul-add}
 use Rattle.fan_base.specs.declared.doc.Doc.{Doc}
-use Rattle.query_model.specs.Documents.{part_from, part_of}
+use Rattle.query_model.specs.Parts.{part_from, part_of}
 
 eqb-is : (x y : ℕ) → eqb x y ≡ true → x ≡ y
 eqb-is x y h = grind (arith, nat_tests)

@@ -1,14 +1,13 @@
--- A query's line is what it is by its facts.
-use Rattle.std.proofs.Common.{◌≡◌, ℕ, ◌+◌, ◌*◌, ◌<◌, ◌≤◌, List, [], ◌∷◌, ◌++◌, true, false, cond, Option, Some, None, Result, Ok, Err, refl, sym, ap, ◌∙◌, ◌⊎◌, inl, inr, subst}
+-- Queries are what they are by their facts, and each piece says one thing.
+use Rattle.std.proofs.Common.{◌≡◌, ℕ, ◌+◌, ◌*◌, ◌<◌, ◌≤◌, List, [], ◌∷◌, ◌++◌, length, Bool, true, false, cond, Option, Some, None, Result, Ok, Err, refl, sym, ap, ◌∙◌, inl, inr, subst}
 use Rattle.std.specs.Prelude.{nat_lt, nat_le, codes, ◌↔◌}
-use Rattle.std.specs.List.{list_all, count_by}
+use Rattle.std.specs.List.{list_all, count_by, sum_by}
 use Rattle.std.specs.Str.Lines.{strip_carriage_return}
-use Rattle.std.specs.Cmp.Lexicographic.{bytes_decides}
 use Rattle.std.proofs.lemmas.Bool.{ltb-true, leb-true, le-leb, lt-ltb}
 use Rattle.fan_base.specs.declared.doc.Doc.{Doc}
 use Rattle.query_grammar.specs.declared.token.Token.{Token}
-use Rattle.query_grammar.specs.Tree.{Tree}
-use Rattle.query_grammar.specs.Faults as grammar
+use Rattle.query_model.specs.Results.{◌>>=◌, check, first_of}
+use Rattle.query_model.specs.Pieces.{Bytes, is_skipped, is_printable}
 use Rattle.query_model.specs.declared.line.Line.{Line}
 use Rattle.query_model.specs.declared.line.Line.TheVariants as line
 use Rattle.query_model.specs.declared.line.Query.{Query}
@@ -16,264 +15,570 @@ use Rattle.query_model.specs.declared.line.Prio.{Prio}
 use Rattle.query_model.specs.declared.line.Prio.TheVariants as prio
 use Rattle.query_model.specs.declared.line.Ask.{Ask}
 use Rattle.query_model.specs.declared.line.Ask.TheVariants as ask
+use Rattle.query_model.specs.declared.keyword.Keyword.{Keyword}
+use Rattle.query_model.specs.declared.keyword.Keyword.TheVariants as word
+use Rattle.query_model.specs.declared.keyword.ExprAsk.{ExprAsk}
+use Rattle.query_model.specs.declared.keyword.ExprAsk.TheVariants as expr
 use Rattle.query_model.specs.declared.fault.BadKind.{BadKind}
-use Rattle.query_model.specs.declared.fault.BadKind.TheVariants.{BadByte, MissingField, NotYet, UnknownCommand}
+use Rattle.query_model.specs.declared.fault.BadKind.TheVariants.{BadByte, MissingField, UnknownCommand}
 use Rattle.query_model.specs.declared.fault.BadKind.TheVariants as bad
 use Rattle.query_model.specs.declared.fault.Limit.TheVariants as limit
-use Rattle.query_model.specs.Results.{◌>>=◌, check, first_of}
-use Rattle.query_model.specs.Pieces.{Bytes, is_text, is_skipped, is_printable}
-use Rattle.query_model.specs.Expressions.{tokens_of, GivesTree}
-use Rattle.query_model.specs.Lines.{Said, doc_behind, ask_named, query_said, prio_said, doc_said, is_not_yet, named_behind, fields_behind, line_said, said_behind, query_room, query_behind, GivesLine, LineBehind, is_query}
-use Rattle.query_model.specs.ByFacts.{IsRead, fields_of, IsPrio, prio_name, ask_name, expr_of, IsQueryLine}
-use Rattle.query_model.proofs.LimitLaws.{go_on, checked, passed}
-use Rattle.query_model.proofs.FactLaws.{which, pass, first_is, after_doc, says_nothing}
+use Rattle.query_model.specs.Limits.{most_delay, most_ranked, most_ticks, most_queries, most_tasks}
+use Rattle.query_model.specs.Numbers.{number_field}
+use Rattle.query_model.specs.Keywords.{keyword_of}
+use Rattle.query_model.specs.Expressions.{tokens_of}
+use Rattle.query_model.specs.Lines.{Asking, Said, words_of, expr_behind, top_behind, ask_behind, query_with, prio_behind, query_from, after_behind, doc_behind, tick_behind, cancel_behind, said_by, fields_behind, line_said, said_behind, GivesAsk, query_room, query_behind, GivesLine, LineBehind, is_query, ticks_of}
+use Rattle.query_model.specs.Documents.{AreWords}
+use Rattle.query_model.specs.ByFacts.{IsSkipped, IsRead, fields_of, IsNumber, IsDocLine, IsTickLine, IsCancelLine, IsDelay, IsPrio, prio_name, IsTop, IsAskOf, IsQueryLine}
+use Rattle.query_model.proofs.FactLaws.{go_on, checked, passed, pass, first_is, number_facts, number_reads, words_facts, words_read, keyword_is, IsAlone, alone_facts, alone_reads, IsBehindDoc, doc_facts, doc_reads, tick_facts, tick_reads}
 
-abbrev finds : Tree → Ask
-finds = λ e. ask.Find e
+abbrev expr_name : ExprAsk → Bytes
+expr_name expr.Find = codes "find"
+expr_name expr.Count = codes "count"
+expr_name expr.Present = codes "exists"
 
-abbrev counts : Tree → Ask
-counts = λ e. ask.Count e
+-- the fields of what a query asks, before its expression is read
+abbrev AsksBy : List Bytes → Asking → Type 0
+AsksBy asks (Asking.of_tokens about tokens) = (texts : List Bytes) × (asks ≡ expr_name about ∷ texts) × (tokens_of texts ≡ Ok tokens)
+AsksBy asks (Asking.top k words) = IsTop asks k words
 
-abbrev exists : Tree → Ask
-exists = λ e. ask.Present e
+expr_facts : (about : ExprAsk) (name : Bytes) (texts : List Bytes) (asking : Asking) → name ≡ expr_name about → expr_behind about texts ≡ Ok asking → AsksBy (name ∷ texts) asking
+expr_facts about name texts asking is e =
+    let tokens = go_on (tokens_of texts) _ asking e in
+    let given : Result Asking BadKind = Ok (Asking.of_tokens about tokens.0) in
+    let same_result : given ≡ Ok asking = tokens.2 in
+    let same : Asking.of_tokens about tokens.0 ≡ asking = cc in
+    subst (λ (x : Asking). AsksBy (name ∷ texts) x) same (texts, ap (λ (n : Bytes). n ∷ texts) is, tokens.1)
 
--- a name and what is asked by it
-abbrev AsksBy : Bytes → (Tree → Ask) → Type 0
-AsksBy name asks = ((name ≡ codes "find") × (asks ≡ finds)) ⊎ (((name ≡ codes "count") × (asks ≡ counts)) ⊎ ((name ≡ codes "exists") × (asks ≡ exists)))
-
-abbrev Named : Type 0
-Named = Result (Tree → Ask) BadKind
-
-abbrev gives : (Tree → Ask) → Named
-gives asks = Ok asks
-
-abbrev fails : BadKind → Named
-fails kind = Err kind
-
-asks_by : (name : Bytes) (asks : Tree → Ask) → ask_named name ≡ Ok asks → AsksBy name asks
-asks_by name asks e = find (which (is_text (codes "find") name) _ _ _ e)
-  where
-    unknown : ((is_text (codes "top") name ≡ true) × (fails NotYet ≡ gives asks)) ⊎ ((is_text (codes "top") name ≡ false) × (fails UnknownCommand ≡ gives asks)) → AsksBy name asks
-    unknown (inl h) = absurd cc
-    unknown (inr h) = absurd cc
-
-    exist : ((is_text (codes "exists") name ≡ true) × (gives exists ≡ gives asks)) ⊎ ((is_text (codes "exists") name ≡ false) × (cond (is_text (codes "top") name) (fails NotYet) (fails UnknownCommand) ≡ gives asks)) → AsksBy name asks
-    exist (inl h) = let same : exists ≡ asks = cc in inr (inr ((bytes_decides name (codes "exists")).0 h.0, sym same))
-    exist (inr h) = unknown (which (is_text (codes "top") name) _ _ _ h.1)
-
-    count : ((is_text (codes "count") name ≡ true) × (gives counts ≡ gives asks))
-        ⊎ ((is_text (codes "count") name ≡ false) × (cond (is_text (codes "exists") name) (gives exists) (cond (is_text (codes "top") name) (fails NotYet) (fails UnknownCommand)) ≡ gives asks)) → AsksBy name asks
-    count (inl h) = let same : counts ≡ asks = cc in inr (inl ((bytes_decides name (codes "count")).0 h.0, sym same))
-    count (inr h) = exist (which (is_text (codes "exists") name) _ _ _ h.1)
-
-    find : ((is_text (codes "find") name ≡ true) × (gives finds ≡ gives asks))
-        ⊎ ((is_text (codes "find") name ≡ false) × (cond (is_text (codes "count") name) (gives counts) (cond (is_text (codes "exists") name) (gives exists) (cond (is_text (codes "top") name) (fails NotYet) (fails UnknownCommand))) ≡ gives asks)) → AsksBy name asks
-    find (inl h) = let same : finds ≡ asks = cc in inl ((bytes_decides name (codes "find")).0 h.0, sym same)
-    find (inr h) = count (which (is_text (codes "count") name) _ _ _ h.1)
-
--- what was said, by the fields of the line
-record IsSaid (all : List Bytes) (p : Prio) (asks : Tree → Ask) (tokens : List Token) : Type 0 where
-  words : List Bytes
-  prio_is : IsPrio words p
-  name : Bytes
-  texts : List Bytes
-  fields_are : all ≡ words ++ name ∷ texts
-  asks_are : AsksBy name asks
-  tokens_are : tokens_of texts ≡ Ok tokens
-
-query_facts : (words : List Bytes) (q p : Prio) (name : Bytes) (texts : List Bytes) (asks : Tree → Ask) (tokens : List Token) → IsPrio words q
-    → query_said q name texts ≡ Ok (Said.query p asks tokens) → IsSaid (words ++ name ∷ texts) p asks tokens
-query_facts words q p name texts asks tokens prio_is e =
-    let named = go_on (ask_named name) _ (Said.query p asks tokens) e in
-    let found = go_on (tokens_of texts) _ (Said.query p asks tokens) named.2 in
-    let given : Result Said BadKind = Ok (Said.query q named.0 found.0) in
-    let is : given ≡ Ok (Said.query p asks tokens) = found.2 in
-    let same_prio : q ≡ p = cc in
-    let same_asks : named.0 ≡ asks = cc in
-    let same_tokens : found.0 ≡ tokens = cc in
-    record {
-      words = words;
-      prio_is = subst (λ r. IsPrio words r) same_prio prio_is;
-      name = name;
-      texts = texts;
-      fields_are = refl;
-      asks_are = subst (λ f. AsksBy name f) same_asks (asks_by name named.0 named.1);
-      tokens_are = found.1 ∙ ap (λ ts. Ok ts) same_tokens;
-    }
-
-prio_facts : (q p : Prio) (others : List Bytes) (asks : Tree → Ask) (tokens : List Token) → prio_said q others ≡ Ok (Said.query p asks tokens) → IsSaid (prio_name q ∷ others) p asks tokens
-prio_facts q p others asks tokens e =
-    let name = go_on (first_of others MissingField) _ (Said.query p asks tokens) e in
-    subst (λ os. IsSaid (prio_name q ∷ os) p asks tokens) (sym (first_is others MissingField name.0 name.1))
-    (query_facts (prio_name q ∷ []) q p name.0.0 name.0.1 asks tokens (inl refl) name.2)
-
-doc_is_no_query : (given : Result Doc BadKind) (p : Prio) (asks : Tree → Ask) (tokens : List Token) → doc_said given ≡ Ok (Said.query p asks tokens) → ⊥
-doc_is_no_query (Ok d) p asks tokens e = cc
-doc_is_no_query (Err k) p asks tokens e = cc
-
-named_query : (before : List Line) (name : Bytes) (others : List Bytes) (p : Prio) (asks : Tree → Ask) (tokens : List Token) → named_behind before name others ≡ Ok (Said.query p asks tokens) → IsSaid (name ∷ others) p asks tokens
-named_query before name others p asks tokens e = not_yet (which (is_not_yet name) _ _ _ e)
-  where
-    said : Result Said BadKind
-    said = Ok (Said.query p asks tokens)
-
-    at : (known : Bytes) → is_text known name ≡ true → IsSaid (known ∷ others) p asks tokens → IsSaid (name ∷ others) p asks tokens
-    at known test is = subst (λ n. IsSaid (n ∷ others) p asks tokens) (sym ((bytes_decides name known).0 test)) is
-
-    hi : ((is_text (codes "hi") name ≡ true) × (prio_said prio.Hi others ≡ said)) ⊎ ((is_text (codes "hi") name ≡ false) × (query_said prio.Mid name others ≡ said)) → IsSaid (name ∷ others) p asks tokens
-    hi (inl h) = at (codes "hi") h.0 (prio_facts prio.Hi p others asks tokens h.1)
-    hi (inr h) = query_facts [] prio.Mid p name others asks tokens (inr (refl, refl)) h.1
-
-    mid : ((is_text (codes "mid") name ≡ true) × (prio_said prio.Mid others ≡ said)) ⊎ ((is_text (codes "mid") name ≡ false) × (cond (is_text (codes "hi") name) (prio_said prio.Hi others) (query_said prio.Mid name others) ≡ said)) → IsSaid (name ∷ others) p asks tokens
-    mid (inl h) = at (codes "mid") h.0 (prio_facts prio.Mid p others asks tokens h.1)
-    mid (inr h) = hi (which (is_text (codes "hi") name) _ _ _ h.1)
-
-    lo : ((is_text (codes "lo") name ≡ true) × (prio_said prio.Lo others ≡ said))
-        ⊎ ((is_text (codes "lo") name ≡ false) × (cond (is_text (codes "mid") name) (prio_said prio.Mid others) (cond (is_text (codes "hi") name) (prio_said prio.Hi others) (query_said prio.Mid name others)) ≡ said)) → IsSaid (name ∷ others) p asks tokens
-    lo (inl h) = at (codes "lo") h.0 (prio_facts prio.Lo p others asks tokens h.1)
-    lo (inr h) = mid (which (is_text (codes "mid") name) _ _ _ h.1)
-
-    doc : ((is_text (codes "doc") name ≡ true) × (doc_said (doc_behind before others) ≡ said)) ⊎ ((is_text (codes "doc") name ≡ false) × (after_doc name others ≡ said)) → IsSaid (name ∷ others) p asks tokens
-    doc (inl h) = absurd (doc_is_no_query (doc_behind before others) p asks tokens h.1)
-    doc (inr h) = lo (which (is_text (codes "lo") name) _ _ _ h.1)
-
-    not_yet : ((is_not_yet name ≡ true) × (Err NotYet ≡ said)) ⊎ ((is_not_yet name ≡ false) × (cond (is_text (codes "doc") name) (doc_said (doc_behind before others)) (after_doc name others) ≡ said)) → IsSaid (name ∷ others) p asks tokens
-    not_yet (inl h) = absurd cc
-    not_yet (inr h) = doc (which (is_text (codes "doc") name) _ _ _ h.1)
-
-fields_query : (before : List Line) (all : List Bytes) (p : Prio) (asks : Tree → Ask) (tokens : List Token) → fields_behind before all ≡ Ok (Said.query p asks tokens) → IsSaid all p asks tokens
-fields_query before [] p asks tokens e = absurd cc
-fields_query before (name ∷ others) p asks tokens e = named_query before name others p asks tokens e
-
-said_query : (before : List Line) (piece : Bytes) (p : Prio) (asks : Tree → Ask) (tokens : List Token) → said_behind before piece ≡ Ok (Said.query p asks tokens) → IsRead piece × IsSaid (fields_of piece) p asks tokens
-unfolding said_behind
-said_query before piece p asks tokens e = by (which (is_skipped (strip_carriage_return piece)) _ _ _ e)
-  where
-    by : ((is_skipped (strip_carriage_return piece) ≡ true) × (says_nothing ≡ Ok (Said.query p asks tokens))) ⊎ ((is_skipped (strip_carriage_return piece) ≡ false) × (line_said before (strip_carriage_return piece) ≡ Ok (Said.query p asks tokens)))
-        → IsRead piece × IsSaid (fields_of piece) p asks tokens
-    by (inl h) = absurd cc
-    by (inr h) =
-        let printable = checked (list_all is_printable (strip_carriage_return piece)) BadByte _ (Said.query p asks tokens) h.1 in
-        (record { not_skipped = h.0; printable = printable.0 }, fields_query before (fields_of piece) p asks tokens printable.1)
-
--- a query that is given has what it needs
-record IsAsked (shards : ℕ) (before : List Line) (p : Prio) (asks : Tree → Ask) (tokens : List Token) (query : Query) : Type 0 where
-  tree : Tree
-  accepted : grammar.Accepts tokens tree
-  room : count_by is_query before < 50000
-  tasks : (count_by is_query before + 1) * shards ≤ 262144
-  is : query ≡ record { delay = None; prio = p; ask = asks tree }
-
-asked : (shards : ℕ) (before : List Line) (p : Prio) (asks : Tree → Ask) (tokens : List Token) (query : Query) (expr : Result Tree BadKind) → GivesTree tokens expr
-    → Ok (Some (line.Query query)) ≡ query_behind shards before p asks expr → IsAsked shards before p asks tokens query
-asked shards before p asks tokens query expr gives e =
-    let tree = go_on expr _ (Some (line.Query query)) (sym e) in
-    let both = go_on (query_room shards before) _ (Some (line.Query query)) tree.2 in
-    let room = checked (nat_lt (count_by is_query before) 50000) (bad.Limit limit.Queries) _ both.0 both.1 in
-    let tasks = passed (nat_le ((count_by is_query before + 1) * shards) 262144) (bad.Limit limit.Tasks) both.0 room.1 in
-    let made : Query = record { delay = None; prio = p; ask = asks tree.0 } in
-    let given : Result (Option Line) BadKind = Ok (Some (line.Query made)) in
-    let is : given ≡ Ok (Some (line.Query query)) = both.2 in
-    record {
-      tree = tree.0;
-      accepted = subst (λ r. GivesTree tokens r) tree.1 gives;
-      room = ltb-true (count_by is_query before) 50000 room.0;
-      tasks = leb-true ((count_by is_query before + 1) * shards) 262144 tasks;
-      is = cc;
-    }
-
-given_query : (shards : ℕ) (before : List Line) (said : Result Said BadKind) (query : Query) → GivesLine shards before said (Ok (Some (line.Query query)))
-    → (p : Prio) × (asks : Tree → Ask) × (tokens : List Token) × (said ≡ Ok (Said.query p asks tokens)) × IsAsked shards before p asks tokens query
-given_query shards before (Err kind) query g = absurd cc
-given_query shards before (Ok Said.nothing) query g = absurd cc
-given_query shards before (Ok (Said.doc d)) query g = absurd cc
-given_query shards before (Ok (Said.query p asks tokens)) query g = (p, asks, tokens, refl, asked shards before p asks tokens query g.0 g.1 g.2)
-
-name_of : (name : Bytes) (asks : Tree → Ask) (tree : Tree) → AsksBy name asks → (name ≡ ask_name (asks tree)) × (expr_of (asks tree) ≡ tree)
-name_of name asks tree (inl (n, f)) = subst (λ g. (name ≡ ask_name (g tree)) × (expr_of (g tree) ≡ tree)) (sym f) (n, refl)
-name_of name asks tree (inr (inl (n, f))) = subst (λ g. (name ≡ ask_name (g tree)) × (expr_of (g tree) ≡ tree)) (sym f) (n, refl)
-name_of name asks tree (inr (inr (n, f))) = subst (λ g. (name ≡ ask_name (g tree)) × (expr_of (g tree) ≡ tree)) (sym f) (n, refl)
-
-query_line : (shards : ℕ) (before : List Line) (piece : Bytes) (p : Prio) (asks : Tree → Ask) (tokens : List Token) (query : Query) → IsRead piece → IsSaid (fields_of piece) p asks tokens
-    → IsAsked shards before p asks tokens query → IsQueryLine shards before piece query
-query_line shards before piece p asks tokens query read said a =
-    let name = name_of said.name asks a.tree said.asks_are in
-    subst (λ q. IsQueryLine shards before piece q) (sym a.is) (record {
-      read = read;
-      words = said.words;
-      prio_is = said.prio_is;
-      texts = said.texts;
-      fields_are = said.fields_are ∙ ap (λ n. said.words ++ n ∷ said.texts) name.0;
-      tokens = tokens;
-      tokens_are = said.tokens_are;
-      expr = subst (λ t. grammar.Accepts tokens t) (sym name.1) a.accepted;
-      delay = refl;
-      room = a.room;
-      tasks = a.tasks;
+top_facts : (name : Bytes) (others : List Bytes) (asking : Asking) → name ≡ codes "top" → top_behind others ≡ Ok asking → AsksBy (name ∷ others) asking
+top_facts name others asking is e =
+    let k = go_on (first_of others MissingField) _ asking e in
+    let n = go_on (number_field 1 most_ranked k.0.0) _ asking k.2 in
+    let some = checked (nat_lt 0 (length k.0.1)) MissingField _ asking n.2 in
+    let words = go_on (words_of k.0.1) _ asking some.1 in
+    let given : Result Asking BadKind = Ok (Asking.top n.0 words.0) in
+    let same_result : given ≡ Ok asking = words.2 in
+    let same : Asking.top n.0 words.0 ≡ asking = cc in
+    let within = words_facts k.0.1 words.0 words.1 in
+    subst (λ (x : Asking). AsksBy (name ∷ others) x) same (record {
+      field = k.0.0;
+      asks_are = ap (λ (x : Bytes). x ∷ others) is ∙ ap (λ (xs : List Bytes). codes "top" ∷ xs) (first_is others MissingField k.0 k.1 ∙ ap (λ (ws : List Bytes). k.0.0 ∷ ws) within.0);
+      number = number_facts 1 most_ranked k.0.0 n.0 n.1;
+      some = subst (λ (ws : List Bytes). 0 < length ws) within.0 (ltb-true 0 (length k.0.1) some.0);
+      are_words = within.1;
     })
 
--- the other way: what an ask asks of an expression, by its kind
-abbrev asks_of : Ask → Tree → Ask
-asks_of (ask.Find _) = finds
-asks_of (ask.Count _) = counts
-asks_of (ask.Present _) = exists
+ask_facts : (k : Option Keyword) (name : Bytes) (texts : List Bytes) (asking : Asking) → keyword_of name ≡ k → ask_behind k texts ≡ Ok asking → AsksBy (name ∷ texts) asking
+ask_facts None name texts asking is e = absurd cc
+ask_facts (Some word.Doc) name texts asking is e = absurd cc
+ask_facts (Some word.Tick) name texts asking is e = absurd cc
+ask_facts (Some word.Cancel) name texts asking is e = absurd cc
+ask_facts (Some word.After) name texts asking is e = absurd cc
+ask_facts (Some word.Lo) name texts asking is e = absurd cc
+ask_facts (Some word.Mid) name texts asking is e = absurd cc
+ask_facts (Some word.Hi) name texts asking is e = absurd cc
+ask_facts (Some word.Find) name texts asking is e = expr_facts expr.Find name texts asking (keyword_is name word.Find is) e
+ask_facts (Some word.Count) name texts asking is e = expr_facts expr.Count name texts asking (keyword_is name word.Count is) e
+ask_facts (Some word.Exists) name texts asking is e = expr_facts expr.Present name texts asking (keyword_is name word.Exists is) e
+ask_facts (Some word.Top) name texts asking is e = top_facts name texts asking (keyword_is name word.Top is) e
 
-asks_same : (a : Ask) → asks_of a (expr_of a) ≡ a
-asks_same (ask.Find e) = refl
-asks_same (ask.Count e) = refl
-asks_same (ask.Present e) = refl
+-- the fields of a query from its priority on
+record IsQueryFrom (delay : Option ℕ) (all : List Bytes) (said : Said) : Type 0 where
+  priority : Prio
+  asking : Asking
+  said_is : said ≡ Said.query delay priority asking
+  names : List Bytes
+  asks : List Bytes
+  all_are : all ≡ names ++ asks
+  prio_is : IsPrio names priority
+  asks_by : AsksBy asks asking
 
-named_ask : (a : Ask) → ask_named (ask_name a) ≡ Ok (asks_of a)
-named_ask (ask.Find e) = refl
-named_ask (ask.Count e) = refl
-named_ask (ask.Present e) = refl
+with_facts : (delay : Option ℕ) (p : Prio) (name : Bytes) (texts : List Bytes) (said : Said) → query_with delay p (keyword_of name) texts ≡ Ok said
+    → (asking : Asking) × (said ≡ Said.query delay p asking) × AsksBy (name ∷ texts) asking
+with_facts delay p name texts said e =
+    let asks = go_on (ask_behind (keyword_of name) texts) _ said e in
+    let given : Result Said BadKind = Ok (Said.query delay p asks.0) in
+    let same_result : given ≡ Ok said = asks.2 in
+    let same : Said.query delay p asks.0 ≡ said = cc in
+    (asks.0, sym same, ask_facts (keyword_of name) name texts asks.0 refl asks.1)
 
-query_reads : (p : Prio) (a : Ask) (texts : List Bytes) (tokens : List Token) → tokens_of texts ≡ Ok tokens → query_said p (ask_name a) texts ≡ Ok (Said.query p (asks_of a) tokens)
-query_reads p a texts tokens e =
-    ap (λ r. r >>= λ asks. tokens_of texts >>= λ ts. Ok (Said.query p asks ts)) (named_ask a)
-    ∙ ap (λ r. r >>= λ ts. Ok (Said.query p (asks_of a) ts)) e
+prio_facts : (delay : Option ℕ) (p : Prio) (name : Bytes) (others : List Bytes) (said : Said) → name ≡ prio_name p → prio_behind delay p others ≡ Ok said → IsQueryFrom delay (name ∷ others) said
+prio_facts delay p name others said is e =
+    let next = go_on (first_of others MissingField) _ said e in
+    let found = with_facts delay p next.0.0 next.0.1 said next.2 in
+    record {
+      priority = p;
+      asking = found.0;
+      said_is = found.1;
+      names = name ∷ [];
+      asks = next.0.0 ∷ next.0.1;
+      all_are = ap (λ (xs : List Bytes). name ∷ xs) (first_is others MissingField next.0 next.1);
+      prio_is = inl (ap (λ (n : Bytes). n ∷ []) is);
+      asks_by = found.2;
+    }
 
-plain_reads : (before : List Line) (a : Ask) (texts : List Bytes) → named_behind before (ask_name a) texts ≡ query_said prio.Mid (ask_name a) texts
-plain_reads before (ask.Find e) texts = refl
-plain_reads before (ask.Count e) texts = refl
-plain_reads before (ask.Present e) texts = refl
+mid_facts : (delay : Option ℕ) (name : Bytes) (others : List Bytes) (said : Said) → query_with delay prio.Mid (keyword_of name) others ≡ Ok said → IsQueryFrom delay (name ∷ others) said
+mid_facts delay name others said e =
+    let found = with_facts delay prio.Mid name others said e in
+    record {
+      priority = prio.Mid;
+      asking = found.0;
+      said_is = found.1;
+      names = [];
+      asks = name ∷ others;
+      all_are = refl;
+      prio_is = inr (refl, refl);
+      asks_by = found.2;
+    }
 
-prio_reads : (before : List Line) (p : Prio) (name : Bytes) (texts : List Bytes) → named_behind before (prio_name p) (name ∷ texts) ≡ query_said p name texts
-prio_reads before prio.Lo name texts = refl
-prio_reads before prio.Mid name texts = refl
-prio_reads before prio.Hi name texts = refl
+abbrev with_mid : Option ℕ → List Bytes → Said → Option Keyword → Type 0
+with_mid delay others said k = query_with delay prio.Mid k others ≡ Ok said
 
-fields_read : (before : List Line) (words : List Bytes) (p : Prio) (a : Ask) (texts : List Bytes) → IsPrio words p → fields_behind before (words ++ ask_name a ∷ texts) ≡ query_said p (ask_name a) texts
-fields_read before words p a texts (inl is) = ap (λ ws. fields_behind before (ws ++ ask_name a ∷ texts)) is ∙ prio_reads before p (ask_name a) texts
-fields_read before words p a texts (inr (none, mid)) =
-    ap (λ ws. fields_behind before (ws ++ ask_name a ∷ texts)) none ∙ (plain_reads before a texts ∙ ap (λ q. query_said q (ask_name a) texts) (sym mid))
+query_facts : (k : Option Keyword) (delay : Option ℕ) (name : Bytes) (others : List Bytes) (said : Said) → keyword_of name ≡ k → query_from delay k others ≡ Ok said → IsQueryFrom delay (name ∷ others) said
+query_facts None delay name others said is e = mid_facts delay name others said (subst (with_mid delay others said) (sym is) e)
+query_facts (Some word.Doc) delay name others said is e = mid_facts delay name others said (subst (with_mid delay others said) (sym is) e)
+query_facts (Some word.Tick) delay name others said is e = mid_facts delay name others said (subst (with_mid delay others said) (sym is) e)
+query_facts (Some word.Cancel) delay name others said is e = mid_facts delay name others said (subst (with_mid delay others said) (sym is) e)
+query_facts (Some word.After) delay name others said is e = mid_facts delay name others said (subst (with_mid delay others said) (sym is) e)
+query_facts (Some word.Lo) delay name others said is e = prio_facts delay prio.Lo name others said (keyword_is name word.Lo is) e
+query_facts (Some word.Mid) delay name others said is e = prio_facts delay prio.Mid name others said (keyword_is name word.Mid is) e
+query_facts (Some word.Hi) delay name others said is e = prio_facts delay prio.Hi name others said (keyword_is name word.Hi is) e
+query_facts (Some word.Find) delay name others said is e = mid_facts delay name others said (subst (with_mid delay others said) (sym is) e)
+query_facts (Some word.Count) delay name others said is e = mid_facts delay name others said (subst (with_mid delay others said) (sym is) e)
+query_facts (Some word.Exists) delay name others said is e = mid_facts delay name others said (subst (with_mid delay others said) (sym is) e)
+query_facts (Some word.Top) delay name others said is e = mid_facts delay name others said (subst (with_mid delay others said) (sym is) e)
 
-said_reads : (shards : ℕ) (before : List Line) (piece : Bytes) (query : Query) → (is : IsQueryLine shards before piece query) → said_behind before piece ≡ Ok (Said.query query.prio (asks_of query.ask) is.tokens)
+-- What fields say, by their facts.
+data Says (before : List Line) (all : List Bytes) (said : Said) : Type 0 where
+  a_doc : (doc : Doc) (others : List Bytes) → said ≡ Said.doc doc → all ≡ codes "doc" ∷ others → IsBehindDoc before others doc → Says before all said
+  a_tick : (n : ℕ) (others : List Bytes) → said ≡ Said.tick n → all ≡ codes "tick" ∷ others → IsAlone 1 most_ticks others n × (sum_by ticks_of before + n ≤ most_ticks) → Says before all said
+  a_cancel : (n : ℕ) (others : List Bytes) → said ≡ Said.cancel n → all ≡ codes "cancel" ∷ others → IsAlone 1 most_queries others n → Says before all said
+  a_query : (delay : Option ℕ) (first rest : List Bytes) → all ≡ first ++ rest → IsDelay first delay → IsQueryFrom delay rest said → Says before all said
+
+after_facts : (before : List Line) (name : Bytes) (others : List Bytes) (said : Said) → name ≡ codes "after" → after_behind others ≡ Ok said → Says before (name ∷ others) said
+after_facts before name others said is e =
+    let d = go_on (first_of others MissingField) _ said e in
+    let delay = go_on (number_field 1 most_delay d.0.0) _ said d.2 in
+    let next = go_on (first_of d.0.1 MissingField) _ said delay.2 in
+    Says.a_query (Some delay.0) (codes "after" ∷ (d.0.0 ∷ [])) (next.0.0 ∷ next.0.1)
+    (ap (λ (n : Bytes). n ∷ others) is ∙ ap (λ (xs : List Bytes). codes "after" ∷ xs) (first_is others MissingField d.0 d.1 ∙ ap (λ (xs : List Bytes). d.0.0 ∷ xs) (first_is d.0.1 MissingField next.0 next.1)))
+    (d.0.0, refl, number_facts 1 most_delay d.0.0 delay.0 delay.1)
+    (query_facts (keyword_of next.0.0) (Some delay.0) next.0.0 next.0.1 said refl next.2)
+
+now_facts : (before : List Line) (k : Option Keyword) (name : Bytes) (others : List Bytes) (said : Said) → keyword_of name ≡ k → query_from None k others ≡ Ok said → Says before (name ∷ others) said
+now_facts before k name others said is e = Says.a_query None [] (name ∷ others) refl refl (query_facts k None name others said is e)
+
+abbrev doc_said : Doc → Result Said BadKind
+doc_said d = Ok (Said.doc d)
+
+abbrev tick_said : ℕ → Result Said BadKind
+tick_said n = Ok (Said.tick n)
+
+abbrev cancel_said : ℕ → Result Said BadKind
+cancel_said n = Ok (Said.cancel n)
+
+keyword_facts : (before : List Line) (k : Option Keyword) (name : Bytes) (others : List Bytes) (said : Said) → keyword_of name ≡ k → said_by before k others ≡ Ok said → Says before (name ∷ others) said
+keyword_facts before (Some word.Doc) name others said is e =
+    let doc = go_on (doc_behind before others) doc_said said e in
+    let same_result : doc_said doc.0 ≡ Ok said = doc.2 in
+    let same : said ≡ Said.doc doc.0 = cc in
+    Says.a_doc doc.0 others same (ap (λ (n : Bytes). n ∷ others) (keyword_is name word.Doc is)) (doc_facts before others doc.0 doc.1)
+keyword_facts before (Some word.Tick) name others said is e =
+    let n = go_on (tick_behind before others) tick_said said e in
+    let same_result : tick_said n.0 ≡ Ok said = n.2 in
+    let same : said ≡ Said.tick n.0 = cc in
+    Says.a_tick n.0 others same (ap (λ (x : Bytes). x ∷ others) (keyword_is name word.Tick is)) (tick_facts before others n.0 n.1)
+keyword_facts before (Some word.Cancel) name others said is e =
+    let n = go_on (cancel_behind others) cancel_said said e in
+    let same_result : cancel_said n.0 ≡ Ok said = n.2 in
+    let same : said ≡ Said.cancel n.0 = cc in
+    Says.a_cancel n.0 others same (ap (λ (x : Bytes). x ∷ others) (keyword_is name word.Cancel is)) (alone_facts 1 most_queries others n.0 n.1)
+keyword_facts before (Some word.After) name others said is e = after_facts before name others said (keyword_is name word.After is) e
+keyword_facts before None name others said is e = now_facts before None name others said is e
+keyword_facts before (Some word.Lo) name others said is e = now_facts before (Some word.Lo) name others said is e
+keyword_facts before (Some word.Mid) name others said is e = now_facts before (Some word.Mid) name others said is e
+keyword_facts before (Some word.Hi) name others said is e = now_facts before (Some word.Hi) name others said is e
+keyword_facts before (Some word.Find) name others said is e = now_facts before (Some word.Find) name others said is e
+keyword_facts before (Some word.Count) name others said is e = now_facts before (Some word.Count) name others said is e
+keyword_facts before (Some word.Exists) name others said is e = now_facts before (Some word.Exists) name others said is e
+keyword_facts before (Some word.Top) name others said is e = now_facts before (Some word.Top) name others said is e
+
+fields_facts : (before : List Line) (all : List Bytes) (said : Said) → fields_behind before all ≡ Ok said → Says before all said
+fields_facts before [] said e = absurd cc
+fields_facts before (name ∷ others) said e = keyword_facts before (keyword_of name) name others said refl e
+
+-- what a piece says
+data PieceSays (before : List Line) (piece : Bytes) (said : Said) : Type 0 where
+  passed_over : IsSkipped piece → said ≡ Said.nothing → PieceSays before piece said
+  told : IsRead piece → Says before (fields_of piece) said → PieceSays before piece said
+
+abbrev says_nothing : Result Said BadKind
+says_nothing = Ok Said.nothing
+
+piece_facts : (before : List Line) (piece : Bytes) (said : Said) → said_behind before piece ≡ Ok said → PieceSays before piece said
 unfolding said_behind
-said_reads shards before piece query is =
-    ap (λ b. cond b says_nothing (line_said before (strip_carriage_return piece))) is.read.not_skipped
-    ∙ (pass (list_all is_printable (strip_carriage_return piece)) BadByte (λ u. fields_behind before (fields_of piece)) is.read.printable
-    ∙ (ap (fields_behind before) is.fields_are
-    ∙ (fields_read before is.words query.prio query.ask is.texts is.prio_is ∙ query_reads query.prio query.ask is.texts is.tokens is.tokens_are)))
+piece_facts before piece said e = by (is_skipped (strip_carriage_return piece)) refl e
+  where
+    by : (b : Bool) → is_skipped (strip_carriage_return piece) ≡ b → cond b says_nothing (line_said before (strip_carriage_return piece)) ≡ Ok said → PieceSays before piece said
+    by true is e = let same : said ≡ Said.nothing = cc in PieceSays.passed_over is same
+    by false is e =
+        let printable = checked (list_all is_printable (strip_carriage_return piece)) BadByte (λ u. fields_behind before (fields_of piece)) said e in
+        PieceSays.told (record { not_skipped = is; printable = printable.0 }) (fields_facts before (fields_of piece) said printable.1)
 
-query_given : (shards : ℕ) (before : List Line) (piece : Bytes) (query : Query) → (is : IsQueryLine shards before piece query)
-    → Ok (Some (line.Query query)) ≡ query_behind shards before query.prio (asks_of query.ask) (Ok (expr_of query.ask))
-query_given shards before piece query is =
-    let made : Tree → Query = λ t. record { delay = None; prio = query.prio; ask = asks_of query.ask t } in
-    let roomy : query_room shards before ≡ Ok tt =
-    pass (nat_lt (count_by is_query before) 50000) (bad.Limit limit.Queries) _ (lt-ltb (count_by is_query before) 50000 is.room)
-    ∙ ap (λ b. check b (bad.Limit limit.Tasks)) (le-leb ((count_by is_query before + 1) * shards) 262144 is.tasks) in
-    let same : query ≡ made (expr_of query.ask) =
-    ap (λ d. record { delay = d; prio = query.prio; ask = query.ask }) is.delay ∙ ap (λ a. record { delay = None; prio = query.prio; ask = a }) (sym (asks_same query.ask)) in
-    ap (λ q. Ok (Some (line.Query q))) same
-    ∙ sym (ap (λ r. r >>= λ u. Ok (Some (line.Query (made (expr_of query.ask))))) roomy)
+-- the way back
+piece_reads : (before : List Line) (piece : Bytes) (all : List Bytes) (said : Result Said BadKind) → IsRead piece → fields_of piece ≡ all → fields_behind before all ≡ said → said_behind before piece ≡ said
+unfolding said_behind
+piece_reads before piece all said read are e =
+    ap (λ (b : Bool). cond b says_nothing (line_said before (strip_carriage_return piece))) read.not_skipped
+    ∙ (pass (list_all is_printable (strip_carriage_return piece)) BadByte (λ u. fields_behind before (fields_of piece)) read.printable
+    ∙ (ap (fields_behind before) are ∙ e))
 
--- a piece gives a query exactly where it is the line of one
+skip_reads : (before : List Line) (piece : Bytes) → IsSkipped piece → said_behind before piece ≡ Ok Said.nothing
+unfolding said_behind
+skip_reads before piece is = ap (λ (b : Bool). cond b says_nothing (line_said before (strip_carriage_return piece))) is
+
+-- an ask is read behind its name
+record IsAskRead (asks : List Bytes) (asking : Asking) : Type 0 where
+  name : Bytes
+  texts : List Bytes
+  asks_are : asks ≡ name ∷ texts
+  prioritized : (delay : Option ℕ) (p : Prio) → query_with delay p (keyword_of name) texts ≡ Ok (Said.query delay p asking)
+  alone : (delay : Option ℕ) → query_from delay (keyword_of name) texts ≡ Ok (Said.query delay prio.Mid asking)
+  begins : (before : List Line) → said_by before (keyword_of name) texts ≡ Ok (Said.query None prio.Mid asking)
+
+abbrev said_with : Option ℕ → Prio → Result Asking BadKind → Result Said BadKind
+said_with delay p asks = asks >>= λ a. Ok (Said.query delay p a)
+
+expr_read : (about : ExprAsk) (texts : List Bytes) (tokens : List Token) → tokens_of texts ≡ Ok tokens → expr_behind about texts ≡ Ok (Asking.of_tokens about tokens)
+expr_read about texts tokens e = ap (λ (r : Result (List Token) BadKind). r >>= λ t. Ok (Asking.of_tokens about t)) e
+
+top_read : (field : Bytes) (words : List Bytes) (k : ℕ) → IsNumber 1 most_ranked field k → 0 < length words → AreWords words → top_behind (field ∷ words) ≡ Ok (Asking.top k words)
+top_read field words k number some are =
+    ap (λ (r : Result ℕ BadKind). r >>= λ n. check (nat_lt 0 (length words)) MissingField >>= λ u. words_of words >>= λ ws. Ok (Asking.top n ws)) (number_reads 1 most_ranked field k number)
+    ∙ (pass (nat_lt 0 (length words)) MissingField (λ u. words_of words >>= λ ws. Ok (Asking.top k ws)) (lt-ltb 0 (length words) some)
+    ∙ ap (λ (r : Result (List Bytes) BadKind). r >>= λ ws. Ok (Asking.top k ws)) (words_read words are))
+
+ask_read : (asks : List Bytes) (asking : Asking) → AsksBy asks asking → IsAskRead asks asking
+ask_read asks (Asking.of_tokens expr.Find tokens) h = record {
+  name = codes "find";
+  texts = h.0;
+  asks_are = h.1;
+  prioritized = λ delay p. ap (said_with delay p) (expr_read expr.Find h.0 tokens h.2);
+  alone = λ delay. ap (said_with delay prio.Mid) (expr_read expr.Find h.0 tokens h.2);
+  begins = λ before. ap (said_with None prio.Mid) (expr_read expr.Find h.0 tokens h.2);
+}
+ask_read asks (Asking.of_tokens expr.Count tokens) h = record {
+  name = codes "count";
+  texts = h.0;
+  asks_are = h.1;
+  prioritized = λ delay p. ap (said_with delay p) (expr_read expr.Count h.0 tokens h.2);
+  alone = λ delay. ap (said_with delay prio.Mid) (expr_read expr.Count h.0 tokens h.2);
+  begins = λ before. ap (said_with None prio.Mid) (expr_read expr.Count h.0 tokens h.2);
+}
+ask_read asks (Asking.of_tokens expr.Present tokens) h = record {
+  name = codes "exists";
+  texts = h.0;
+  asks_are = h.1;
+  prioritized = λ delay p. ap (said_with delay p) (expr_read expr.Present h.0 tokens h.2);
+  alone = λ delay. ap (said_with delay prio.Mid) (expr_read expr.Present h.0 tokens h.2);
+  begins = λ before. ap (said_with None prio.Mid) (expr_read expr.Present h.0 tokens h.2);
+}
+ask_read asks (Asking.top k words) h = record {
+  name = codes "top";
+  texts = h.field ∷ words;
+  asks_are = h.asks_are;
+  prioritized = λ delay p. ap (said_with delay p) (top_read h.field words k h.number h.some h.are_words);
+  alone = λ delay. ap (said_with delay prio.Mid) (top_read h.field words k h.number h.some h.are_words);
+  begins = λ before. ap (said_with None prio.Mid) (top_read h.field words k h.number h.some h.are_words);
+}
+
+-- from a priority on
+record IsQueryRead (delay : Option ℕ) (all : List Bytes) (p : Prio) (asking : Asking) : Type 0 where
+  name : Bytes
+  texts : List Bytes
+  all_are : all ≡ name ∷ texts
+  reads : query_from delay (keyword_of name) texts ≡ Ok (Said.query delay p asking)
+  begins : (before : List Line) → delay ≡ None → said_by before (keyword_of name) texts ≡ Ok (Said.query None p asking)
+
+named_read : (delay : Option ℕ) (asks : List Bytes) (p : Prio) (asking : Asking) → IsAskRead asks asking → IsQueryRead delay (prio_name p ∷ asks) p asking
+named_read delay asks prio.Lo asking a = record {
+  name = codes "lo";
+  texts = asks;
+  all_are = refl;
+  reads = subst (λ (xs : List Bytes). prio_behind delay prio.Lo xs ≡ Ok (Said.query delay prio.Lo asking)) (sym a.asks_are) (a.prioritized delay prio.Lo);
+  begins = λ before is. subst (λ (xs : List Bytes). prio_behind None prio.Lo xs ≡ Ok (Said.query None prio.Lo asking)) (sym a.asks_are) (a.prioritized None prio.Lo);
+}
+named_read delay asks prio.Mid asking a = record {
+  name = codes "mid";
+  texts = asks;
+  all_are = refl;
+  reads = subst (λ (xs : List Bytes). prio_behind delay prio.Mid xs ≡ Ok (Said.query delay prio.Mid asking)) (sym a.asks_are) (a.prioritized delay prio.Mid);
+  begins = λ before is. subst (λ (xs : List Bytes). prio_behind None prio.Mid xs ≡ Ok (Said.query None prio.Mid asking)) (sym a.asks_are) (a.prioritized None prio.Mid);
+}
+named_read delay asks prio.Hi asking a = record {
+  name = codes "hi";
+  texts = asks;
+  all_are = refl;
+  reads = subst (λ (xs : List Bytes). prio_behind delay prio.Hi xs ≡ Ok (Said.query delay prio.Hi asking)) (sym a.asks_are) (a.prioritized delay prio.Hi);
+  begins = λ before is. subst (λ (xs : List Bytes). prio_behind None prio.Hi xs ≡ Ok (Said.query None prio.Hi asking)) (sym a.asks_are) (a.prioritized None prio.Hi);
+}
+
+query_read : (delay : Option ℕ) (names asks : List Bytes) (p : Prio) (asking : Asking) → IsPrio names p → IsAskRead asks asking → IsQueryRead delay (names ++ asks) p asking
+query_read delay names asks p asking (inl is) a = subst (λ (ns : List Bytes). IsQueryRead delay (ns ++ asks) p asking) (sym is) (named_read delay asks p asking a)
+query_read delay names asks p asking (inr is) a =
+    subst (λ (ns : List Bytes). IsQueryRead delay (ns ++ asks) p asking) (sym is.0) (subst (λ (q : Prio). IsQueryRead delay asks q asking) (sym is.1) (record {
+      name = a.name;
+      texts = a.texts;
+      all_are = a.asks_are;
+      reads = a.alone delay;
+      begins = λ before none. a.begins before;
+    }))
+
+fields_read : (before : List Line) (delay : Option ℕ) (first rest : List Bytes) (p : Prio) (asking : Asking) → IsDelay first delay → IsQueryRead delay rest p asking
+    → fields_behind before (first ++ rest) ≡ Ok (Said.query delay p asking)
+fields_read before None first rest p asking is q =
+    subst (λ (xs : List Bytes). fields_behind before (xs ++ rest) ≡ Ok (Said.query None p asking)) (sym is)
+    (subst (λ (xs : List Bytes). fields_behind before xs ≡ Ok (Said.query None p asking)) (sym q.all_are) (q.begins before refl))
+fields_read before (Some d) first rest p asking is q =
+    subst (λ (xs : List Bytes). fields_behind before (xs ++ rest) ≡ Ok (Said.query (Some d) p asking)) (sym is.1)
+    (ap (λ (r : Result ℕ BadKind). r >>= λ delay. first_of rest MissingField >>= λ next. query_from (Some delay) (keyword_of next.0) next.1) (number_reads 1 most_delay is.0 d is.2)
+    ∙ subst (λ (xs : List Bytes). (first_of xs MissingField >>= λ next. query_from (Some d) (keyword_of next.0) next.1) ≡ Ok (Said.query (Some d) p asking)) (sym q.all_are) q.reads)
+
+-- what is asked of an expression, by its facts
+ask_is : (asks : List Bytes) (asking : Asking) (given : Ask) → AsksBy asks asking → GivesAsk asking (Ok given) → IsAskOf asks given
+ask_is asks (Asking.of_tokens expr.Find tokens) given h g =
+    subst (λ (a : Ask). IsAskOf asks a) (sym g.2) (record { texts = h.0; asks_are = h.1; tokens = tokens; tokens_are = h.2; expr = g.1 })
+ask_is asks (Asking.of_tokens expr.Count tokens) given h g =
+    subst (λ (a : Ask). IsAskOf asks a) (sym g.2) (record { texts = h.0; asks_are = h.1; tokens = tokens; tokens_are = h.2; expr = g.1 })
+ask_is asks (Asking.of_tokens expr.Present tokens) given h g =
+    subst (λ (a : Ask). IsAskOf asks a) (sym g.2) (record { texts = h.0; asks_are = h.1; tokens = tokens; tokens_are = h.2; expr = g.1 })
+ask_is asks (Asking.top k words) given h g =
+    let one : Result Ask BadKind = Ok given in
+    let other : Result Ask BadKind = Ok (ask.Top k words) in
+    let same_result : one ≡ other = g in
+    let same : given ≡ ask.Top k words = cc in
+    subst (λ (a : Ask). IsAskOf asks a) (sym same) h
+
+ask_of_facts : (asks : List Bytes) (given : Ask) → IsAskOf asks given → (asking : Asking) × AsksBy asks asking × GivesAsk asking (Ok given)
+ask_of_facts asks (ask.Find tree) h = (Asking.of_tokens expr.Find h.tokens, (h.texts, h.asks_are, h.tokens_are), (tree, h.expr, refl))
+ask_of_facts asks (ask.Count tree) h = (Asking.of_tokens expr.Count h.tokens, (h.texts, h.asks_are, h.tokens_are), (tree, h.expr, refl))
+ask_of_facts asks (ask.Present tree) h = (Asking.of_tokens expr.Present h.tokens, (h.texts, h.asks_are, h.tokens_are), (tree, h.expr, refl))
+ask_of_facts asks (ask.Top k words) h = (Asking.top k words, h, refl)
+
+-- what a line gives tells what it says
+record IsAsked (shards : ℕ) (before : List Line) (said : Said) (query : Query) : Type 0 where
+  asking : Asking
+  said_is : said ≡ Said.query query.delay query.prio asking
+  asks : GivesAsk asking (Ok query.ask)
+  room : count_by is_query before < most_queries
+  tasks : (count_by is_query before + 1) * shards ≤ most_tasks
+
+abbrev query_line : Query → Result (Option Line) BadKind
+query_line q = Ok (Some (line.Query q))
+
+asked_by : (shards : ℕ) (before : List Line) (delay : Option ℕ) (p : Prio) (asking : Asking) (asks : Result Ask BadKind) (l : Option Line) → GivesAsk asking asks → Ok l ≡ query_behind shards before delay p asks
+    → (query : Query) × (l ≡ Some (line.Query query)) × IsAsked shards before (Said.query delay p asking) query
+asked_by shards before delay p asking asks l g e =
+    let given = go_on asks (λ a. query_room shards before >>= λ u. query_line (record { delay = delay; prio = p; ask = a })) l (sym e) in
+    let both = go_on (query_room shards before) (λ u. query_line (record { delay = delay; prio = p; ask = given.0 })) l given.2 in
+    let room = checked (nat_lt (count_by is_query before) most_queries) (bad.Limit limit.Queries) (λ u. check (nat_le ((count_by is_query before + 1) * shards) most_tasks) (bad.Limit limit.Tasks)) both.0 both.1 in
+    let tasks = passed (nat_le ((count_by is_query before + 1) * shards) most_tasks) (bad.Limit limit.Tasks) both.0 room.1 in
+    let query : Query = record { delay = delay; prio = p; ask = given.0 } in
+    let made : query_line query ≡ Ok l = both.2 in
+    let same : l ≡ Some (line.Query query) = cc in (
+      query,
+      same,
+      record {
+        asking = asking;
+        said_is = refl;
+        asks = subst (λ (r : Result Ask BadKind). GivesAsk asking r) given.1 g;
+        room = ltb-true (count_by is_query before) most_queries room.0;
+        tasks = leb-true ((count_by is_query before + 1) * shards) most_tasks tasks;
+      },
+    )
+
+abbrev line_is : Option Line → Result (Option Line) BadKind
+line_is l = Ok l
+
+given_none : (shards : ℕ) (before : List Line) (said : Result Said BadKind) → GivesLine shards before said (Ok None) → said ≡ Ok Said.nothing
+given_none shards before (Err kind) g = absurd cc
+given_none shards before (Ok Said.nothing) g = refl
+given_none shards before (Ok (Said.doc d)) g = let e : line_is None ≡ line_is (Some (line.Doc d)) = g in absurd cc
+given_none shards before (Ok (Said.tick n)) g = let e : line_is None ≡ line_is (Some (line.Tick n)) = g in absurd cc
+given_none shards before (Ok (Said.cancel n)) g = let e : line_is None ≡ line_is (Some (line.Cancel n)) = g in absurd cc
+given_none shards before (Ok (Said.query delay p asking)) g = let found = asked_by shards before delay p asking g.0 None g.1 g.2 in absurd cc
+
+given_doc : (shards : ℕ) (before : List Line) (said : Result Said BadKind) (doc : Doc) → GivesLine shards before said (Ok (Some (line.Doc doc))) → said ≡ Ok (Said.doc doc)
+given_doc shards before (Err kind) doc g = absurd cc
+given_doc shards before (Ok Said.nothing) doc g = let e : line_is (Some (line.Doc doc)) ≡ line_is None = g in absurd cc
+given_doc shards before (Ok (Said.doc d)) doc g = let e : line_is (Some (line.Doc doc)) ≡ line_is (Some (line.Doc d)) = g in let same : d ≡ doc = cc in ap (λ (x : Doc). doc_said x) same
+given_doc shards before (Ok (Said.tick n)) doc g = let e : line_is (Some (line.Doc doc)) ≡ line_is (Some (line.Tick n)) = g in absurd cc
+given_doc shards before (Ok (Said.cancel n)) doc g = let e : line_is (Some (line.Doc doc)) ≡ line_is (Some (line.Cancel n)) = g in absurd cc
+given_doc shards before (Ok (Said.query delay p asking)) doc g = let found = asked_by shards before delay p asking g.0 (Some (line.Doc doc)) g.1 g.2 in absurd cc
+
+given_tick : (shards : ℕ) (before : List Line) (said : Result Said BadKind) (n : ℕ) → GivesLine shards before said (Ok (Some (line.Tick n))) → said ≡ Ok (Said.tick n)
+given_tick shards before (Err kind) n g = absurd cc
+given_tick shards before (Ok Said.nothing) n g = let e : line_is (Some (line.Tick n)) ≡ line_is None = g in absurd cc
+given_tick shards before (Ok (Said.doc d)) n g = let e : line_is (Some (line.Tick n)) ≡ line_is (Some (line.Doc d)) = g in absurd cc
+given_tick shards before (Ok (Said.tick m)) n g = let e : line_is (Some (line.Tick n)) ≡ line_is (Some (line.Tick m)) = g in let same : m ≡ n = cc in ap (λ (x : ℕ). tick_said x) same
+given_tick shards before (Ok (Said.cancel m)) n g = let e : line_is (Some (line.Tick n)) ≡ line_is (Some (line.Cancel m)) = g in absurd cc
+given_tick shards before (Ok (Said.query delay p asking)) n g = let found = asked_by shards before delay p asking g.0 (Some (line.Tick n)) g.1 g.2 in absurd cc
+
+given_cancel : (shards : ℕ) (before : List Line) (said : Result Said BadKind) (n : ℕ) → GivesLine shards before said (Ok (Some (line.Cancel n))) → said ≡ Ok (Said.cancel n)
+given_cancel shards before (Err kind) n g = absurd cc
+given_cancel shards before (Ok Said.nothing) n g = let e : line_is (Some (line.Cancel n)) ≡ line_is None = g in absurd cc
+given_cancel shards before (Ok (Said.doc d)) n g = let e : line_is (Some (line.Cancel n)) ≡ line_is (Some (line.Doc d)) = g in absurd cc
+given_cancel shards before (Ok (Said.tick m)) n g = let e : line_is (Some (line.Cancel n)) ≡ line_is (Some (line.Tick m)) = g in absurd cc
+given_cancel shards before (Ok (Said.cancel m)) n g = let e : line_is (Some (line.Cancel n)) ≡ line_is (Some (line.Cancel m)) = g in let same : m ≡ n = cc in ap (λ (x : ℕ). cancel_said x) same
+given_cancel shards before (Ok (Said.query delay p asking)) n g = let found = asked_by shards before delay p asking g.0 (Some (line.Cancel n)) g.1 g.2 in absurd cc
+
+given_query : (shards : ℕ) (before : List Line) (said : Result Said BadKind) (query : Query) → GivesLine shards before said (Ok (Some (line.Query query))) → (s : Said) × (said ≡ Ok s) × IsAsked shards before s query
+given_query shards before (Err kind) query g = absurd cc
+given_query shards before (Ok Said.nothing) query g = let e : line_is (Some (line.Query query)) ≡ line_is None = g in absurd cc
+given_query shards before (Ok (Said.doc d)) query g = let e : line_is (Some (line.Query query)) ≡ line_is (Some (line.Doc d)) = g in absurd cc
+given_query shards before (Ok (Said.tick m)) query g = let e : line_is (Some (line.Query query)) ≡ line_is (Some (line.Tick m)) = g in absurd cc
+given_query shards before (Ok (Said.cancel m)) query g = let e : line_is (Some (line.Query query)) ≡ line_is (Some (line.Cancel m)) = g in absurd cc
+given_query shards before (Ok (Said.query delay p asking)) query g =
+    let found = asked_by shards before delay p asking g.0 (Some (line.Query query)) g.1 g.2 in
+    let e : Some (line.Query query) ≡ Some (line.Query found.0) = found.1 in
+    let same : found.0 ≡ query = cc in
+    (Said.query delay p asking, refl, subst (λ (q : Query). IsAsked shards before (Said.query delay p asking) q) same found.2)
+
+-- The laws: no line, a document, ticks, a cancel, a query.
+pub none_by_facts : (shards : ℕ) (before : List Line) (piece : Bytes) → LineBehind shards before piece (Ok None) ↔ IsSkipped piece
+none_by_facts shards before piece = (
+  λ g. by (piece_facts before piece Said.nothing (given_none shards before (said_behind before piece) g)),
+  λ is. subst (λ (s : Result Said BadKind). GivesLine shards before s (Ok None)) (sym (skip_reads before piece is)) refl,
+)
+  where
+    nothing_told : Says before (fields_of piece) Said.nothing → IsSkipped piece
+    nothing_told (Says.a_doc doc others same are is) = absurd cc
+    nothing_told (Says.a_tick n others same are is) = absurd cc
+    nothing_told (Says.a_cancel n others same are is) = absurd cc
+    nothing_told (Says.a_query delay first rest are is q) = let same : Said.nothing ≡ Said.query delay q.priority q.asking = q.said_is in absurd cc
+
+    by : PieceSays before piece Said.nothing → IsSkipped piece
+    by (PieceSays.passed_over is same) = is
+    by (PieceSays.told read says) = nothing_told says
+
+doc_line : (before : List Line) (piece : Bytes) (doc : Doc) → PieceSays before piece (Said.doc doc) → IsDocLine before piece doc
+doc_line before piece doc (PieceSays.passed_over is same) = absurd cc
+doc_line before piece doc (PieceSays.told read says) = by says
+  where
+    by : Says before (fields_of piece) (Said.doc doc) → IsDocLine before piece doc
+    by (Says.a_doc d others same are is) =
+        let e : d ≡ doc = cc in
+        subst (λ (x : Doc). IsDocLine before piece x) e (record {
+          read = read;
+          id = is.id;
+          fields_are = are ∙ ap (λ (xs : List Bytes). codes "doc" ∷ xs) is.others_are;
+          number = is.number;
+          words = is.words;
+          own = is.own;
+          room = is.room;
+        })
+    by (Says.a_tick n others same are is) = absurd cc
+    by (Says.a_cancel n others same are is) = absurd cc
+    by (Says.a_query delay first rest are is q) = let same : Said.doc doc ≡ Said.query delay q.priority q.asking = q.said_is in absurd cc
+
+pub doc_by_facts : (shards : ℕ) (before : List Line) (piece : Bytes) (doc : Doc) → LineBehind shards before piece (Ok (Some (line.Doc doc))) ↔ IsDocLine before piece doc
+doc_by_facts shards before piece doc = (
+  λ g. doc_line before piece doc (piece_facts before piece (Said.doc doc) (given_doc shards before (said_behind before piece) doc g)),
+  λ is. subst (λ (s : Result Said BadKind). GivesLine shards before s (Ok (Some (line.Doc doc))))
+      (sym (piece_reads before piece (codes "doc" ∷ (is.id ∷ doc.words)) (doc_said doc) is.read is.fields_are
+      (ap (λ (r : Result Doc BadKind). r >>= doc_said) (doc_reads before doc is.id is.number is.words is.own is.room)))) refl,
+)
+
+tick_line : (before : List Line) (piece : Bytes) (n : ℕ) → PieceSays before piece (Said.tick n) → IsTickLine before piece n
+tick_line before piece n (PieceSays.passed_over is same) = absurd cc
+tick_line before piece n (PieceSays.told read says) = by says
+  where
+    by : Says before (fields_of piece) (Said.tick n) → IsTickLine before piece n
+    by (Says.a_doc d others same are is) = absurd cc
+    by (Says.a_tick m others same are is) =
+        let e : m ≡ n = cc in
+        subst (λ (x : ℕ). IsTickLine before piece x) e (record {
+          read = read;
+          field = is.0.field;
+          fields_are = are ∙ ap (λ (xs : List Bytes). codes "tick" ∷ xs) is.0.others_are;
+          number = is.0.number;
+          room = is.1;
+        })
+    by (Says.a_cancel m others same are is) = absurd cc
+    by (Says.a_query delay first rest are is q) = let same : Said.tick n ≡ Said.query delay q.priority q.asking = q.said_is in absurd cc
+
+pub tick_by_facts : (shards : ℕ) (before : List Line) (piece : Bytes) (n : ℕ) → LineBehind shards before piece (Ok (Some (line.Tick n))) ↔ IsTickLine before piece n
+tick_by_facts shards before piece n = (
+  λ g. tick_line before piece n (piece_facts before piece (Said.tick n) (given_tick shards before (said_behind before piece) n g)),
+  λ is. subst (λ (s : Result Said BadKind). GivesLine shards before s (Ok (Some (line.Tick n))))
+      (sym (piece_reads before piece (codes "tick" ∷ (is.field ∷ [])) (tick_said n) is.read is.fields_are
+      (ap (λ (r : Result ℕ BadKind). r >>= tick_said) (tick_reads before is.field n is.number is.room)))) refl,
+)
+
+cancels : (before : List Line) (piece : Bytes) (n : ℕ) → PieceSays before piece (Said.cancel n) → IsCancelLine piece n
+cancels before piece n (PieceSays.passed_over is same) = absurd cc
+cancels before piece n (PieceSays.told read says) = by says
+  where
+    by : Says before (fields_of piece) (Said.cancel n) → IsCancelLine piece n
+    by (Says.a_doc d others same are is) = absurd cc
+    by (Says.a_tick m others same are is) = absurd cc
+    by (Says.a_cancel m others same are is) =
+        let e : m ≡ n = cc in
+        subst (λ (x : ℕ). IsCancelLine piece x) e (record {
+          read = read;
+          field = is.field;
+          fields_are = are ∙ ap (λ (xs : List Bytes). codes "cancel" ∷ xs) is.others_are;
+          number = is.number;
+        })
+    by (Says.a_query delay first rest are is q) = let same : Said.cancel n ≡ Said.query delay q.priority q.asking = q.said_is in absurd cc
+
+pub cancel_by_facts : (shards : ℕ) (before : List Line) (piece : Bytes) (n : ℕ) → LineBehind shards before piece (Ok (Some (line.Cancel n))) ↔ IsCancelLine piece n
+cancel_by_facts shards before piece n = (
+  λ g. cancels before piece n (piece_facts before piece (Said.cancel n) (given_cancel shards before (said_behind before piece) n g)),
+  λ is. subst (λ (s : Result Said BadKind). GivesLine shards before s (Ok (Some (line.Cancel n))))
+      (sym (piece_reads before piece (codes "cancel" ∷ (is.field ∷ [])) (cancel_said n) is.read is.fields_are
+      (ap (λ (r : Result ℕ BadKind). r >>= cancel_said) (alone_reads 1 most_queries is.field n is.number)))) refl,
+)
+
+query_facts_line : (shards : ℕ) (before : List Line) (piece : Bytes) (said : Said) (query : Query) → PieceSays before piece said → IsAsked shards before said query → IsQueryLine shards before piece query
+query_facts_line shards before piece said query (PieceSays.passed_over is same) a = let e : said ≡ Said.query query.delay query.prio a.asking = a.said_is in absurd cc
+query_facts_line shards before piece said query (PieceSays.told read says) a = by says a.said_is
+  where
+    by : Says before (fields_of piece) said → said ≡ Said.query query.delay query.prio a.asking → IsQueryLine shards before piece query
+    by (Says.a_doc d others same are is) e = absurd cc
+    by (Says.a_tick m others same are is) e = absurd cc
+    by (Says.a_cancel m others same are is) e = absurd cc
+    by (Says.a_query delay first rest are is q) e =
+        let other : said ≡ Said.query delay q.priority q.asking = q.said_is in
+        let delays : delay ≡ query.delay = cc in
+        let prios : q.priority ≡ query.prio = cc in
+        let askings : q.asking ≡ a.asking = cc in
+        record {
+          read = read;
+          delay = first;
+          names = q.names;
+          asks = q.asks;
+          fields_are = are ∙ ap (λ (xs : List Bytes). first ++ xs) q.all_are;
+          delay_is = subst (λ (d : Option ℕ). IsDelay first d) delays is;
+          prio_is = subst (λ (p : Prio). IsPrio q.names p) prios q.prio_is;
+          ask_is = ask_is q.asks a.asking query.ask (subst (λ (x : Asking). AsksBy q.asks x) askings q.asks_by) a.asks;
+          room = a.room;
+          tasks = a.tasks;
+        }
+
 pub query_by_facts : (shards : ℕ) (before : List Line) (piece : Bytes) (query : Query) → LineBehind shards before piece (Ok (Some (line.Query query))) ↔ IsQueryLine shards before piece query
 query_by_facts shards before piece query = (
   λ g.
       let found = given_query shards before (said_behind before piece) query g in
-      let said = said_query before piece found.0 found.1 found.2 found.3 in
-      query_line shards before piece found.0 found.1 found.2 query said.0 said.1 found.4,
-  λ is. subst (λ s. GivesLine shards before s (Ok (Some (line.Query query)))) (sym (said_reads shards before piece query is)) (Ok (expr_of query.ask), is.expr, query_given shards before piece query is),
+      query_facts_line shards before piece found.0 query (piece_facts before piece found.0 found.1) found.2,
+  λ is.
+      let asked = ask_of_facts is.asks query.ask is.ask_is in
+      let read = fields_read before query.delay is.delay (is.names ++ is.asks) query.prio asked.0 is.delay_is
+      (query_read query.delay is.names is.asks query.prio asked.0 is.prio_is (ask_read is.asks asked.0 asked.1)) in
+      let roomy : query_room shards before ≡ Ok tt =
+      pass (nat_lt (count_by is_query before) most_queries) (bad.Limit limit.Queries) (λ u. check (nat_le ((count_by is_query before + 1) * shards) most_tasks) (bad.Limit limit.Tasks)) (lt-ltb (count_by is_query before) most_queries is.room)
+      ∙ ap (λ b. check b (bad.Limit limit.Tasks)) (le-leb ((count_by is_query before + 1) * shards) most_tasks is.tasks) in
+      subst (λ (s : Result Said BadKind). GivesLine shards before s (Ok (Some (line.Query query))))
+      (sym (piece_reads before piece (is.delay ++ (is.names ++ is.asks)) (Ok (Said.query query.delay query.prio asked.0)) is.read is.fields_are read))
+      (Ok query.ask, asked.2, sym (ap (λ (r : Result (Unit {0}) BadKind). r >>= λ u. query_line query) roomy)),
 )

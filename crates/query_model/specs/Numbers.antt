@@ -22,6 +22,6 @@ number_in low high field =
     then Some (number_of field)
     else None
 
--- an id is a number from 0 to 4,294,967,295
-abbrev pub id_of : List ℕ → Result ℕ BadKind
-id_of field = ok_or (number_in 0 4294967295 field) BadNumber
+-- a number field, which has to lie in a range
+abbrev pub number_field : ℕ → ℕ → List ℕ → Result ℕ BadKind
+number_field low high field = ok_or (number_in low high field) BadNumber

@@ -7,12 +7,14 @@ use std::alloc::AllocFailed;
 /// What there is too much of.
 #[derive(Clone, Copy, Debug, PartialEq, Eq)]
 pub enum Limit {
-    /// The words of a document.
+    /// The words of a document, or of a `top`.
     Words,
     Documents,
     Queries,
     /// The queries times the shards.
     Tasks,
+    /// The ticks of all lines.
+    Ticks,
     /// The depth of an expression.
     Depth,
     /// The tokens of an expression.
@@ -31,13 +33,12 @@ pub enum BadKind {
     BadWord,
     /// An earlier document has the id.
     DuplicateDoc,
-    DocAfterQuery,
     /// An expression that is empty, unclosed, or has an unexpected token.
     BadExpr(ExprFault),
     MissingField,
+    /// A field behind the last one of its line.
+    ExtraField,
     Limit(Limit),
-    /// The program doesn't read such a line yet.
-    NotYet,
 }
 
 /// The first refusal of an input.

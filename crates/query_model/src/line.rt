@@ -1,4 +1,4 @@
-use fan_base::{Doc, List};
+use fan_base::{Doc, List, Words};
 use query_grammar::Expr;
 
 /// What is asked of the documents.
@@ -10,6 +10,8 @@ pub enum Ask {
     Count(Expr),
     /// Whether there is one.
     Present(Expr),
+    /// The documents with the greatest scores for these words, and how many of them at most: 1 to 100.
+    Top(u32, Words),
 }
 
 /// How soon a query's work is taken up.
@@ -23,7 +25,7 @@ pub enum Prio {
 /// A query. Queries are numbered from 1, in the order of their lines.
 #[derive(Debug, Drop)]
 pub struct Query {
-    /// After how many ticks it is answered, where it isn't answered at its own line.
+    /// After how many ticks it is answered, 1 to 4,294,967,295, where it isn't answered at its own line.
     pub delay: Option<u32>,
     pub prio: Prio,
     pub ask: Ask,
@@ -34,6 +36,10 @@ pub struct Query {
 pub enum Line {
     Doc(Doc),
     Query(Query),
+    /// So many ticks go by: 1 to 10,000,000.
+    Tick(u32),
+    /// The query with this number, 1 to 50,000, is no longer wanted where it waits.
+    Cancel(u32),
 }
 
 /// Lines in the order of the file.

@@ -1,4 +1,4 @@
-use fan_base::Ids;
+use fan_base::{Ids, Scores};
 
 /// Which documents hold.
 #[derive(Debug, Drop)]
@@ -15,4 +15,8 @@ pub enum Reply {
     Find(Hits),
     Count(u64),
     Present(bool),
+    /// Ids of documents with their scores, the greatest score first, then the smaller id.
+    Top(Scores),
+    /// The query was no longer wanted, or its due tick never came.
+    Cancelled,
 }
