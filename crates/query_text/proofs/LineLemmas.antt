@@ -1,36 +1,85 @@
 -- What a line gives, step by step.
-use Rattle.std.proofs.Common.{◌≡◌, ℕ, List, true, Option, Result, Ok, Err, refl, sym, ap, ◌∙◌}
+use Rattle.std.proofs.Common.{◌≡◌, ℕ, ◌+◌, ◌<◌, ◌≤◌, List, length, take, true, Option, Some, ◌⊎◌, inl, inr, Result, Ok, Err, refl, sym, ap, ◌∙◌, subst, arith}
 use Rattle.std.specs.Prelude.{map}
 use Rattle.std.specs.Char.{to_ascii_lowercase}
 use Rattle.std.specs.List.{list_all}
+use Rattle.std.proofs.lemmas.Bool.{cases_lt}
+use Rattle.std.proofs.lemmas.List.{take_all, length-take-le}
 use Rattle.query_grammar.specs.declared.token.Token.{Token}
+use Rattle.query_grammar.specs.declared.fault.ExprFault.{ExprFault}
+use Rattle.query_grammar.specs.declared.fault.ExprFault.TheVariants as expr
 use Rattle.query_grammar.specs.Tree.{Tree}
+use Rattle.query_grammar.specs.Faults as grammar
 use Rattle.query_model.specs.declared.line.Line.{Line}
+use Rattle.query_model.specs.declared.line.Line.TheVariants as line
 use Rattle.query_model.specs.declared.line.Ask.{Ask}
-use Rattle.query_model.specs.declared.line.Prio.{Prio}
+use Rattle.query_model.specs.declared.keyword.ExprAsk.{ExprAsk}
+use Rattle.query_model.specs.declared.fault.BadKind.{BadKind}
 use Rattle.query_model.specs.declared.fault.BadKind.TheVariants.{BadByte}
 use Rattle.query_model.specs.Results.{◌>>=◌, check}
 use Rattle.query_model.specs.Pieces.{Bytes, fields, is_printable}
-use Rattle.query_model.specs.Expressions.{GivesTree}
+use Rattle.query_model.specs.Expressions.{GivesTree, kind_of, tokens_of}
+use Rattle.query_model.specs.ByFacts.{IsTickLine}
 use Rattle.query_model.specs.Lines as model
 use Rattle.query_text.specs.declared.fault.LineFault.{LineFault}
 use Rattle.query_text.specs.declared.fault.LineFault.TheVariants as fault
 use Rattle.query_text.specs.Outcomes.{FailsBy, Gives, GivesBy}
-
--- the tree of an expression is there, and then what the query gives
-pub asked_ok : (shards : ℕ) (before : List Line) (prio : Prio) (asks : Tree → Ask) (tokens : List Token) (tree : Tree) (r : Result (Option Line) LineFault)
-    → GivesTree tokens (Ok tree) → Gives r (model.query_behind shards before prio asks (Ok tree)) → GivesBy r (model.GivesLine shards before (Ok (model.Said.query prio asks tokens)))
-asked_ok shards before prio asks tokens tree (Ok x) t g = (Ok tree, t, sym g)
-asked_ok shards before prio asks tokens tree (Err (fault.Bad kind)) t g = (Ok tree, t, sym g)
-asked_ok shards before prio asks tokens tree (Err fault.Memory) t g = tt
-
-pub asked_err : (shards : ℕ) (before : List Line) (prio : Prio) (asks : Tree → Ask) (tokens : List Token) (e : LineFault)
-    → FailsBy e (GivesTree tokens) → FailsBy e (model.GivesLine shards before (Ok (model.Said.query prio asks tokens)))
-asked_err shards before prio asks tokens (fault.Bad kind) t = (Err kind, t, refl)
-asked_err shards before prio asks tokens fault.Memory t = tt
+use Rattle.query_text.specs.Sayings.{GivesAskBy, GivesTreeBy, first_tokens, most_kept}
+use Rattle.query_text.specs.Tracks.{HasRoom}
 
 pub printable_line : (before : List Line) (text lowered : Bytes) (texts : List Bytes) → list_all is_printable text ≡ true → lowered ≡ map to_ascii_lowercase text → texts ≡ fields lowered
     → model.fields_behind before texts ≡ model.line_said before text
 printable_line before text lowered texts good lower is =
     ap (model.fields_behind before) (is ∙ ap fields lower)
     ∙ sym (ap (λ b. check b BadByte >>= λ u. model.fields_behind before (fields (map to_ascii_lowercase text))) good)
+
+-- what is asked of the expression
+pub ask_ok : (asks : ExprAsk) (texts : List Bytes) (tree : Tree) (found : Ask) → GivesTreeBy (tokens_of texts) (Ok tree) → found ≡ model.ask_of asks tree → GivesAskBy (model.expr_behind asks texts) (Ok found)
+ask_ok asks texts tree found t same = by (tokens_of texts) t
+  where
+    by : (r : Result (List Token) BadKind) → GivesTreeBy r (Ok tree) → GivesAskBy (r >>= λ tokens. Ok (model.Asking.of_tokens asks tokens)) (Ok found)
+    by (Ok tokens) t = (tree, t, same)
+    by (Err kind) t = absurd cc
+
+pub ask_err : (asks : ExprAsk) (texts : List Bytes) (e : LineFault) → FailsBy e (GivesTreeBy (tokens_of texts)) → FailsBy e (GivesAskBy (model.expr_behind asks texts))
+ask_err asks texts fault.Memory t = tt
+ask_err asks texts (fault.Bad kind) t = by (tokens_of texts) t
+  where
+    by : (r : Result (List Token) BadKind) → GivesTreeBy r (Err kind) → GivesAskBy (r >>= λ tokens. Ok (model.Asking.of_tokens asks tokens)) (Err kind)
+    by (Ok tokens) t = t
+    by (Err other) t = let same : kind ≡ other = cc in ap (λ k. Err k) same
+
+-- Where there are too many tokens, the first 1,025 of them are too many as well, and both give the same.
+by_first : (n : ℕ) (tokens : List Token) → n ≡ most_kept → (r : Result Tree BadKind) → GivesTree (take n tokens) r → GivesTree tokens r
+by_first n tokens is r g = by (cases_lt n (length tokens)) r g
+  where
+    short : length tokens ≤ n → (r : Result Tree BadKind) → GivesTree (take n tokens) r → GivesTree tokens r
+    short few r g = subst (λ ts. GivesTree ts r) (take_all n tokens few) g
+    long : n < length tokens → (r : Result Tree BadKind) → GivesTree (take n tokens) r → GivesTree tokens r
+    long many (Ok tree) g = absurd (omega (arith, g.some.1, is, length-take-le n tokens (omega (arith, many))))
+    long many (Err kind) (expr.TooLong, u, same) = (expr.TooLong, omega (arith, is, many), same)
+    long many (Err kind) (expr.Empty, u, same) = absurd (omega (arith, u, is, length-take-le n tokens (omega (arith, many))))
+    long many (Err kind) (expr.TooDeep place, u, same) = absurd (omega (arith, u.0.some.1, is, length-take-le n tokens (omega (arith, many))))
+    long many (Err kind) (expr.Unexpected place, u, same) = absurd (omega (arith, u.0.some.1, is, length-take-le n tokens (omega (arith, many))))
+    long many (Err kind) (expr.Unclosed, u, same) = absurd (omega (arith, u.0.some.1, is, length-take-le n tokens (omega (arith, many))))
+    long many (Err kind) (expr.Memory, u, same) = absurd u
+    by : (n < length tokens) ⊎ (length tokens ≤ n) → (r : Result Tree BadKind) → GivesTree (take n tokens) r → GivesTree tokens r
+    by (inl less) r g = long less r g
+    by (inr more) r g = short more r g
+
+pub tree_by_first : (texts : List Bytes) (tokens : List Token) (r : Result Tree LineFault) → first_tokens texts ≡ Ok tokens → GivesBy r (GivesTree tokens) → GivesBy r (GivesTreeBy (tokens_of texts))
+tree_by_first texts tokens r is g = by (tokens_of texts) r is g
+  where
+    by : (given : Result (List Token) BadKind) (r : Result Tree LineFault) → (given >>= λ all. Ok (take most_kept all)) ≡ Ok tokens → GivesBy r (GivesTree tokens) → GivesBy r (GivesTreeBy given)
+    by (Ok all) (Ok tree) is g = let same : take most_kept all ≡ tokens = cc in by_first most_kept all refl (Ok tree) (subst (λ ts. GivesTree ts (Ok tree)) (sym same) g)
+    by (Ok all) (Err (fault.Bad kind)) is g = let same : take most_kept all ≡ tokens = cc in by_first most_kept all refl (Err kind) (subst (λ ts. GivesTree ts (Err kind)) (sym same) g)
+    by (Ok all) (Err fault.Memory) is g = tt
+    by (Err kind) r is g = absurd cc
+
+-- the ticks of a line that a piece stands for have room
+pub has_room : (shards : ℕ) (before : List Line) (piece : Bytes) (l : Line) → ((n : ℕ) → model.LineBehind shards before piece (Ok (Some (line.Tick n))) → IsTickLine before piece n)
+    → model.LineBehind shards before piece (Ok (Some l)) → HasRoom before l
+has_room shards before piece (line.Doc doc) facts is = tt
+has_room shards before piece (line.Query query) facts is = tt
+has_room shards before piece (line.Tick n) facts is = (facts n is).room
+has_room shards before piece (line.Cancel n) facts is = tt

@@ -52,8 +52,16 @@ impl<X: Drop> From<Refused<X>> for LineFault {
     }
 }
 
-pub const TOO_MANY_WORDS: LineFault = LineFault::Bad(BadKind::Limit(Limit::Words));
+pub const BAD_BYTE: LineFault = LineFault::Bad(BadKind::BadByte);
+
+pub const UNKNOWN_COMMAND: LineFault = LineFault::Bad(BadKind::UnknownCommand);
+
+pub const BAD_NUMBER: LineFault = LineFault::Bad(BadKind::BadNumber);
 
 pub const BAD_WORD: LineFault = LineFault::Bad(BadKind::BadWord);
 
 pub const MISSING_FIELD: LineFault = LineFault::Bad(BadKind::MissingField);
+
+pub const EXTRA_FIELD: LineFault = LineFault::Bad(BadKind::ExtraField);
+
+pub const TOO_MANY_WORDS: LineFault = LineFault::Bad(BadKind::Limit(Limit::Words));

@@ -1,4 +1,4 @@
-ghost use Rattle.std.specs.Prelude.{◌≡◌, ◌∷◌, ◌++◌, [], All, MatchOption};
+ghost use Rattle.std.specs.Prelude.{◌≡◌, ◌↔◌, ◌∷◌, ◌++◌, [], All, IsTrue, MatchOption};
 ghost use Rattle.std.specs.Iterator.{YieldsFirstRef, item_count};
 ghost use Rattle.query_model.specs.Pieces.{fields, space};
 ghost use Rattle.query_text.specs.Cuts.{HasNoSpaceFirst};
@@ -22,10 +22,18 @@ impl<'a> Model for Fields<'a> {
 }
 
 impl<'a> Fields<'a> {
+    /// The fields of a line.
     pub fn new(line: &'a [u8]) -> Self
         ensures { result ≡ fields line.now }
     {
         Fields { rest: line }
+    }
+
+    /// Whether no field is left.
+    pub fn is_empty(&self) -> bool
+        ensures { IsTrue result ↔ (self.now ≡ []) }
+    {
+        first_field(self.rest).is_none()
     }
 }
 

@@ -12,14 +12,15 @@ pub use reply::{error_line, reply_line};
 mod cut;
 mod fault;
 mod fields;
+mod keyword;
 mod law;
 mod line;
 mod number;
 mod parts;
 mod pieces;
+mod query;
 mod read;
 mod reply;
-mod said;
 mod so_far;
 #[cfg(test)]
 mod tests;

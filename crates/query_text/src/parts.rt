@@ -22,6 +22,7 @@ impl<'a> Model for Parts<'a> {
 }
 
 impl<'a> Parts<'a> {
+    /// The parts of a text.
     pub fn new(text: &'a [u8]) -> Self
         ensures { result ≡ parts text.now }
     {

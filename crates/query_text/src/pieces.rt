@@ -21,6 +21,7 @@ impl<'a> Model for Pieces<'a> {
 }
 
 impl<'a> Pieces<'a> {
+    /// The pieces of some bytes.
     pub fn new(bytes: &'a [u8]) -> Self
         ensures { result ≡ pieces bytes.now }
     {

@@ -12,7 +12,7 @@ use crate::law::input_law;
 use crate::line::line_of;
 use crate::pieces::Pieces;
 use crate::so_far::SoFar;
-use query_model::laws::one_piece_more;
+use query_model::laws::{lines_by_facts, one_piece_more};
 use query_model::{BadInput, Input, InputFault};
 use std::alloc::Global;
 
@@ -67,6 +67,7 @@ fn read_piece(
     ensures ok { IfOk result (λ more. (mark : Option Line) × LineBehind shards so_far piece.now (Ok mark) × (more ≡ so_far ++ option_to_list mark)) }
     ensures refused { (bad : BadInput) → result ≡ Err (InputFault.Bad bad) → (bad.line ≡ number) × LineBehind shards so_far piece.now (Err bad.kind) }
 {
+    lines_by_facts();
     match line_of(alloc, shards, &so_far, piece) {
         Ok(Some(line)) => so_far.with(line),
         Ok(None) => Ok(so_far),

@@ -15,6 +15,8 @@ pub fn reply_line(alloc: Global, n: u64, reply: &Reply) -> Result<Vec<u8>, Memor
         Reply::Find(hits) => find_line(alloc, n, hits),
         Reply::Count(total) => count_line(alloc, n, *total),
         Reply::Present(present) => presence_line(alloc, n, *present),
+        Reply::Top(scores) => top_line(alloc, n, scores.as_slice()),
+        Reply::Cancelled => cancelled_line(alloc, n),
     }
 }
 
@@ -49,6 +51,24 @@ fn presence_text(present: bool) -> &'static str
     if present { "yes" } else { "no" }
 }
 
+fn top_line(alloc: Global, n: u64, scores: &[(u32, u64)]) -> Result<Vec<u8>, Memory>
+    ensures { IfOk result (λ line. line.items ≡ reply_text n (reply.Top scores.now)) }
+{
+    let listed = scores.len();
+    let mut text = format!(in alloc; "{n} top {listed}:")?;
+    for (id, score) in scores {
+        write!(text, " {id}={score}")?;
+    }
+    text.push('\n')?;
+    Ok(text.into_bytes())
+}
+
+fn cancelled_line(alloc: Global, n: u64) -> Result<Vec<u8>, Memory>
+    ensures { IfOk result (λ line. line.items ≡ reply_text n reply.Cancelled) }
+{
+    Ok(format!(in alloc; "{n} cancelled\n")?.into_bytes())
+}
+
 /// The line that says why an input was refused.
 pub fn error_line(alloc: Global, bad: &BadInput) -> Result<Vec<u8>, Memory>
     ensures { IfOk result (λ line. line.items ≡ error_text bad.now) }
@@ -67,11 +87,10 @@ fn kind_text(kind: BadKind) -> &'static str
         BadKind::BadNumber => "bad number",
         BadKind::BadWord => "bad word",
         BadKind::DuplicateDoc => "duplicate document",
-        BadKind::DocAfterQuery => "document after query",
         BadKind::BadExpr(_) => "bad expression",
         BadKind::MissingField => "missing field",
+        BadKind::ExtraField => "extra field",
         BadKind::Limit(limit) => limit_text(limit),
-        BadKind::NotYet => "not built yet",
     }
 }
 
@@ -83,6 +102,7 @@ fn limit_text(limit: Limit) -> &'static str
         Limit::Documents => "too many documents",
         Limit::Queries => "too many queries",
         Limit::Tasks => "too many tasks",
+        Limit::Ticks => "too many ticks",
         Limit::Depth => "expression too deep",
         Limit::Tokens => "expression too long",
     }

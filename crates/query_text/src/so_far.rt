@@ -1,9 +1,10 @@
 ghost use Rattle.std.specs.Prelude.{◌≡◌, ◌+◌, ◌*◌, ◌++◌, ◌∷◌, [], Ok, Err, OnOk, IfErr, IfOk, nat_lt, nat_le};
-ghost use Rattle.std.specs.List.{list_any, count_by};
-ghost use Rattle.query_model.specs.Lines.{doc_room, query_room, is_query, has_id, is_doc};
+ghost use Rattle.std.specs.List.{list_any, count_by, sum_by};
+ghost use Rattle.query_model.specs.Lines.{doc_room, query_room, is_query, has_id, is_doc, ticks_of};
+ghost use Rattle.query_text.specs.Tracks.{HasRoom, tick_room};
 
 use fan_base::Doc;
-use query_model::limits::{MOST_DOCUMENTS, MOST_QUERIES, MOST_TASKS};
+use query_model::limits::{MOST_DOCUMENTS, MOST_QUERIES, MOST_TASKS, MOST_TICKS};
 use query_model::{BadKind, InputFault, Limit, Line, Lines, Query};
 use std::alloc::Global;
 use std::collections::BTreeSet;
@@ -15,6 +16,8 @@ pub struct SoFar {
     lines: Lines,
     ids: BTreeSet<u32>,
     documents: usize,
+    queries: usize,
+    ticks: u32,
 }
 
 impl Model for SoFar {
@@ -35,6 +38,7 @@ impl Model for SoFar {
 }
 
 impl SoFar {
+    /// No lines.
     pub fn new(alloc: Global) -> Self
         ensures { result ≡ [] }
     {
@@ -42,26 +46,17 @@ impl SoFar {
             lines: Lines::new(alloc),
             ids: BTreeSet::new(alloc),
             documents: 0,
+            queries: 0,
+            ticks: 0,
         }
     }
 
+    /// The lines.
     pub fn into_lines(self) -> Lines
         ensures { result ≡ self }
     {
         let SoFar { lines, .. } = self;
         lines
-    }
-
-    fn queries(&self) -> usize
-        ensures { result ≡ count_by is_query self.now }
-    {
-        self.lines.len() - self.documents
-    }
-
-    pub fn has_query(&self) -> bool
-        ensures { result ≡ list_any is_query self.now }
-    {
-        self.queries() > 0
     }
 
     /// Whether there is room for a document with this id.
@@ -81,7 +76,7 @@ impl SoFar {
     pub fn query_room(&self, shards: u32) -> Result<(), BadKind>
         ensures { result ≡ query_room shards self.now }
     {
-        let queries = self.queries();
+        let queries = self.queries;
         if queries >= MOST_QUERIES {
             return Err(BadKind::Limit(Limit::Queries));
         }
@@ -91,14 +86,27 @@ impl SoFar {
         Ok(())
     }
 
-    /// The lines with one more.
+    /// Whether there is room for so many ticks.
+    pub fn tick_room(&self, ticks: u32) -> Result<(), BadKind>
+        ensures { result ≡ tick_room self.now ticks }
+    {
+        if u64::from(self.ticks) + u64::from(ticks) > u64::from(MOST_TICKS) {
+            return Err(BadKind::Limit(Limit::Ticks));
+        }
+        Ok(())
+    }
+
+    /// The lines with one more, for which there is room.
     pub fn with(self, line: Line) -> Result<SoFar, InputFault>
+        requires { HasRoom self line }
         ensures ok { IfOk result (λ more. more ≡ self ++ line ∷ []) }
         ensures err { IfErr result (λ fault. fault ≡ InputFault.Memory) }
     {
         match line {
             Line::Doc(doc) => self.with_doc(doc),
             Line::Query(query) => self.with_query(query),
+            Line::Tick(ticks) => self.with_ticks(ticks),
+            Line::Cancel(number) => self.with_cancel(number),
         }
     }
 
@@ -110,6 +118,8 @@ impl SoFar {
             mut lines,
             mut ids,
             documents,
+            queries,
+            ticks,
         } = self;
         ids.insert(doc.id)?;
         lines.push(Line::Doc(doc))?;
@@ -119,6 +129,8 @@ impl SoFar {
             lines,
             ids,
             documents: documents + 1,
+            queries,
+            ticks,
         })
     }
 
@@ -130,12 +142,61 @@ impl SoFar {
             mut lines,
             ids,
             documents,
+            queries,
+            ticks,
         } = self;
         lines.push(Line::Query(query))?;
+        let many = lines.len();
+        prove!(queries < many);
         Ok(SoFar {
             lines,
             ids,
             documents,
+            queries: queries + 1,
+            ticks,
+        })
+    }
+
+    fn with_ticks(self, more: u32) -> Result<SoFar, InputFault>
+        requires { HasRoom self (Line.Tick more) }
+        ensures ok { IfOk result (λ behind. behind ≡ self ++ Line.Tick more ∷ []) }
+        ensures err { IfErr result (λ fault. fault ≡ InputFault.Memory) }
+    {
+        let SoFar {
+            mut lines,
+            ids,
+            documents,
+            queries,
+            ticks,
+        } = self;
+        lines.push(Line::Tick(more))?;
+        Ok(SoFar {
+            lines,
+            ids,
+            documents,
+            queries,
+            ticks: ticks + more,
+        })
+    }
+
+    fn with_cancel(self, number: u32) -> Result<SoFar, InputFault>
+        ensures ok { IfOk result (λ more. more ≡ self ++ Line.Cancel number ∷ []) }
+        ensures err { IfErr result (λ fault. fault ≡ InputFault.Memory) }
+    {
+        let SoFar {
+            mut lines,
+            ids,
+            documents,
+            queries,
+            ticks,
+        } = self;
+        lines.push(Line::Cancel(number))?;
+        Ok(SoFar {
+            lines,
+            ids,
+            documents,
+            queries,
+            ticks,
         })
     }
 }

@@ -1,8 +1,8 @@
-ghost use Rattle.std.specs.Prelude.{◌≡◌, Ok, IfErr, OnOk};
+ghost use Rattle.std.specs.Prelude.{◌≡◌, ◌≤◌, ◌++◌, ◌∷◌, [], Ok, IfErr, IfOk, OnOk, length, take};
 ghost use Rattle.query_grammar.specs.Tree.{Tree};
-ghost use Rattle.query_model.specs.Expressions.{GivesTree, kind_of, parts, tokens_of};
+ghost use Rattle.query_model.specs.Expressions.{GivesTree, kind_of, parts};
 ghost use Rattle.query_text.specs.Outcomes.{FailsAs, Gives, GivesBy, GivesItems};
-ghost use Rattle.query_text.specs.Sayings.{token_in, tokens_behind};
+ghost use Rattle.query_text.specs.Sayings.{first_tokens, most_kept, token_in, tokens_behind};
 
 use crate::fault::LineFault;
 use crate::fields::Fields;
@@ -11,11 +11,14 @@ use crate::words::word_of;
 use query_expr::parse;
 use query_grammar::{Expr, ExprFault, Token};
 use query_model::{BadKind, Limit};
-use std::alloc::Global;
+use std::alloc::{AllocError, Global};
 
-/// The tokens of the fields behind an ask.
-pub fn tokens_of(alloc: Global, mut fields: Fields<'_>) -> Result<Vec<Token>, LineFault>
-    ensures { GivesItems result (tokens_of fields.entry) }
+/// How many tokens of an expression are kept: one more than it may have.
+const MOST_KEPT: usize = 1_025;
+
+/// The first 1,025 tokens of the fields behind an ask; all of them are checked.
+pub fn first_tokens(alloc: Global, mut fields: Fields<'_>) -> Result<Vec<Token>, LineFault>
+    ensures { GivesItems result (first_tokens fields.entry) }
 {
     let mut tokens = Vec::new(alloc);
     'fields: while let Some(field) = fields.next() {
@@ -25,12 +28,26 @@ pub fn tokens_of(alloc: Global, mut fields: Fields<'_>) -> Result<Vec<Token>, Li
 }
 
 fn push_tokens(tokens: &mut Vec<Token>, field: &[u8]) -> Result<(), LineFault>
+    requires { length tokens.old.items ≤ most_kept }
     ensures ok { OnOk result (tokens_behind tokens.old.items (parts field.now) ≡ Ok tokens.new.items) }
+    ensures few { OnOk result (length tokens.new.items ≤ most_kept) }
     ensures err { IfErr result (λ fault. FailsAs fault (tokens_behind tokens.old.items (parts field.now))) }
 {
     let mut parts = Parts::new(field);
     'parts: while let Some(part) = parts.next() {
-        tokens.push(token_in(part)?)?;
+        push_first(tokens, token_in(part)?)?;
+    }
+    Ok(())
+}
+
+/// Puts a token behind the others, where there is room for it.
+fn push_first(tokens: &mut Vec<Token>, token: Token) -> Result<(), AllocError>
+    requires { length tokens.old.items ≤ most_kept }
+    ensures first { OnOk result (tokens.new.items ≡ take most_kept (tokens.old.items ++ token ∷ [])) }
+    ensures few { OnOk result (length tokens.new.items ≤ most_kept) }
+{
+    if tokens.len() < MOST_KEPT {
+        tokens.push(token)?;
     }
     Ok(())
 }

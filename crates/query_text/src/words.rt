@@ -9,7 +9,7 @@ use fan_base::{Word, WordFault, Words};
 use query_model::limits::MOST_WORDS;
 use std::alloc::Global;
 
-/// The words that the fields behind an id are.
+/// The words of a document or of a `top`.
 pub fn words_of(alloc: Global, mut fields: Fields<'_>) -> Result<Words, LineFault>
     ensures { Gives result (words_of fields.entry) }
 {
@@ -26,6 +26,7 @@ pub fn words_of(alloc: Global, mut fields: Fields<'_>) -> Result<Words, LineFaul
     Ok(words)
 }
 
+/// The word that a text is.
 pub fn word_of(text: &[u8]) -> Result<Word, LineFault>
     ensures { Gives result (word_in text.now) }
 {

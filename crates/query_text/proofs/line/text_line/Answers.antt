@@ -1,10 +1,11 @@
 use Rattle.std.proofs.Common.{subst, sym, ◌∙◌}
-use Rattle.query_text.specs.Sayings.{GivesSaid}
+use Rattle.query_model.specs.Lines.{GivesLine}
+use Rattle.query_text.specs.Outcomes.{GivesBy}
 use Rattle.query_text.proofs.LineLemmas.{printable_line}
-use Rattle.query_text.proofs.line.line_said.Goals as goal
+use Rattle.query_text.proofs.line.text_line.Goals as goal
 
 pub returns : goal.returns
 returns c =
-    subst (λ given. GivesSaid c.fields_said.result given)
+    subst (λ given. GivesBy c.fields_line.result (GivesLine c.args.shards c.args.so_far.now given))
     (printable_line c.args.so_far.now c.args.text.now c.as_slice.result.now c.new.result (sym c.is_printable.ensures ∙ c.if-not-is_printable.false) (c.as_slice.ensures.value ∙ c.in_ok-lowered.ensures) c.new.ensures)
-    c.fields_said.ensures
+    c.fields_line.ensures
