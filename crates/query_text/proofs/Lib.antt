@@ -5,3 +5,4 @@ pub mod ReadLemmas
 pub mod TokenLemmas
 pub mod TrackLemmas
 pub mod WordLemmas
+pub mod WriteLemmas

@@ -3,3 +3,4 @@ pub mod Outcomes
 pub mod Sayings
 pub mod Progress
 pub mod Tracks
+pub mod Writing

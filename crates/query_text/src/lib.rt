@@ -8,8 +8,10 @@ pub use query_model::{
 };
 pub use read::read_input;
 pub use reply::{error_line, reply_line};
+pub use write::write_input;
 
 mod cut;
+mod expr_text;
 mod fault;
 mod fields;
 mod keyword;
@@ -26,3 +28,4 @@ mod so_far;
 mod tests;
 mod tokens;
 mod words;
+mod write;
