@@ -9,6 +9,7 @@ pub mod LimitLaws
 pub mod SortingLaws
 pub mod OrderLaws
 pub mod LineByLine
+pub mod WalkLaws
 pub mod PlaceLaws
 pub mod TextFacts
 pub mod CanonicalTokens

@@ -28,7 +28,7 @@ all-sorted_by : {A : Type 0} (P : A → Type 0) (g : A → A → Bool) (xs : Lis
 all-sorted_by P g [] h = tt
 all-sorted_by P g (x ∷ xs) h = all-put_by P g x (sorted_by g xs) h.0 (all-sorted_by P g xs h.1)
 
-all-filter : {A : Type 0} (P : A → Type 0) (p : A → Bool) (xs : List A) → AllByRecursion P xs → AllByRecursion P (filter p xs)
+pub all-filter : {A : Type 0} (P : A → Type 0) (p : A → Bool) (xs : List A) → AllByRecursion P xs → AllByRecursion P (filter p xs)
 all-filter P p [] h = tt
 all-filter {A = A} P p (x ∷ xs) h = by (p x) (all-filter P p xs h.1)
   where
@@ -44,7 +44,7 @@ all-filter_map {A = A} {B = B} P f (x ∷ xs) h = by (f x) refl (all-filter_map 
     by (Some b) is rest = (h.0 b is, rest)
     by None is rest = rest
 
-all-map : {A : Type 0} (P Q : A → Type 0) → ((a : A) → P a → Q a) → (xs : List A) → AllByRecursion P xs → AllByRecursion Q xs
+pub all-map : {A : Type 0} (P Q : A → Type 0) → ((a : A) → P a → Q a) → (xs : List A) → AllByRecursion P xs → AllByRecursion Q xs
 all-map P Q f [] h = tt
 all-map P Q f (x ∷ xs) h = (f x h.0, all-map P Q f xs h.1)
 
@@ -194,7 +194,7 @@ asked_below number place (line.Query query ∷ ls) =
 asked_below number place (line.Tick n ∷ ls) = all-map (λ (a : Asked). a.place < place + 1 + length ls) (λ (a : Asked). a.place < place + length (line.Tick n ∷ ls)) (λ a h. omega arith) (asked_from number (place + 1) ls) (asked_below number (place + 1) ls)
 asked_below number place (line.Cancel n ∷ ls) = all-map (λ (a : Asked). a.place < place + 1 + length ls) (λ (a : Asked). a.place < place + length (line.Cancel n ∷ ls)) (λ a h. omega arith) (asked_from number (place + 1) ls) (asked_below number (place + 1) ls)
 
-all_below : (ls : List Line) → AllByRecursion (λ (a : Asked). a.place < length ls) (asked_in ls)
+pub all_below : (ls : List Line) → AllByRecursion (λ (a : Asked). a.place < length ls) (asked_in ls)
 all_below ls = all-map (λ (a : Asked). a.place < 0 + length ls) (λ (a : Asked). a.place < length ls) (λ a h. omega arith) (asked_in ls) (asked_below 1 0 ls)
 
 abbrev turn_place : Option Turn → ℕ

@@ -222,10 +222,10 @@ outcome-more ls l asked (Some delay) is below =
         ∙ by_cancel (cancel_line ls asked None) refl e
 
 -- the turn of a query, with one more line
-docs_before-more : (ls : List Line) (l : Line) (asked : Asked) → asked.place < length ls → docs_before (ls ++ l ∷ []) asked ≡ docs_before ls asked
+pub docs_before-more : (ls : List Line) (l : Line) (asked : Asked) → asked.place < length ls → docs_before (ls ++ l ∷ []) asked ≡ docs_before ls asked
 docs_before-more ls l asked below = ap docs_of (take-append-le asked.place ls (l ∷ []) (omega arith))
 
-due_of-more : (ls : List Line) (l : Line) (asked : Asked) → asked.place ≤ length ls → due_of (ls ++ l ∷ []) asked ≡ due_of ls asked
+pub due_of-more : (ls : List Line) (l : Line) (asked : Asked) → asked.place ≤ length ls → due_of (ls ++ l ∷ []) asked ≡ due_of ls asked
 due_of-more ls l asked below = by asked.query.delay
   where
     by : (delay : Option ℕ) → due_with (ls ++ l ∷ []) asked.place delay ≡ due_with ls asked.place delay

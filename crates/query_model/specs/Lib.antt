@@ -18,3 +18,4 @@ pub mod Rows
 pub mod Laws
 pub mod ByFacts
 pub mod LineByLine
+pub mod Walk

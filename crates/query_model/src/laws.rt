@@ -1,5 +1,5 @@
 //! What follows from the definitions. These functions do nothing: their clauses are laws.
-ghost use Rattle.std.specs.Prelude.{◌≡◌, ◌↔◌, ◌<◌, ◌+◌, ◌*◌, ◌++◌, ◌∷◌, [], ℕ, List, Option, Some, None, Ok, slice_get, Bool, false, not, nat_lt, map, filter, ◌≤◌};
+ghost use Rattle.std.specs.Prelude.{◌≡◌, ◌↔◌, ◌<◌, ◌+◌, ◌*◌, ◌++◌, ◌∷◌, [], ℕ, List, Option, Some, None, Ok, slice_get, Bool, false, not, nat_lt, map, filter, ◌≤◌, All};
 ghost use Rattle.std.specs.List.Sorted.{IsPermutation};
 ghost use Rattle.fan_base.specs.declared.doc.Doc.{Doc};
 ghost use Rattle.query_model.specs.Pieces.{Bytes};
@@ -9,9 +9,10 @@ ghost use Rattle.query_model.specs.declared.line.Line.TheVariants as line;
 ghost use Rattle.query_model.specs.declared.line.Query.{Query};
 ghost use Rattle.query_model.specs.ByFacts.{IsSkipped, IsDocLine, IsTickLine, IsCancelLine, IsQueryLine};
 ghost use Rattle.query_model.specs.Lines.{LineBehind};
-ghost use Rattle.query_model.specs.Documents.{IsWithinLimits};
+ghost use Rattle.query_model.specs.Documents.{IsLine, IsWithinLimits};
 ghost use Rattle.query_model.specs.Answers.{ranks_before};
-ghost use Rattle.query_model.specs.Order.{Turn, comes_before, left_in, turns_of};
+ghost use Rattle.query_model.specs.Order.{Turn, comes_before, left_in, replies_of, turns_of};
+ghost use Rattle.query_model.specs.Walk.{all_replies, progress_of};
 ghost use Rattle.query_model.specs.LineByLine.{Adds, answered_at, answered_now, cancelled_at, is_due, is_numbered, next_asked, numbered_before};
 ghost use Rattle.query_model.specs.Reading.{Accepts, StandFor, kept};
 ghost use Rattle.query_model.specs.Parts.{part_of};
@@ -86,6 +87,12 @@ pub fn turns_line_by_line()
     ensures cancel { (lines : List Line) (n : ℕ) →
         Adds lines (line.Cancel n) (map (cancelled_at lines) (filter (is_numbered n) (left_in lines))) (filter (λ a. not (is_numbered n a)) (left_in lines)) }
     ensures waiting { (lines : List Line) → IsInOrder numbered_before (left_in lines) }
+{}
+
+/// All replies to lines are those that one walk over the lines gives, which keeps the ticks, the documents and the queries that
+/// wait.
+pub fn one_walk_gives_all_replies()
+    ensures { (lines : List Line) → All IsLine lines → replies_of lines ≡ all_replies (progress_of lines) }
 {}
 
 /// The part of a shard is the documents at the places that leave its number: the first at the place of its number, each next one

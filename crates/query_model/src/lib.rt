@@ -7,7 +7,7 @@ pub use fault::{BadInput, BadKind, InputFault, Limit};
 pub use keyword::{ExprAsk, Keyword};
 pub use line::{Ask, Input, Line, Lines, Prio, Query};
 pub use query_grammar::{Expr, ExprFault};
-pub use reply::{Hits, Reply};
+pub use reply::{Hits, Reply, Waiting};
 
 mod fault;
 mod keyword;

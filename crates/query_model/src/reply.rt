@@ -20,3 +20,13 @@ pub enum Reply {
     /// The query was no longer wanted, or its due tick never came.
     Cancelled,
 }
+
+/// A query that waits for its due tick, and the reply that it gets then: its documents are those before its line, so nothing
+/// later changes that.
+#[derive(Debug, Drop)]
+pub struct Waiting {
+    pub number: u64,
+    /// Its due tick.
+    pub due: u64,
+    pub reply: Reply,
+}

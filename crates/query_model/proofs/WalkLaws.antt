@@ -1,0 +1,284 @@
+-- One walk over the lines gives the replies in the order of answers.
+use Rattle.std.proofs.Common.{◌≡◌, ℕ, ◌+◌, ◌<◌, ◌≤◌, List, [], ◌∷◌, ◌++◌, length, take, Bool, true, false, ◌&&◌, ◌||◌, not, cond, nat_lt, eqb, Option, Some, None, refl, sym, ap, ◌∙◌, subst, arith, append_assoc, append-nil}
+use Rattle.std.specs.Prelude.{nat_le, map, filter, ◌==◌}
+use Rattle.std.specs.List.{AllByRecursion, count_by, fold, sum_by}
+use Rattle.std.specs.Option.{IfSome}
+use Rattle.std.proofs.lemmas.Bool.{eqb-true}
+use Rattle.std.proofs.lemmas.Bool.Decides.{nat_tests}
+use Rattle.std.proofs.lemmas.List.{map-append}
+use Rattle.std.proofs.lemmas.List.Sums.{sum_by_push}
+use Rattle.std.proofs.Math.Seq.{take-append_seam}
+use Rattle.fan_base.specs.declared.doc.Doc.{Doc}
+use Rattle.query_model.specs.declared.line.Ask.{Ask}
+use Rattle.query_model.specs.declared.line.Line.{Line}
+use Rattle.query_model.specs.declared.line.Line.TheVariants as line
+use Rattle.query_model.specs.declared.line.Query.{Query}
+use Rattle.query_model.specs.declared.reply.Reply.{Reply}
+use Rattle.query_model.specs.declared.reply.Reply.TheVariants as reply
+use Rattle.query_model.specs.declared.reply.Waiting.{Waiting}
+use Rattle.query_model.specs.Lines.{is_query, ticks_of}
+use Rattle.query_model.specs.Sorting.{put_by, sorted_by}
+use Rattle.query_model.specs.Documents.{doc_of_line, docs_of, IsLine}
+use Rattle.query_model.specs.Answers.{answer}
+use Rattle.query_model.specs.Order.{Asked, asked_in, due_with, due_of, docs_before, now_at, Turn, comes_before, turn_of, turns_of, left_in, replies_of}
+use Rattle.query_model.specs.LineByLine.{next_asked, answered_at, cancelled_at, answered_now, is_due, is_numbered, Adds}
+use Rattle.query_model.specs.Walk.{Progress, start, due_before, is_due_by, has_number, answered, cancelled, asked_with, step, progress_of, all_replies}
+use Rattle.query_model.proofs.ListFacts.{filter_map-push}
+use Rattle.query_model.proofs.OrderLaws.{docs_before-more, due_of-more, now_at-more, now_at-all}
+use Rattle.query_model.proofs.LineByLine.{all-filter, all-map, all_below, adds_doc, adds_answered, adds_delayed, adds_tick, adds_cancel}
+
+-- lists
+map-same : {A B : Type 0} (f g : A → B) (xs : List A) → AllByRecursion (λ x. f x ≡ g x) xs → map f xs ≡ map g xs
+map-same f g [] same = refl
+map-same f g (x ∷ xs) same = ap (λ y. y ∷ map f xs) same.0 ∙ ap (λ ys. g x ∷ ys) (map-same f g xs same.1)
+
+filter-map : {A B : Type 0} (q : B → Bool) (f : A → B) (xs : List A) → filter q (map f xs) ≡ map f (filter (λ a. q (f a)) xs)
+filter-map q f [] = refl
+filter-map {A = A} {B = B} q f (x ∷ xs) = by (q (f x)) (filter-map q f xs)
+  where
+    by : (b : Bool) → filter q (map f xs) ≡ map f (filter (λ a. q (f a)) xs)
+        → cond b (f x ∷ filter q (map f xs)) (filter q (map f xs)) ≡ map f (cond b (x ∷ filter (λ a. q (f a)) xs) (filter (λ a. q (f a)) xs))
+    by true rest = ap (λ ys. f x ∷ ys) rest
+    by false rest = rest
+
+put-map : {A B : Type 0} (g : B → B → Bool) (h : A → A → Bool) (f : A → B) (x : A) (xs : List A) → ((a b : A) → g (f a) (f b) ≡ h a b)
+    → put_by g (f x) (map f xs) ≡ map f (put_by h x xs)
+put-map g h f x [] same = refl
+put-map {A = A} {B = B} g h f x (y ∷ ys) same =
+    ap (λ b. cond b (f y ∷ put_by g (f x) (map f ys)) (f x ∷ (f y ∷ map f ys))) (same y x) ∙ by (h y x) (put-map g h f x ys same)
+  where
+    by : (b : Bool) → put_by g (f x) (map f ys) ≡ map f (put_by h x ys)
+        → cond b (f y ∷ put_by g (f x) (map f ys)) (f x ∷ (f y ∷ map f ys)) ≡ map f (cond b (y ∷ put_by h x ys) (x ∷ (y ∷ ys)))
+    by true rest = ap (λ zs. f y ∷ zs) rest
+    by false rest = refl
+
+sorted-map : {A B : Type 0} (g : B → B → Bool) (h : A → A → Bool) (f : A → B) (xs : List A) → ((a b : A) → g (f a) (f b) ≡ h a b)
+    → sorted_by g (map f xs) ≡ map f (sorted_by h xs)
+sorted-map g h f [] same = refl
+sorted-map g h f (x ∷ xs) same = ap (put_by g (f x)) (sorted-map g h f xs same) ∙ put-map g h f x (sorted_by h xs) same
+
+-- where all items give the same, their order is free
+put-same : {A B : Type 0} (g : A → A → Bool) (f : A → B) (c : B) (x : A) (xs : List A) → f x ≡ c → AllByRecursion (λ y. f y ≡ c) xs → map f (put_by g x xs) ≡ f x ∷ map f xs
+put-same g f c x [] is all = refl
+put-same {A = A} {B = B} g f c x (y ∷ ys) is all = by (g y x) (put-same g f c x ys is all.1)
+  where
+    by : (b : Bool) → map f (put_by g x ys) ≡ f x ∷ map f ys → map f (cond b (y ∷ put_by g x ys) (x ∷ (y ∷ ys))) ≡ f x ∷ (f y ∷ map f ys)
+    by true rest = ap (λ zs. f y ∷ zs) rest ∙ (ap (λ v. v ∷ (f x ∷ map f ys)) (all.0 ∙ sym is) ∙ ap (λ v. f x ∷ (v ∷ map f ys)) (is ∙ sym all.0))
+    by false rest = refl
+
+sorted-same : {A B : Type 0} (g : A → A → Bool) (f : A → B) (c : B) (xs : List A) → AllByRecursion (λ y. f y ≡ c) xs
+    → (map f (sorted_by g xs) ≡ map f xs) × AllByRecursion (λ y. f y ≡ c) (sorted_by g xs)
+sorted-same g f c [] all = (refl, tt)
+sorted-same {A = A} {B = B} g f c (x ∷ xs) all =
+    let rest = sorted-same g f c xs all.1 in
+    (put-same g f c x (sorted_by g xs) all.0 rest.1 ∙ ap (λ ys. f x ∷ ys) rest.0, put-all x (sorted_by g xs) all.0 rest.1)
+  where
+    put-all : (x : A) (ys : List A) → f x ≡ c → AllByRecursion (λ y. f y ≡ c) ys → AllByRecursion (λ y. f y ≡ c) (put_by g x ys)
+    put-all x [] is each = (is, tt)
+    put-all x (y ∷ ys) is each = by (g y x) (put-all x ys is each.1)
+      where
+        by : (b : Bool) → AllByRecursion (λ z. f z ≡ c) (put_by g x ys) → AllByRecursion (λ z. f z ≡ c) (cond b (y ∷ put_by g x ys) (x ∷ (y ∷ ys)))
+        by true more = (each.0, more)
+        by false more = (is, (each.0, each.1))
+
+passed : {A : Type 0} (p : A → Bool) (xs : List A) → AllByRecursion (λ a. p a ≡ true) (filter p xs)
+passed p [] = tt
+passed {A = A} p (x ∷ xs) = by (p x) refl (passed p xs)
+  where
+    by : (b : Bool) → p x ≡ b → AllByRecursion (λ a. p a ≡ true) (filter p xs) → AllByRecursion (λ a. p a ≡ true) (cond b (x ∷ filter p xs) (filter p xs))
+    by true is rest = (is, rest)
+    by false is rest = rest
+
+all-of-map : {A B : Type 0} (P : B → Type 0) (f : A → B) (xs : List A) → AllByRecursion (λ a. P (f a)) xs → AllByRecursion P (map f xs)
+all-of-map P f [] h = tt
+all-of-map P f (x ∷ xs) h = (h.0, all-of-map P f xs h.1)
+
+-- what is kept of a query that waits
+abbrev kept_of : List Line → Asked → Waiting
+kept_of ls a = record { number = a.number; due = due_of ls a; reply = answer a.query.ask (docs_before ls a) }
+
+abbrev made : ℕ → Ask → ℕ → List Doc → Waiting
+made number asks due docs = record { number = number; due = due; reply = answer asks docs }
+
+abbrev said : Turn → ℕ × Reply
+said t = (t.number, t.reply)
+
+-- Behind these lines so much is kept.
+record Stands (ls : List Line) (p : Progress) : Type 0 where
+  now : p.now ≡ sum_by ticks_of ls
+  documents : p.documents ≡ docs_of ls
+  asked : p.asked ≡ count_by is_query ls
+  waiting : p.waiting ≡ map (kept_of ls) (left_in ls)
+  replies : p.replies ≡ map said (turns_of ls)
+
+kept-more : (ls : List Line) (l : Line) (xs : List Asked) → AllByRecursion (λ (a : Asked). a.place < length ls) xs → map (kept_of ls) xs ≡ map (kept_of (ls ++ l ∷ [])) xs
+kept-more ls l xs below = map-same (kept_of ls) (kept_of (ls ++ l ∷ [])) xs
+    (all-map (λ (a : Asked). a.place < length ls) (λ (a : Asked). kept_of ls a ≡ kept_of (ls ++ l ∷ []) a) (λ a low. same a low) xs below)
+  where
+    same : (a : Asked) → a.place < length ls → kept_of ls a ≡ kept_of (ls ++ l ∷ []) a
+    same a low = ap (λ n. made a.number a.query.ask n (docs_before ls a)) (sym (due_of-more ls l a (omega arith))) ∙ ap (λ ds. made a.number a.query.ask (due_of (ls ++ l ∷ []) a) ds) (sym (docs_before-more ls l a low))
+
+left_below : (ls : List Line) → AllByRecursion (λ (a : Asked). a.place < length ls) (left_in ls)
+left_below ls = all-filter (λ (a : Asked). a.place < length ls) _ (asked_in ls) (all_below ls)
+
+-- the waiting, where those that pass a test wait on
+wait_on : (ls : List Line) (l : Line) (test : Asked → Bool) (q : Waiting → Bool) (waiting : List Waiting) → ((a : Asked) → q (kept_of ls a) ≡ test a)
+    → waiting ≡ map (kept_of ls) (left_in ls) → left_in (ls ++ l ∷ []) ≡ filter test (left_in ls)
+    → filter q waiting ≡ map (kept_of (ls ++ l ∷ [])) (left_in (ls ++ l ∷ []))
+wait_on ls l test q waiting same is left =
+    ap (filter q) is ∙ (filter-map q (kept_of ls) (left_in ls) ∙ (ap (map (kept_of ls)) (filter-same (λ a. q (kept_of ls a)) test (left_in ls) same)
+    ∙ (kept-more ls l (filter test (left_in ls)) (all-filter (λ (a : Asked). a.place < length ls) test (left_in ls) (left_below ls))
+    ∙ ap (map (kept_of (ls ++ l ∷ []))) (sym left))))
+  where
+    filter-same : (p r : Asked → Bool) (xs : List Asked) → ((a : Asked) → p a ≡ r a) → filter p xs ≡ filter r xs
+    filter-same p r [] same = refl
+    filter-same p r (x ∷ xs) same = ap (λ b. cond b (x ∷ filter p xs) (filter p xs)) (same x) ∙ ap (λ ys. cond (r x) (x ∷ ys) ys) (filter-same p r xs same)
+
+-- those that wait all wait on
+all_wait : (ls : List Line) (l : Line) (waiting : List Waiting) → waiting ≡ map (kept_of ls) (left_in ls) → left_in (ls ++ l ∷ []) ≡ left_in ls
+    → waiting ≡ map (kept_of (ls ++ l ∷ [])) (left_in (ls ++ l ∷ []))
+all_wait ls l waiting is left = is ∙ (kept-more ls l (left_in ls) (left_below ls) ∙ ap (map (kept_of (ls ++ l ∷ []))) (sym left))
+
+turns_more : (ls : List Line) (l : Line) (ts : List Turn) (replies more : List (ℕ × Reply)) → replies ≡ map said (turns_of ls)
+    → turns_of (ls ++ l ∷ []) ≡ turns_of ls ++ ts → more ≡ map said ts → replies ++ more ≡ map said (turns_of (ls ++ l ∷ []))
+turns_more ls l ts replies more is adds same =
+    ap (λ rs. rs ++ more) is ∙ (ap (λ rs. map said (turns_of ls) ++ rs) same ∙ (sym (map-append said (turns_of ls) ts) ∙ ap (map said) (sym adds)))
+
+no_turns : (ls : List Line) (l : Line) (replies : List (ℕ × Reply)) → replies ≡ map said (turns_of ls)
+    → turns_of (ls ++ l ∷ []) ≡ turns_of ls ++ [] → replies ≡ map said (turns_of (ls ++ l ∷ []))
+no_turns ls l replies is adds = is ∙ ap (map said) (sym (append-nil (turns_of ls)) ∙ sym adds)
+
+stands_doc : (ls : List Line) (p : Progress) (doc : Doc) → Stands ls p → Stands (ls ++ line.Doc doc ∷ []) (step p (line.Doc doc))
+stands_doc ls p doc s =
+    let adds = adds_doc ls doc in
+    record {
+      now = omega (arith, s.now, sum_by_push ticks_of ls (line.Doc doc));
+      documents = ap (λ ds. ds ++ doc ∷ []) s.documents ∙ sym (filter_map-push doc_of_line ls (line.Doc doc));
+      asked = omega (arith, s.asked, sum_by_push (λ l. cond (is_query l) 1 0) ls (line.Doc doc));
+      waiting = all_wait ls (line.Doc doc) p.waiting s.waiting adds.waiting_are;
+      replies = no_turns ls (line.Doc doc) p.replies s.replies adds.turns_are;
+    }
+
+-- a query, by its delay
+no_doc : (ls : List Line) (query : Query) → docs_of (ls ++ line.Query query ∷ []) ≡ docs_of ls
+no_doc ls query = filter_map-push doc_of_line ls (line.Query query) ∙ append-nil (docs_of ls)
+
+stands_answered : (ls : List Line) (p : Progress) (query : Query) → query.delay ≡ None → Stands ls p → Stands (ls ++ line.Query query ∷ []) (asked_with p query.ask None)
+stands_answered ls p query none s =
+    let adds = adds_answered ls query none in
+    let many : p.asked + 1 ≡ 1 + count_by is_query ls = omega (arith, s.asked) in
+    record {
+      now = omega (arith, s.now, sum_by_push ticks_of ls (line.Query query));
+      documents = s.documents ∙ sym (no_doc ls query);
+      asked = omega (arith, s.asked, sum_by_push (λ l. cond (is_query l) 1 0) ls (line.Query query));
+      waiting = all_wait ls (line.Query query) p.waiting s.waiting adds.waiting_are;
+      replies = turns_more ls (line.Query query) (answered_now ls query ∷ []) p.replies ((p.asked + 1, answer query.ask p.documents) ∷ []) s.replies adds.turns_are
+          (ap (λ n. (n, answer query.ask p.documents) ∷ []) many ∙ ap (λ ds. (1 + count_by is_query ls, answer query.ask ds) ∷ []) s.documents);
+    }
+
+abbrev front_of : List Line → Query → List Waiting
+front_of ls query = map (kept_of (ls ++ line.Query query ∷ [])) (left_in ls)
+
+stands_waits : (ls : List Line) (p : Progress) (query : Query) (delay : ℕ) → query.delay ≡ Some delay → 1 ≤ delay → Stands ls p
+    → Stands (ls ++ line.Query query ∷ []) (asked_with p query.ask (Some delay))
+stands_waits ls p query delay is some s =
+    let adds = adds_delayed ls query delay is some in
+    let many : p.asked + 1 ≡ 1 + count_by is_query ls = omega (arith, s.asked) in
+    let at : now_at (ls ++ line.Query query ∷ []) (length ls) ≡ p.now = now_at-more ls (line.Query query) (length ls) (omega arith) ∙ (now_at-all ls ∙ sym s.now) in
+    let due : due_of (ls ++ line.Query query ∷ []) (next_asked ls query) ≡ p.now + delay =
+        ap (λ d. due_with (ls ++ line.Query query ∷ []) (length ls) d) is ∙ ap (λ n. n + delay) at in
+    let docs : docs_before (ls ++ line.Query query ∷ []) (next_asked ls query) ≡ p.documents = ap docs_of (take-append_seam ls (line.Query query ∷ [])) ∙ sym s.documents in
+    record {
+      now = omega (arith, s.now, sum_by_push ticks_of ls (line.Query query));
+      documents = s.documents ∙ sym (no_doc ls query);
+      asked = omega (arith, s.asked, sum_by_push (λ l. cond (is_query l) 1 0) ls (line.Query query));
+      waiting = ap (λ ws. ws ++ made (p.asked + 1) query.ask (p.now + delay) p.documents ∷ []) (s.waiting ∙ kept-more ls (line.Query query) (left_in ls) (left_below ls))
+          ∙ (ap (λ n. front_of ls query ++ made n query.ask (p.now + delay) p.documents ∷ []) many
+          ∙ (ap (λ n. front_of ls query ++ made (1 + count_by is_query ls) query.ask n p.documents ∷ []) (sym due)
+          ∙ (ap (λ ds. front_of ls query ++ made (1 + count_by is_query ls) query.ask (due_of (ls ++ line.Query query ∷ []) (next_asked ls query)) ds ∷ []) (sym docs)
+          ∙ (sym (map-append (kept_of (ls ++ line.Query query ∷ [])) (left_in ls) (next_asked ls query ∷ []))
+          ∙ ap (map (kept_of (ls ++ line.Query query ∷ []))) (sym adds.waiting_are)))));
+      replies = no_turns ls (line.Query query) p.replies s.replies adds.turns_are;
+    }
+
+-- what comes at one line comes by due tick and number
+same_place : (n : ℕ) (b : Bool) → (nat_lt n n || (n == n && b)) ≡ b
+same_place n b = grind (arith, nat_tests)
+
+answers_same : (ls : List Line) (xs : List Asked) → map answered (map (kept_of ls) xs) ≡ map said (map (answered_at ls) xs)
+answers_same ls [] = refl
+answers_same ls (x ∷ xs) = ap (λ rs. answered (kept_of ls x) ∷ rs) (answers_same ls xs)
+
+come_sorted : (ls : List Line) (xs : List Asked) → map answered (sorted_by due_before (map (kept_of ls) xs)) ≡ map said (sorted_by comes_before (map (answered_at ls) xs))
+come_sorted ls xs =
+    let first : Asked → Asked → Bool = λ a b. due_before (kept_of ls a) (kept_of ls b) in
+    ap (map answered) (sorted-map due_before first (kept_of ls) xs (λ a b. refl))
+    ∙ (answers_same ls (sorted_by first xs)
+    ∙ sym (ap (map said) (sorted-map comes_before first (answered_at ls) xs (λ a b. same_place (length ls) (due_before (kept_of ls a) (kept_of ls b))))))
+
+stands_tick : (ls : List Line) (p : Progress) (n : ℕ) → Stands ls p → Stands (ls ++ line.Tick n ∷ []) (step p (line.Tick n))
+stands_tick ls p n s =
+    let adds = adds_tick ls n in
+    let total : p.now + n ≡ sum_by ticks_of ls + n = ap (λ m. m + n) s.now in
+    record {
+      now = total ∙ sym (sum_by_push ticks_of ls (line.Tick n));
+      documents = s.documents ∙ sym (filter_map-push doc_of_line ls (line.Tick n) ∙ append-nil (docs_of ls));
+      asked = omega (arith, s.asked, sum_by_push (λ l. cond (is_query l) 1 0) ls (line.Tick n));
+      waiting = wait_on ls (line.Tick n) (λ a. not (is_due ls n a)) (λ w. not (is_due_by (p.now + n) w)) p.waiting (λ a. ap (λ m. not (nat_le (due_of ls a) m)) total) s.waiting adds.waiting_are;
+      replies = turns_more ls (line.Tick n) (sorted_by comes_before (map (answered_at ls) (filter (is_due ls n) (left_in ls)))) p.replies
+          (map answered (sorted_by due_before (filter (is_due_by (p.now + n)) p.waiting))) s.replies adds.turns_are
+          (ap (λ m. map answered (sorted_by due_before (filter (is_due_by m) p.waiting))) total
+          ∙ (ap (λ ws. map answered (sorted_by due_before (filter (is_due_by (sum_by ticks_of ls + n)) ws))) s.waiting
+          ∙ (ap (λ ws. map answered (sorted_by due_before ws)) (filter-map (is_due_by (sum_by ticks_of ls + n)) (kept_of ls) (left_in ls))
+          ∙ come_sorted ls (filter (is_due ls n) (left_in ls)))));
+    }
+
+cancels_same : (ls : List Line) (xs : List Asked) → map cancelled (map (kept_of ls) xs) ≡ map said (map (cancelled_at ls) xs)
+cancels_same ls [] = refl
+cancels_same ls (x ∷ xs) = ap (λ rs. cancelled (kept_of ls x) ∷ rs) (cancels_same ls xs)
+
+stands_cancel : (ls : List Line) (p : Progress) (n : ℕ) → Stands ls p → Stands (ls ++ line.Cancel n ∷ []) (step p (line.Cancel n))
+stands_cancel ls p n s =
+    let adds = adds_cancel ls n in
+    let those : List Asked = filter (is_numbered n) (left_in ls) in
+    record {
+      now = omega (arith, s.now, sum_by_push ticks_of ls (line.Cancel n));
+      documents = s.documents ∙ sym (filter_map-push doc_of_line ls (line.Cancel n) ∙ append-nil (docs_of ls));
+      asked = omega (arith, s.asked, sum_by_push (λ l. cond (is_query l) 1 0) ls (line.Cancel n));
+      waiting = wait_on ls (line.Cancel n) (λ a. not (is_numbered n a)) (λ w. not (has_number n w)) p.waiting (λ a. refl) s.waiting adds.waiting_are;
+      replies = turns_more ls (line.Cancel n) (sorted_by comes_before (map (cancelled_at ls) those)) p.replies (map cancelled (filter (has_number n) p.waiting)) s.replies adds.turns_are
+          (ap (λ ws. map cancelled (filter (has_number n) ws)) s.waiting
+          ∙ (ap (map cancelled) (filter-map (has_number n) (kept_of ls) (left_in ls))
+          ∙ (cancels_same ls those
+          ∙ sym (sorted-same comes_before said (n, reply.Cancelled) (map (cancelled_at ls) those)
+          (all-of-map (λ t. said t ≡ (n, reply.Cancelled)) (cancelled_at ls) those
+          (all-map (λ (a : Asked). is_numbered n a ≡ true) (λ (a : Asked). said (cancelled_at ls a) ≡ (n, reply.Cancelled)) (λ a yes. ap (λ m. (m, reply.Cancelled)) (sym (eqb-true n a.number yes))) those
+          (passed (is_numbered n) (left_in ls))))).0)));
+    }
+
+stands_query : (ls : List Line) (p : Progress) (query : Query) (delay : Option ℕ) → query.delay ≡ delay → IfSome delay (λ d. (1 ≤ d) × (d ≤ 4294967295)) → Stands ls p
+    → Stands (ls ++ line.Query query ∷ []) (asked_with p query.ask delay)
+stands_query ls p query None is range s = stands_answered ls p query is s
+stands_query ls p query (Some delay) is range s = stands_waits ls p query delay is range.0 s
+
+stands_step : (ls : List Line) (p : Progress) (l : Line) → IsLine l → Stands ls p → Stands (ls ++ l ∷ []) (step p l)
+stands_step ls p (line.Doc doc) is s = stands_doc ls p doc s
+stands_step ls p (line.Query query) is s = stands_query ls p query query.delay refl is.delay s
+stands_step ls p (line.Tick n) is s = stands_tick ls p n s
+stands_step ls p (line.Cancel n) is s = stands_cancel ls p n s
+
+stands_all : (ls rest : List Line) (p : Progress) → AllByRecursion IsLine rest → Stands ls p → Stands (ls ++ rest) (fold step p rest)
+stands_all ls [] p are s = subst (λ xs. Stands xs p) (sym (append-nil ls)) s
+stands_all ls (l ∷ rest) p are s =
+    subst (λ xs. Stands xs (fold step (step p l) rest)) (append_assoc ls (l ∷ []) rest) (stands_all (ls ++ l ∷ []) rest (step p l) are.1 (stands_step ls p l are.0 s))
+
+left_same : (ls : List Line) (xs : List Asked) → map cancelled (map (kept_of ls) xs) ≡ map (λ a. (a.number, reply.Cancelled)) xs
+left_same ls [] = refl
+left_same ls (x ∷ xs) = ap (λ rs. (x.number, reply.Cancelled) ∷ rs) (left_same ls xs)
+
+pub one_walk : (ls : List Line) → AllByRecursion IsLine ls → replies_of ls ≡ all_replies (progress_of ls)
+unfolding replies_of
+one_walk ls are =
+    let s = stands_all [] ls start are (record { now = refl; documents = refl; asked = refl; waiting = refl; replies = refl }) in
+    sym (ap (λ rs. rs ++ map cancelled (progress_of ls).waiting) s.replies
+    ∙ ap (λ rs. map said (turns_of ls) ++ rs) (ap (map cancelled) s.waiting ∙ left_same ls (left_in ls)))
