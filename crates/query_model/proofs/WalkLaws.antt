@@ -282,3 +282,45 @@ one_walk ls are =
     let s = stands_all [] ls start are (record { now = refl; documents = refl; asked = refl; waiting = refl; replies = refl }) in
     sym (ap (λ rs. rs ++ map cancelled (progress_of ls).waiting) s.replies
     ∙ ap (λ rs. map said (turns_of ls) ++ rs) (ap (map cancelled) s.waiting ∙ left_same ls (left_in ls)))
+
+-- what the walk keeps of lines, whatever they are
+abbrev Counts : List Line → Progress → Type 0
+Counts ls p = (p.now ≡ sum_by ticks_of ls) × (p.documents ≡ docs_of ls) × (p.asked ≡ count_by is_query ls)
+
+count_query : (ls : List Line) (p : Progress) (query : Query) (delay : Option ℕ) → Counts ls p → Counts (ls ++ line.Query query ∷ []) (asked_with p query.ask delay)
+count_query ls p query None (now, documents, asked) = (
+  omega (arith, now, sum_by_push ticks_of ls (line.Query query)), documents ∙ sym (no_doc ls query), omega (arith, asked, sum_by_push (λ l. cond (is_query l) 1 0) ls (line.Query query)),
+)
+count_query ls p query (Some delay) (now, documents, asked) = (
+  omega (arith, now, sum_by_push ticks_of ls (line.Query query)), documents ∙ sym (no_doc ls query), omega (arith, asked, sum_by_push (λ l. cond (is_query l) 1 0) ls (line.Query query)),
+)
+
+count_step : (ls : List Line) (p : Progress) (l : Line) → Counts ls p → Counts (ls ++ l ∷ []) (step p l)
+count_step ls p (line.Doc doc) (now, documents, asked) = (
+  omega (arith, now, sum_by_push ticks_of ls (line.Doc doc)),
+  ap (λ ds. ds ++ doc ∷ []) documents ∙ sym (filter_map-push doc_of_line ls (line.Doc doc)),
+  omega (arith, asked, sum_by_push (λ l. cond (is_query l) 1 0) ls (line.Doc doc)),
+)
+count_step ls p (line.Query query) h = count_query ls p query query.delay h
+count_step ls p (line.Tick n) (now, documents, asked) = (
+  omega (arith, now, sum_by_push ticks_of ls (line.Tick n)),
+  documents ∙ sym (filter_map-push doc_of_line ls (line.Tick n) ∙ append-nil (docs_of ls)),
+  omega (arith, asked, sum_by_push (λ l. cond (is_query l) 1 0) ls (line.Tick n)),
+)
+count_step ls p (line.Cancel n) (now, documents, asked) = (
+  omega (arith, now, sum_by_push ticks_of ls (line.Cancel n)),
+  documents ∙ sym (filter_map-push doc_of_line ls (line.Cancel n) ∙ append-nil (docs_of ls)),
+  omega (arith, asked, sum_by_push (λ l. cond (is_query l) 1 0) ls (line.Cancel n)),
+)
+
+count_all : (ls rest : List Line) (p : Progress) → Counts ls p → Counts (ls ++ rest) (fold step p rest)
+count_all ls [] p h = subst (λ xs. Counts xs p) (sym (append-nil ls)) h
+count_all ls (l ∷ rest) p h =
+    subst (λ xs. Counts xs (fold step (step p l) rest)) (append_assoc ls (l ∷ []) rest) (count_all (ls ++ l ∷ []) rest (step p l) (count_step ls p l h))
+
+pub counts : (ls : List Line) → Counts ls (progress_of ls)
+counts ls = count_all [] ls start (refl, refl, refl)
+
+pub fold_more : (p : Progress) (ls : List Line) (l : Line) → fold step p (ls ++ l ∷ []) ≡ step (fold step p ls) l
+fold_more p [] l = refl
+fold_more p (k ∷ ls) l = fold_more (step p k) ls l

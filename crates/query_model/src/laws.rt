@@ -9,10 +9,12 @@ ghost use Rattle.query_model.specs.declared.line.Line.TheVariants as line;
 ghost use Rattle.query_model.specs.declared.line.Query.{Query};
 ghost use Rattle.query_model.specs.ByFacts.{IsSkipped, IsDocLine, IsTickLine, IsCancelLine, IsQueryLine};
 ghost use Rattle.query_model.specs.Lines.{LineBehind};
-ghost use Rattle.query_model.specs.Documents.{IsLine, IsWithinLimits};
+ghost use Rattle.query_model.specs.Documents.{docs_of, IsLine, IsWithinLimits};
 ghost use Rattle.query_model.specs.Answers.{ranks_before};
 ghost use Rattle.query_model.specs.Order.{Turn, comes_before, left_in, replies_of, turns_of};
-ghost use Rattle.query_model.specs.Walk.{all_replies, progress_of};
+ghost use Rattle.query_model.specs.Walk.{all_replies, progress_of, step};
+ghost use Rattle.std.specs.List.{count_by, sum_by};
+ghost use Rattle.query_model.specs.Lines.{is_query, ticks_of};
 ghost use Rattle.query_model.specs.LineByLine.{Adds, answered_at, answered_now, cancelled_at, is_due, is_numbered, next_asked, numbered_before};
 ghost use Rattle.query_model.specs.Reading.{Accepts, StandFor, kept};
 ghost use Rattle.query_model.specs.Parts.{part_of};
@@ -93,6 +95,15 @@ pub fn turns_line_by_line()
 /// wait.
 pub fn one_walk_gives_all_replies()
     ensures { (lines : List Line) → All IsLine lines → replies_of lines ≡ all_replies (progress_of lines) }
+{}
+
+/// What the walk keeps behind some lines: their ticks, their documents and the number of their queries. One line more is one
+/// step more.
+pub fn one_walk_keeps_counts()
+    ensures now { (lines : List Line) → (progress_of lines).now ≡ sum_by ticks_of lines }
+    ensures documents { (lines : List Line) → (progress_of lines).documents ≡ docs_of lines }
+    ensures asked { (lines : List Line) → (progress_of lines).asked ≡ count_by is_query lines }
+    ensures more { (lines : List Line) (l : Line) → progress_of (lines ++ l ∷ []) ≡ step (progress_of lines) l }
 {}
 
 /// The part of a shard is the documents at the places that leave its number: the first at the place of its number, each next one
