@@ -1,0 +1,3 @@
+mod DrawnWords
+mod Limits
+mod SoFar

@@ -1,0 +1,35 @@
+-- What a draw of the code says of itself.
+use Rattle.std.specs.Prelude.{ℕ, ◌≡◌, ◌++◌, List, Result, IfOk, OnOk}
+use Rattle.fan_base.specs.declared.word.Word.{Word}
+use Rattle.query_grammar.specs.Tree.{Tree}
+use Rattle.query_model.specs.declared.line.Ask.{Ask}
+use Rattle.query_model.specs.declared.line.Ask.TheVariants as ask
+use Rattle.query_model.specs.Generated.{Drawn, ◌>>=◌, draw_two, draw_word, just}
+
+-- where there was memory: what came, and the state behind it, are what is drawn from the state before
+abbrev pub IsDrawn : {A E : Type 0} → Drawn A → Result A E → ℕ → ℕ → Type 0
+IsDrawn draws result old new = IfOk result (λ drawn. (drawn ≡ (draws old).0) × (new ≡ (draws old).1))
+
+-- the same of draws that are put behind a list
+abbrev pub IsDrawnBehind : {A E : Type 0} → Drawn (List A) → Result (Unit {0}) E → List A → List A → ℕ → ℕ → Type 0
+IsDrawnBehind draws result before behind old new = OnOk result ((behind ≡ before ++ (draws old).0) × (new ≡ (draws old).1))
+
+-- two words
+abbrev pub draw_pair : Drawn (Word × Word)
+draw_pair = do
+  a ← draw_word
+  b ← draw_word
+  just (a, b)
+
+-- the asks over two words
+abbrev pub draw_find_both : Drawn Ask
+draw_find_both = draw_two (λ a b. ask.Find (Tree.both (Tree.word a) (Tree.word b)))
+
+abbrev pub draw_find_either : Drawn Ask
+draw_find_either = draw_two (λ a b. ask.Find (Tree.either (Tree.word a) (Tree.word b)))
+
+abbrev pub draw_find_without : Drawn Ask
+draw_find_without = draw_two (λ a b. ask.Find (Tree.both (Tree.word a) (Tree.not (Tree.word b))))
+
+abbrev pub draw_present : Drawn Ask
+draw_present = draw_two (λ a b. ask.Present (Tree.both (Tree.word a) (Tree.word b)))

@@ -1,0 +1,87 @@
+ghost use Rattle.std.specs.Prelude.{◌≡◌, ◌<◌, ◌++◌, codes, IfOk};
+ghost use Rattle.std.specs.Fmt.{decimal};
+ghost use Rattle.query_model.specs.Generated.{draw, draw_word, draw_words};
+ghost use Rattle.query_gen.specs.Drawn.{IsDrawn};
+
+use fan_base::{Word, Words};
+use std::alloc::{AllocError, Global};
+use std::marker::Model;
+
+/// Each state is the one before it times this, and `INCREMENT` more, modulo `STATES`.
+const MULTIPLIER: u128 = 6_364_136_223_846_793_005;
+
+const INCREMENT: u128 = 1_442_695_040_888_963_407;
+
+const STATES: u128 = 1 << 64;
+
+/// A state is drawn from without its lowest 33 bits.
+const DROPPED: u64 = 1 << 33;
+
+/// How many words can be drawn.
+const WORDS: u64 = 500;
+
+/// The state of the draws. Contracts see it as its number.
+#[derive(Debug, Drop)]
+pub(crate) struct Draws {
+    state: u64,
+}
+
+impl Model for Draws {
+    ghost use Rattle.std.specs.Prelude.{ℕ};
+
+    ghost Value = { ℕ };
+
+    ghost view = { λ draws. draws.state };
+}
+
+impl Draws {
+    pub(crate) fn new(seed: u64) -> Draws
+        ensures { result ≡ seed }
+    {
+        Draws { state: seed }
+    }
+
+    /// A number below `bound`.
+    pub(crate) fn number(&mut self, bound: u64) -> u64
+        requires { 0 < bound }
+        ensures number { result ≡ (draw bound self.old).0 }
+        ensures state { self.new ≡ (draw bound self.old).1 }
+        ensures below { result < bound }
+    {
+        let next = (self.state as u128 * MULTIPLIER + INCREMENT) % STATES;
+        self.state = next as u64;
+        (self.state / DROPPED) % bound
+    }
+
+    /// `w` and a number below 500.
+    pub(crate) fn word(&mut self, alloc: Global) -> Result<Word, AllocError>
+        ensures { IsDrawn draw_word result self.old self.new }
+    {
+        word_of(alloc, self.number(WORDS))
+    }
+
+    /// So many words.
+    pub(crate) fn words(&mut self, alloc: Global, count: u64) -> Result<Words, AllocError>
+        ensures { IsDrawn (draw_words count) result self.old self.new }
+    {
+        let mut words = Vec::new(alloc);
+        let mut left = count;
+        'words: while left > 0 {
+            words.push(self.word(alloc)?)?;
+            left -= 1;
+        }
+        Ok(Words::from_vec(words))
+    }
+}
+
+/// `w` and the number.
+fn word_of(alloc: Global, number: u64) -> Result<Word, AllocError>
+    requires { number < 500 }
+    ensures { IfOk result (λ word. word ≡ codes "w" ++ decimal number) }
+{
+    let text = format!(in alloc; "w{number}")?;
+    match Word::new(text.as_bytes()) {
+        Ok(word) => Ok(word),
+        Err(_) => unreachable!(),
+    }
+}
