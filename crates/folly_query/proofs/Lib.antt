@@ -1,6 +1,4 @@
-pub mod AnswerLemmas
-pub mod ArgLemmas
+pub mod CommandLemmas
 pub mod EndingLemmas
 pub mod PassingLemmas
-pub mod ReplyLemmas
-pub mod ShardLemmas
+pub mod StepLemmas

@@ -3,7 +3,8 @@ use Rattle.std.proofs.Common.{◌≡◌, ℕ, List, [], ◌∷◌, ◌++◌, len
 use Rattle.std.specs.Option.{IfSome}
 use Rattle.std.specs.Io.KnownBytes.{Appends, Consumes}
 use Rattle.std.proofs.KnownBytes.{Consumes-nil, Consumes-trans, Appends-trans}
-use Rattle.fan_base.specs.Outside.{FaultsRose}
+use Rattle.fan_base.specs.Outside.{Shown, FaultsRose}
+use Rattle.folly_query.specs.Passing.{GainsFront}
 
 pub rose_since : (a b c : ℕ) → b ≡ a → FaultsRose b c → FaultsRose a c
 rose_since a b c same rose = subst (λ n. FaultsRose n c) same rose
@@ -35,3 +36,21 @@ gains_more a b c front more first next = Appends-trans a b c front more first ne
 
 pub whole_more : (bytes front rest : List ℕ) (n : ℕ) → bytes ≡ front ++ rest → bytes ≡ (front ++ take n rest) ++ drop n rest
 whole_more bytes front rest n whole = whole ∙ (ap (λ l. front ++ l) (sym (take-append-drop n rest)) ∙ sym (append_assoc front (take n rest) (drop n rest)))
+
+-- a line, and what stands behind it
+pub line_more : (text front rest line after : List ℕ) → text ≡ front ++ rest → rest ≡ line ++ after → text ≡ (front ++ line) ++ after
+line_more text front rest line after whole cut = whole ∙ (ap (λ l. front ++ l) cut ∙ sym (append_assoc front line after))
+
+-- a front of a line behind the lines before it is a front of all
+pub front_more : (text front rest line after : List ℕ) (old mid new : Shown) → text ≡ front ++ rest → rest ≡ line ++ after → Appends old.bytes mid.bytes front → GainsFront mid new line
+    → GainsFront old new text
+front_more text front rest line after old mid new whole cut gained f = record {
+  front = front ++ f.front;
+  rest = f.rest ++ after;
+  whole = line_more text front rest line after whole cut
+      ∙ (ap (λ l. (front ++ l) ++ after) f.whole ∙ (ap (λ l. l ++ after) (sym (append_assoc front f.front f.rest)) ∙ append_assoc (front ++ f.front) f.rest after));
+  gained = Appends-trans old.bytes mid.bytes new.bytes front f.front gained f.gained;
+}
+
+pub cut_at : (text line after : List ℕ) (n : ℕ) → line ≡ take n text → after ≡ drop n text → text ≡ line ++ after
+cut_at text line after n first rest = sym (ap (λ l. l ++ after) first ∙ (ap (λ l. take n text ++ l) rest ∙ take-append-drop n text))

@@ -1,7 +1,4 @@
-pub mod Words
 pub mod Passing
 pub mod Endings
 pub mod Statuses
-pub mod Shards
-pub mod Replies
-pub mod Turns
+pub mod Steps

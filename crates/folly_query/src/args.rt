@@ -1,7 +1,8 @@
-ghost use Rattle.std.specs.Prelude.{◌≡◌, ◌∷◌, ◌++◌, ◌↔◌, [], IsTrue, OnOk, OnErr, map, string_bytes};
-ghost use Rattle.folly_query.specs.Words.{run_words};
+ghost use Rattle.std.specs.Prelude.{◌≡◌, ◌∷◌, ◌++◌, [], IfNone, IfSome, OnOk, OnErr};
+ghost use Rattle.query_words.specs.Grammar.{IsCommand, IsOutside};
 
 use fan_base::Memory;
+use query_words::{Command, read_command};
 use std::alloc::Global;
 use std::marker::Model;
 
@@ -43,19 +44,11 @@ impl Args {
         }
     }
 
-    /// Whether the one word is `run`.
-    pub fn are_run(&self) -> bool
-        ensures { IsTrue result ↔ (self.now ≡ run_words) }
+    /// The command that the words are, where they are one.
+    pub fn command(&self) -> Option<Command>
+        ensures some { IfSome result (λ command. IsCommand self.now command) }
+        ensures none { IfNone result (IsOutside self.now) }
     {
-        are_run(self.words.as_slice())
-    }
-}
-
-fn are_run(words: &[String]) -> bool
-    ensures { IsTrue result ↔ (map string_bytes words.now ≡ run_words) }
-{
-    match words {
-        [word] => word.as_bytes() == b"run".as_slice(),
-        _ => false,
+        read_command(self.words.as_slice())
     }
 }

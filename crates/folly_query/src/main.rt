@@ -19,9 +19,6 @@ mod parts;
 mod read;
 mod report;
 mod run;
-mod shards;
-#[cfg(test)]
-mod tests;
 mod write;
 
 /// The words behind the program's name; none of them where they can't be had, and then the status that this ends with.
