@@ -1,12 +1,13 @@
--- The joining of two ascending lists of ids, one id at a time, and what is kept.
-use Rattle.std.proofs.Common.{◌≡◌, ℕ, suc, ◌+◌, ◌<◌, ◌≤◌, List, [], ◌∷◌, ◌++◌, length, Bool, true, false, cond, ltb, refl, sym, ap, ◌∙◌, arith, inl, inr, ◌⊎◌, map, filter, append_assoc, append-nil, get_or, take, drop, ◌-◌, length-drop, drop-cons}
+-- The joining of two ascending lists of places, one at a time, and what is kept.
+use Rattle.std.proofs.Common.{◌≡◌, ℕ, suc, ◌+◌, ◌<◌, ◌≤◌, List, [], ◌∷◌, ◌++◌, length, Bool, true, false, cond, ltb, refl, sym, ap, ◌∙◌, arith, inl, inr, ◌⊎◌, append_assoc, append-nil, get_or, take, drop, ◌-◌, length-drop, drop-cons}
 use Rattle.std.proofs.lemmas.List.{drop_all, take_all}
 use Rattle.std.specs.List.{AllByRecursion}
 use Rattle.std.proofs.lemmas.Bool.Decides.{nat_tests}
 use Rattle.fan_base.specs.declared.doc.Doc.{Doc}
 use Rattle.shard_index.specs.declared.join.Keep.{Keep}
-use Rattle.shard_index.specs.Order.{IsRising, ids_where}
+use Rattle.shard_index.specs.Places.{places_from, places_where}
 use Rattle.shard_index.specs.Joins.{keeps}
+use Rattle.shard_index.proofs.PlaceLemmas.{places-above}
 
 abbrev pub one_if : Bool → ℕ → List ℕ
 one_if wanted id = cond wanted (id ∷ []) []
@@ -31,7 +32,7 @@ lt-ltb x y h = grind (arith, nat_tests)
 ge-ltb : (x y : ℕ) → y ≤ x → ltb x y ≡ false
 ge-ltb x y h = grind (arith, nat_tests)
 
--- the smaller id is the first list's, the second's, or both's
+-- the smaller place is the first list's, the second's, or both's
 pub joined-first : (keep : Keep) (x y : ℕ) (xs ys : List ℕ) → x < y → joined keep (x ∷ xs) (y ∷ ys) ≡ one_if keep.first_alone x ++ joined keep xs (y ∷ ys)
 joined-first keep x y xs ys lt =
     ap (λ b. cond b (one_if keep.first_alone x ++ joined keep xs (y ∷ ys)) (cond (ltb y x) (one_if keep.second_alone y ++ joined keep (x ∷ xs) ys) (one_if keep.both x ++ joined keep xs ys))) (lt-ltb x y lt)
@@ -60,7 +61,7 @@ all_if-cons : (b : Bool) (x : ℕ) (xs : List ℕ) → cond b (x ∷ xs) [] ≡ 
 all_if-cons true x xs = refl
 all_if-cons false x xs = refl
 
--- an id before all of the other list's
+-- a place before all of the other list's
 lone-first : (keep : Keep) (x : ℕ) (xs ys : List ℕ) → AllByRecursion (λ y. x < y) ys → joined keep (x ∷ xs) ys ≡ one_if keep.first_alone x ++ joined keep xs ys
 lone-first keep x xs [] all = all_if-cons keep.first_alone x xs ∙ ap (λ zs. one_if keep.first_alone x ++ zs) (sym (none-first keep xs))
 lone-first keep x xs (y ∷ ys) all = joined-first keep x y xs ys all.0
@@ -69,44 +70,39 @@ lone-second : (keep : Keep) (y : ℕ) (xs ys : List ℕ) → AllByRecursion (λ 
 lone-second keep y [] ys all = all_if-cons keep.second_alone y ys
 lone-second keep y (x ∷ xs) ys all = joined-second keep x y xs ys all.0
 
-above-where : (m : ℕ) (test : Doc → Bool) (docs : List Doc) → AllByRecursion (λ later. m < later.id) docs → AllByRecursion (λ y. m < y) (ids_where test docs)
-above-where m test [] all = tt
-above-where m test (d ∷ ds) all = by (test d) (above-where m test ds all.1)
-  where
-    by : (b : Bool) → AllByRecursion (λ y. m < y) (ids_where test ds) → AllByRecursion (λ y. m < y) (map (λ e. e.id) (cond b (d ∷ filter test ds) (filter test ds)))
-    by true more = (all.0, more)
-    by false more = more
-
--- the ids that pass two tests, joined
-pub joined-where : (keep : Keep) (p q : Doc → Bool) (docs : List Doc) → IsRising docs → joined keep (ids_where p docs) (ids_where q docs) ≡ ids_where (λ doc. keeps keep (p doc) (q doc)) docs
-joined-where keep p q [] rising = none-first keep [] ∙ by keep.first_alone
+-- the places of documents that pass two tests, joined
+joined-from : (keep : Keep) (place : ℕ) (p q : Doc → Bool) (docs : List Doc)
+    → joined keep (places_from place p docs) (places_from place q docs) ≡ places_from place (λ doc. keeps keep (p doc) (q doc)) docs
+joined-from keep place p q [] = none-first keep [] ∙ by keep.first_alone
   where
     by : (b : Bool) → all_if b [] ≡ []
     by true = refl
     by false = refl
-joined-where keep p q (d ∷ ds) rising =
-    by (p d) (q d) (joined-where keep p q ds rising.1)
+joined-from keep place p q (d ∷ ds) =
+    by (p d) (q d) (joined-from keep (place + 1) p q ds)
   where
     first : List ℕ
-    first = ids_where p ds
+    first = places_from (place + 1) p ds
 
     second : List ℕ
-    second = ids_where q ds
+    second = places_from (place + 1) q ds
 
     both_kept : List ℕ
-    both_kept = ids_where (λ doc. keeps keep (p doc) (q doc)) ds
+    both_kept = places_from (place + 1) (λ doc. keeps keep (p doc) (q doc)) ds
 
-    kept : (b : Bool) → one_if b d.id ++ both_kept ≡ map (λ e. e.id) (cond b (d ∷ filter (λ doc. keeps keep (p doc) (q doc)) ds) (filter (λ doc. keeps keep (p doc) (q doc)) ds))
+    kept : (b : Bool) → one_if b place ++ both_kept ≡ cond b (place ∷ both_kept) both_kept
     kept true = refl
     kept false = refl
 
     by : (b c : Bool) → joined keep first second ≡ both_kept
-        → joined keep (map (λ e. e.id) (cond b (d ∷ filter p ds) (filter p ds))) (map (λ e. e.id) (cond c (d ∷ filter q ds) (filter q ds)))
-        ≡ map (λ e. e.id) (cond (keeps keep b c) (d ∷ filter (λ doc. keeps keep (p doc) (q doc)) ds) (filter (λ doc. keeps keep (p doc) (q doc)) ds))
-    by true true more = joined-both keep d.id d.id first second (omega arith) (omega arith) ∙ (ap (λ ids. one_if keep.both d.id ++ ids) more ∙ kept keep.both)
-    by true false more = lone-first keep d.id first second (above-where d.id q ds rising.0) ∙ (ap (λ ids. one_if keep.first_alone d.id ++ ids) more ∙ kept keep.first_alone)
-    by false true more = lone-second keep d.id first second (above-where d.id p ds rising.0) ∙ (ap (λ ids. one_if keep.second_alone d.id ++ ids) more ∙ kept keep.second_alone)
+        → joined keep (cond b (place ∷ first) first) (cond c (place ∷ second) second) ≡ cond (keeps keep b c) (place ∷ both_kept) both_kept
+    by true true more = joined-both keep place place first second (omega arith) (omega arith) ∙ (ap (λ xs. one_if keep.both place ++ xs) more ∙ kept keep.both)
+    by true false more = lone-first keep place first second (places-above place (place + 1) q ds (omega arith)) ∙ (ap (λ xs. one_if keep.first_alone place ++ xs) more ∙ kept keep.first_alone)
+    by false true more = lone-second keep place first second (places-above place (place + 1) p ds (omega arith)) ∙ (ap (λ xs. one_if keep.second_alone place ++ xs) more ∙ kept keep.second_alone)
     by false false more = more
+
+pub joined-where : (keep : Keep) (p q : Doc → Bool) (docs : List Doc) → joined keep (places_where p docs) (places_where q docs) ≡ places_where (λ doc. keeps keep (p doc) (q doc)) docs
+joined-where keep p q docs = joined-from keep 0 p q docs
 
 -- a step of the loop: what is kept so far, and the joining of what is left
 

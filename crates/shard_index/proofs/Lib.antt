@@ -1,10 +1,12 @@
-pub mod Counting
-pub mod OrderLemmas
-pub mod IdLemmas
-pub mod PostingLemmas
-pub mod PartLemmas
-pub mod JoinLemmas
-pub mod SelectionLemmas
-pub mod MergeLemmas
-pub mod TestLemmas
-pub mod FrontLemmas
+mod Sorted
+mod Keeping
+mod PlaceLemmas
+mod PostingLemmas
+mod JoinLemmas
+mod SelectionLemmas
+mod HitLemmas
+mod TotalLemmas
+mod ScoreLemmas
+mod PartLemmas
+mod IndexLemmas
+mod MergeLemmas

@@ -1,17 +1,13 @@
 -- What selections select, by other tests that answer the same.
-use Rattle.std.proofs.Common.{◌≡◌, ℕ, List, Bool, true, false, not, ◌&&◌, ◌||◌, length, map, take, filter, [], ◌∷◌, refl, ap, subst, ◌∙◌}
-use Rattle.std.proofs.lemmas.List.{length-map}
+use Rattle.std.proofs.Common.{◌≡◌, List, Bool, true, false, not, ◌&&◌, ◌||◌, refl, subst}
 use Rattle.fan_base.specs.declared.doc.Doc.{Doc}
-use Rattle.shard_index.specs.Order.{ids_where}
+use Rattle.shard_index.specs.Places.{places_where}
 use Rattle.shard_index.specs.Joins.{keeps}
 use Rattle.shard_index.specs.declared.selection.Selection.{Selection}
-use Rattle.query_grammar.specs.Tree.{Tree}
-use Rattle.query_model.specs.declared.reply.Hits.{Hits}
-use Rattle.query_model.specs.Answers.{ascending, hits_of}
-use Rattle.shard_index.specs.Selections.{Selects, holds_for}
+use Rattle.shard_index.specs.Selections.{Selects}
 
-pub ids_where-same : (p q : Doc → Bool) (docs : List Doc) → ((doc : Doc) → p doc ≡ q doc) → ids_where p docs ≡ ids_where q docs
-ids_where-same p q docs same = λ i. ids_where (λ doc. same doc i) docs
+pub places_where-same : (p q : Doc → Bool) (docs : List Doc) → ((doc : Doc) → p doc ≡ q doc) → places_where p docs ≡ places_where q docs
+places_where-same p q docs same = λ i. places_where (λ doc. same doc i) docs
 
 pub Selects-same : (selection : Selection) (p q : Doc → Bool) (docs : List Doc) → ((doc : Doc) → p doc ≡ q doc) → Selects selection p docs → Selects selection q docs
 Selects-same selection p q docs same selects = subst (λ (test : Doc → Bool). Selects selection test docs) (λ i doc. same doc i) selects
@@ -55,16 +51,3 @@ nor false c = refl
 pub or_by_and : (b c : Bool) → not (not b && not c) ≡ (b || c)
 or_by_and true c = refl
 or_by_and false c = not-not c
-
--- what is found by a look at each document is the answer
-pub hits-of_ids : (e : Tree) (docs : List Doc) (found listed : List ℕ) (total : ℕ) → found ≡ ids_where (holds_for e) docs → listed ≡ take 100 (ascending found) → total ≡ length found
-    → ◌≡◌ {A = Hits} (record { ids = listed; total = total }) (hits_of e docs)
-unfolding hits_of
-hits-of_ids e docs found listed total are is many =
-    let ids : listed ≡ take 100 (ascending (ids_where (holds_for e) docs)) = is ∙ ap (λ xs. take 100 (ascending xs)) are in
-    let number : total ≡ length (filter (holds_for e) docs) = many ∙ (ap length are ∙ length-map (filter (holds_for e) docs) (λ d. d.id)) in
-    λ i. record { ids = ids i; total = number i }
-
-pub all_ids : (docs : List Doc) → map (λ d. d.id) docs ≡ ids_where (λ _. true) docs
-all_ids [] = refl
-all_ids (d ∷ ds) = ap (λ ids. d.id ∷ ids) (all_ids ds)

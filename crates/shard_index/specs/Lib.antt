@@ -1,6 +1,8 @@
-pub mod Order
+pub mod Places
 pub mod Postings
 pub mod Standing
 pub mod Joins
 pub mod Selections
+pub mod Counting
+pub mod Totals
 pub mod Parts

@@ -1,12 +1,20 @@
--- The hits of the parts of all shards.
-use Rattle.std.specs.Prelude.{ℕ, ◌≡◌, ◌<◌, List, length, Some, slice_get}
-use Rattle.fan_base.specs.declared.doc.Doc.{Doc}
-use Rattle.query_grammar.specs.Tree.{Tree}
-use Rattle.query_model.specs.declared.reply.Hits.{Hits}
-use Rattle.query_model.specs.Answers.{hits_of}
-use Rattle.query_model.specs.Documents.{part_of}
+-- What all shards give, and what is made of it.
+use Rattle.std.specs.Prelude.{ℕ, ◌==◌, ◌/◌, List, map, get_or, sum, if◌then◌else◌}
+use Rattle.std.specs.List.{range_with_len}
+use Rattle.shard_index.specs.declared.counts.Counts.{Counts}
 
--- as many as there are shards, at least one, and each the hits of the part of the shard with its number
-pub record ArePartsOf (e : Tree) (docs : List Doc) (parts : List Hits) : Type 0 where
-  pub some : 0 < length parts
-  pub each : (number : ℕ) → number < length parts → slice_get parts number ≡ Some (hits_of e (part_of docs (length parts) number))
+-- what each of so many shards gives, in the order of their numbers
+abbrev pub by_shard : {A : Type 0} → (ℕ → A) → ℕ → List A
+by_shard given shards = map given (range_with_len 0 shards)
+
+-- how many documents of all parts have the word at a place
+abbrev pub total_with : ℕ → List Counts → ℕ
+total_with i parts = sum (map (λ part. get_or part.with i 0) parts)
+
+-- the weight of a word that so many of all documents have
+abbrev pub weight_by : ℕ → ℕ → ℕ
+weight_by docs with = if with == 0 then 0 else docs / with
+
+-- the weights of so many words among so many documents, by what all parts count
+abbrev pub weights_by : ℕ → ℕ → List Counts → List ℕ
+weights_by docs words parts = map (λ i. weight_by docs (total_with i parts)) (range_with_len 0 words)

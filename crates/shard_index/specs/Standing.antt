@@ -1,17 +1,59 @@
 -- For which documents an index stands.
-use Rattle.std.specs.Prelude.{◌≡◌, List, map}
+use Rattle.std.specs.Prelude.{ℕ, ◌≡◌, ◌<◌, ◌≤◌, ◌+◌, ◌*◌, ◌^◌, All, List, get_or, length, map, take}
+use Rattle.std.specs.List.{AllByRecursion}
 use Rattle.fan_base.specs.declared.doc.Doc.{Doc}
 use Rattle.fan_base.specs.declared.word.Word.{Word}
+use Rattle.query_model.specs.Answers.{times_in}
+use Rattle.query_model.specs.Limits.{most_words}
+use Rattle.query_model.specs.Parts.{part_of}
+use Rattle.shard_index.specs.declared.index.Index.{Index}
 use Rattle.shard_index.specs.declared.shard.Shard.{Shard}
-use Rattle.shard_index.specs.Order.{by_id, ids_where, IsRising}
-use Rattle.shard_index.specs.Postings.{postings_of, has_word}
+use Rattle.shard_index.specs.declared.shards.Shards.{Shards}
+use Rattle.shard_index.specs.Places.{has_word, places_where, repeats_of}
+use Rattle.shard_index.specs.Postings.{noted_for}
 
--- the index has the ids of these documents, ascending, and for each word the ids of those with it
-pub record Indexes (shard : Shard) (docs : List Doc) : Type 0 where
-  pub rising : IsRising docs
-  pub ids : shard.ids.items ≡ map (λ doc. doc.id) docs
-  pub postings : (word : Word) → postings_of shard.postings word ≡ ids_where (has_word word) docs
+-- the words of each document are at most 1,000
+abbrev pub AreShort : List Doc → Type 0
+AreShort docs = All (λ doc. length doc.words ≤ most_words) docs
 
--- the index is that of these documents, in whatever order they come
-abbrev pub StandsFor : Shard → List Doc → Type 0
-StandsFor shard docs = Indexes shard (by_id docs)
+-- the index has the ids of these documents in their order, and for each word the places of those with it
+pub record Indexes (index : Index) (docs : List Doc) : Type 0 where
+  pub ids : index.ids.items ≡ map (λ doc. doc.id) docs
+  pub noted : (word : Word) → noted_for index.postings word ≡ (places_where (has_word word) docs, repeats_of word docs)
+  pub short : AreShort docs
+  pub few : length docs < 2 ^ 32
+
+-- the shard is the one with this number, of so many, of these documents
+pub record StandsFor (shard : Shard) (docs : List Doc) (shards number : ℕ) : Type 0 where
+  pub shards_are : shard.shards ≡ shards
+  pub number_is : shard.number ≡ number
+  pub within : number < shards
+  pub indexes : Indexes shard.index (part_of docs shards number)
+
+-- There are documents for which the index stands, the totals are those of the first of them by a score, and each has room for
+-- the word's weight once for each time that it stands in the document.
+pub record HasRoom (index : Index) (front : ℕ) (word : Word) (weight : ℕ) (totals : List ℕ) : Type 0 where
+  pub docs : List Doc
+  pub score : Doc → ℕ
+  pub indexes : Indexes index docs
+  pub totals_are : totals ≡ map score (take front docs)
+  pub room : AllByRecursion (λ doc. score doc + times_in doc word * weight < 2 ^ 64) (take front docs)
+
+-- the shard stands for some documents
+pub record Stands (shard : Shard) : Type 0 where
+  pub docs : List Doc
+  pub shards : ℕ
+  pub number : ℕ
+  pub stands : StandsFor shard docs shards number
+
+-- there is a shard at least, each stands for the part of these documents with its number, and places fit a u32
+pub record StandForAll (all : Shards) (docs : List Doc) : Type 0 where
+  pub some : 0 < length all.shards.items
+  pub docs_are : all.docs ≡ length docs
+  pub few : length docs < 2 ^ 32
+  pub each : (number : ℕ) (shard : Shard) → number < length all.shards.items → StandsFor (get_or all.shards.items number shard) docs (length all.shards.items) number
+
+-- the shards are those of some documents
+pub record StandForSome (all : Shards) : Type 0 where
+  pub docs : List Doc
+  pub stand : StandForAll all docs

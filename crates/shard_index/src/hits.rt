@@ -1,36 +1,65 @@
-ghost use Rattle.std.specs.Prelude.{◌≡◌, IfOk, take};
-ghost use Rattle.query_model.specs.Answers.{ascending};
+ghost use Rattle.std.specs.Prelude.{◌≡◌, ◌<◌, ◌^◌, All, List, Bool, true, not, IfOk, get_or, length, map, take, nat_lt};
+ghost use Rattle.fan_base.specs.declared.doc.Doc.{Doc};
 ghost use Rattle.query_model.specs.Limits.{most_listed};
-ghost use Rattle.shard_index.specs.Selections.{hits_of_ids};
+ghost use Rattle.query_model.specs.Sorting.{sorted_by};
+ghost use Rattle.shard_index.specs.Places.{places_where};
+ghost use Rattle.shard_index.specs.Selections.{AreSelected, Selects, hits_where, places_listed};
 
+use crate::best::keep_id;
+use crate::selection::{Listed, Selection, without};
 use fan_base::Ids;
 use query_model::Hits;
 use query_model::limits::MOST_LISTED;
 use std::alloc::{AllocError, Global};
 
-/// The first 100 of these ids, and how many there are.
-pub fn first_hits(alloc: Global, ids: &[u32]) -> Result<Hits, AllocError>
-    ensures { IfOk result (λ hits. hits ≡ hits_of_ids ids.now) }
+/// The first 100 ids, ascending, of the selected ones of the documents with these ids, and how many are selected.
+pub fn hits(alloc: Global, ids: &[u32], selection: &Selection<'_>) -> Result<Hits, AllocError>
+    requires { AreSelected ids.now selection.now }
+    ensures { (test : Doc → Bool) (docs : List Doc) → ids.now ≡ map (λ doc. doc.id) docs → Selects selection.now test docs
+        → IfOk result (λ hits. hits ≡ hits_where test docs) }
 {
+    match selection {
+        Selection::Those(listed) => hits_at(alloc, ids, listed.places()),
+        Selection::AllBut(listed) => {
+            let kept = all_but(alloc, ids.len(), listed)?;
+            hits_at(alloc, ids, kept.places())
+        }
+    }
+}
+
+/// The first 100 ids, ascending, at these places, and how many places there are.
+fn hits_at(alloc: Global, ids: &[u32], places: &[u32]) -> Result<Hits, AllocError>
+    requires { All (λ place. place < length ids.now) places.now }
+    ensures ids { IfOk result (λ hits. hits.ids ≡ take most_listed (sorted_by nat_lt (map (λ place. get_or ids.now place 0) places.now))) }
+    ensures total { IfOk result (λ hits. hits.total ≡ length places.now) }
+{
+    let mut kept = Vec::new(alloc);
+    for place in places {
+        keep_id(&mut kept, MOST_LISTED, ids[*place as usize])?;
+    }
     Ok(Hits {
-        ids: first_ids(alloc, ids)?,
-        total: ids.len() as u64,
+        ids: Ids::from_vec(kept),
+        total: places.len() as u64,
     })
 }
 
-/// The first 100 of these ids.
-pub fn first_ids(alloc: Global, ids: &[u32]) -> Result<Ids, AllocError>
-    ensures { IfOk result (λ listed. listed ≡ take most_listed ids.now) }
+/// The places of so many documents but these.
+fn all_but<'a>(alloc: Global, count: usize, left_out: &Listed<'_>) -> Result<Listed<'a>, AllocError>
+    requires { count < 2 ^ 32 }
+    ensures { (test : Doc → Bool) (docs : List Doc) → length docs ≡ count → places_listed left_out.now ≡ places_where (λ doc. not (test doc)) docs
+        → IfOk result (λ listed. places_listed listed ≡ places_where test docs) }
 {
-    let listed = ids.len().min(MOST_LISTED);
-    Ok(Ids::from_vec(Vec::from_slice(alloc, &ids[..listed])?))
+    without(alloc, &Listed::Made(places_below(alloc, count)?), left_out)
 }
 
-/// The 100 smallest of these ids, ascending.
-pub fn smallest_ids(mut ids: Vec<u32>) -> Result<Ids, AllocError>
-    ensures { IfOk result (λ listed. listed ≡ take most_listed (ascending ids.items)) }
+/// All places of so many documents.
+fn places_below(alloc: Global, count: usize) -> Result<Vec<u32>, AllocError>
+    requires { count < 2 ^ 32 }
+    ensures { IfOk result (λ places. (docs : List Doc) → length docs ≡ count → places.items ≡ places_where (λ _. true) docs) }
 {
-    ids.sort()?;
-    ids.truncate(MOST_LISTED);
-    Ok(Ids::from_vec(ids))
+    let mut places = Vec::new(alloc);
+    for place in 0..count as u32 {
+        places.push(place)?;
+    }
+    Ok(places)
 }

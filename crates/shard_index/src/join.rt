@@ -1,11 +1,11 @@
 ghost use Rattle.std.specs.Prelude.{◌≡◌, ◌++◌, ◌∷◌, [], List, Bool, IfOk, OnOk, if◌then◌else◌};
 ghost use Rattle.fan_base.specs.declared.doc.Doc.{Doc};
-ghost use Rattle.shard_index.specs.Order.{ids_where, IsRising};
 ghost use Rattle.shard_index.specs.Joins.{keeps};
+ghost use Rattle.shard_index.specs.Places.{places_where};
 
 use std::alloc::{AllocError, Global};
 
-/// Which ids of two lists are kept when they are joined.
+/// Which places of two lists are kept when they are joined.
 #[derive(Clone, Copy)]
 pub struct Keep {
     /// Those that only the first list has.
@@ -16,20 +16,20 @@ pub struct Keep {
     pub second_alone: bool,
 }
 
-/// Joins two ascending lists of ids.
+/// Joins two ascending lists of places.
 pub fn join(
     alloc: Global,
     keep: Keep,
     first: &[u32],
     second: &[u32],
 ) -> Result<Vec<u32>, AllocError>
-    ensures { (p q : Doc → Bool) (docs : List Doc) → IsRising docs → first.now ≡ ids_where p docs → second.now ≡ ids_where q docs
-        → IfOk result (λ kept. kept.items ≡ ids_where (λ doc. keeps keep (p doc) (q doc)) docs) }
+    ensures { (p q : Doc → Bool) (docs : List Doc) → first.now ≡ places_where p docs → second.now ≡ places_where q docs
+        → IfOk result (λ kept. kept.items ≡ places_where (λ doc. keeps keep (p doc) (q doc)) docs) }
 {
     let mut kept = Vec::new(alloc);
     let mut i = 0;
     let mut j = 0;
-    'ids: while i < first.len() && j < second.len() {
+    'places: while i < first.len() && j < second.len() {
         let x = first[i];
         let y = second[j];
         if x < y {
@@ -49,20 +49,20 @@ pub fn join(
     Ok(kept)
 }
 
-fn push_if(kept: &mut Vec<u32>, wanted: bool, id: u32) -> Result<(), AllocError>
-    ensures { OnOk result (kept.new.items ≡ kept.old.items ++ (if wanted then id ∷ [] else [])) }
+fn push_if(kept: &mut Vec<u32>, wanted: bool, place: u32) -> Result<(), AllocError>
+    ensures { OnOk result (kept.new.items ≡ kept.old.items ++ (if wanted then place ∷ [] else [])) }
 {
     if wanted {
-        kept.push(id)?;
+        kept.push(place)?;
     }
     Ok(())
 }
 
-fn extend_if(kept: &mut Vec<u32>, wanted: bool, ids: &[u32]) -> Result<(), AllocError>
-    ensures { OnOk result (kept.new.items ≡ kept.old.items ++ (if wanted then ids.now else [])) }
+fn extend_if(kept: &mut Vec<u32>, wanted: bool, places: &[u32]) -> Result<(), AllocError>
+    ensures { OnOk result (kept.new.items ≡ kept.old.items ++ (if wanted then places.now else [])) }
 {
     if wanted {
-        kept.extend_from_slice(ids)?;
+        kept.extend_from_slice(places)?;
     }
     Ok(())
 }

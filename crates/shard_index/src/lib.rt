@@ -1,19 +1,23 @@
 //! An inverted index over a shard of the documents, what it finds, and how the finds of all shards are merged.
 #![tactic(auto)]
 
-pub use laws::merged_parts_are_the_whole;
-pub use merge::merge_hits;
-pub use plain::find_plainly;
+pub use counts::Counts;
+pub use laws::{merged_hits_are_the_whole, merged_scores_are_the_whole};
+pub use merge::{merge_hits, merge_scores, weights};
 pub use shard::Shard;
+pub use shards::Shards;
 
+mod best;
+mod counts;
+mod front;
 mod hits;
-mod in_order;
+mod index;
 mod join;
 mod laws;
 mod merge;
-mod plain;
+mod once;
 mod postings;
 mod selection;
 mod shard;
-#[cfg(test)]
-mod tests;
+mod shards;
+mod totals;

@@ -1,60 +1,94 @@
-ghost use Rattle.std.specs.Prelude.{◌≡◌, OnOk, ℕ, List, false};
+ghost use Rattle.std.specs.Prelude.{◌≡◌, [], OnOk, ℕ, false};
 ghost use Rattle.fan_base.specs.declared.word.Word.{Word};
-ghost use Rattle.shard_index.specs.Postings.{is_last, postings_of, noted, with_id, with_words};
+ghost use Rattle.shard_index.specs.Postings.{is_last, noted_for, noted_in, with_place, with_word, with_words};
 
 use fan_base::Word;
 use std::alloc::{AllocError, Global};
 use std::collections::BTreeMap;
 
-/// For each word the ids of the documents with it, ascending.
-pub type Postings = BTreeMap<Word, Vec<u32>>;
+/// Where a word stands.
+#[derive(Drop)]
+pub struct Posting {
+    /// The places of the documents with the word, ascending.
+    pub places: Vec<u32>,
+    /// A document's place once for each time that the word stands there again.
+    pub repeats: Vec<u32>,
+}
 
-/// Notes that the word stands in the document with an id, which is no smaller than those noted so far.
-fn note(alloc: Global, postings: &mut Postings, word: Word, id: u32) -> Result<(), AllocError>
-    ensures { OnOk result ((w : Word) → postings_of postings.new w ≡ noted word id w (postings_of postings.old w)) }
+/// For each word where it stands.
+pub type Postings = BTreeMap<Word, Posting>;
+
+impl Posting {
+    fn new(alloc: Global) -> Posting
+        ensures places { result.places.items ≡ [] }
+        ensures repeats { result.repeats.items ≡ [] }
+    {
+        Posting {
+            places: Vec::new(alloc),
+            repeats: Vec::new(alloc),
+        }
+    }
+
+    /// Notes that the word stands in the document at a place, which is no smaller than those noted so far.
+    fn note(&mut self, place: u32) -> Result<(), AllocError>
+        ensures { OnOk result (noted_in self.new ≡ with_place (noted_in self.old) place) }
+    {
+        if self.places.last() == Some(&place) {
+            self.repeats.push(place)?;
+        } else {
+            self.places.push(place)?;
+        }
+        Ok(())
+    }
+}
+
+/// Notes that a word stands in the document at a place, which is no smaller than those noted so far.
+fn note(alloc: Global, postings: &mut Postings, word: Word, place: u32) -> Result<(), AllocError>
+    ensures { OnOk result ((w : Word) → noted_for postings.new w ≡ with_word word place w (noted_for postings.old w)) }
 {
     match postings.get_mut(&word) {
-        Some(ids) => push_id(ids, id),
+        Some(posting) => posting.note(place),
         None => {
-            let mut ids = Vec::new(alloc);
-            push_id(&mut ids, id)?;
-            postings.insert(word, ids)?;
+            let mut posting = Posting::new(alloc);
+            posting.note(place)?;
+            postings.insert(word, posting)?;
             Ok(())
         }
     }
 }
 
-fn push_id(ids: &mut Vec<u32>, id: u32) -> Result<(), AllocError>
-    ensures { OnOk result (ids.new.items ≡ with_id ids.old.items id) }
-{
-    if ids.last() != Some(&id) {
-        ids.push(id)?;
-    }
-    Ok(())
-}
-
-/// Notes the words of the document with an id that is noted for none of them.
+/// Notes the words of the document at a place that is noted for none of them.
 pub fn note_words(
     alloc: Global,
     postings: &mut Postings,
     words: &[Word],
-    id: u32,
+    place: u32,
 ) -> Result<(), AllocError>
-    requires { (w : Word) → is_last (postings_of postings.old w) id ≡ false }
-    ensures { OnOk result ((w : Word) → postings_of postings.new w ≡ with_words words.now id w (postings_of postings.old w)) }
+    requires { (w : Word) → is_last (noted_for postings.old w).0 place ≡ false }
+    ensures { OnOk result ((w : Word) → noted_for postings.new w ≡ with_words words.now place w (noted_for postings.old w)) }
 {
     for word in words {
-        note(alloc, postings, *word, id)?;
+        note(alloc, postings, *word, place)?;
     }
     Ok(())
 }
 
-/// The ids of the documents with the word.
-pub fn ids_with<'a>(postings: &'a Postings, word: &Word) -> &'a [u32]
-    ensures { result.now ≡ postings_of postings.now word.now }
+/// The places of the documents with a word.
+pub fn places_with<'a>(postings: &'a Postings, word: &Word) -> &'a [u32]
+    ensures { result.now ≡ (noted_for postings.now word.now).0 }
 {
     match postings.get(word) {
-        Some(ids) => ids.as_slice(),
+        Some(posting) => posting.places.as_slice(),
+        None => &[],
+    }
+}
+
+/// A document's place once for each time that a word stands there again.
+pub fn repeats_with<'a>(postings: &'a Postings, word: &Word) -> &'a [u32]
+    ensures { result.now ≡ (noted_for postings.now word.now).1 }
+{
+    match postings.get(word) {
+        Some(posting) => posting.repeats.as_slice(),
         None => &[],
     }
 }

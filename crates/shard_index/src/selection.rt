@@ -1,35 +1,35 @@
 ghost use Rattle.std.specs.Prelude.{◌≡◌, List, Bool, not, ◌&&◌, ◌||◌, IfOk};
 ghost use Rattle.fan_base.specs.declared.doc.Doc.{Doc};
-ghost use Rattle.shard_index.specs.Order.{ids_where, IsRising};
-ghost use Rattle.shard_index.specs.Selections.{ids_listed, Selects};
+ghost use Rattle.shard_index.specs.Places.{places_where};
+ghost use Rattle.shard_index.specs.Selections.{places_listed, Selects};
 
 use crate::join::{Keep, join};
 use std::alloc::{AllocError, Global};
 
-/// Ids in ascending order, lent by the index or made.
+/// Places in ascending order, lent by the index or made.
 #[derive(Drop)]
 pub enum Listed<'a> {
     Lent(&'a [u32]),
     Made(Vec<u32>),
 }
 
-/// Some of the documents of an index. A complement costs nothing as long as nothing asks for its ids.
+/// Some of the documents of an index. A complement costs nothing as long as nothing asks for its places.
 #[derive(Drop)]
 pub enum Selection<'a> {
-    /// Those with these ids.
+    /// Those with these places.
     Those(Listed<'a>),
     /// All but those.
     AllBut(Listed<'a>),
 }
 
 impl Listed<'_> {
-    /// The ids, wherever they are kept.
-    pub fn ids(&self) -> &[u32]
-        ensures { result.now ≡ ids_listed self.now }
+    /// The places, wherever they are kept.
+    pub fn places(&self) -> &[u32]
+        ensures { result.now ≡ places_listed self.now }
     {
         match self {
-            Listed::Lent(ids) => ids,
-            Listed::Made(ids) => ids.as_slice(),
+            Listed::Lent(places) => places,
+            Listed::Made(places) => places.as_slice(),
         }
     }
 }
@@ -40,8 +40,8 @@ impl<'a> Selection<'a> {
         ensures { (test : Doc → Bool) (docs : List Doc) → Selects self.entry test docs → Selects result (λ doc. not (test doc)) docs }
     {
         match self {
-            Selection::Those(ids) => Selection::AllBut(ids),
-            Selection::AllBut(ids) => Selection::Those(ids),
+            Selection::Those(listed) => Selection::AllBut(listed),
+            Selection::AllBut(listed) => Selection::Those(listed),
         }
     }
 }
@@ -52,7 +52,7 @@ pub fn both<'a>(
     a: &Selection<'_>,
     b: &Selection<'_>,
 ) -> Result<Selection<'a>, AllocError>
-    ensures { (p q : Doc → Bool) (docs : List Doc) → IsRising docs → Selects a.now p docs → Selects b.now q docs
+    ensures { (p q : Doc → Bool) (docs : List Doc) → Selects a.now p docs → Selects b.now q docs
         → IfOk result (λ selection. Selects selection (λ doc. p doc && q doc) docs) }
 {
     match (a, b) {
@@ -63,41 +63,41 @@ pub fn both<'a>(
     }
 }
 
-/// The ids that both lists have.
+/// The places that both lists have.
 fn common<'a>(alloc: Global, a: &Listed<'_>, b: &Listed<'_>) -> Result<Listed<'a>, AllocError>
-    ensures { (p q : Doc → Bool) (docs : List Doc) → IsRising docs → ids_listed a.now ≡ ids_where p docs → ids_listed b.now ≡ ids_where q docs
-        → IfOk result (λ listed. ids_listed listed ≡ ids_where (λ doc. p doc && q doc) docs) }
+    ensures { (p q : Doc → Bool) (docs : List Doc) → places_listed a.now ≡ places_where p docs → places_listed b.now ≡ places_where q docs
+        → IfOk result (λ listed. places_listed listed ≡ places_where (λ doc. p doc && q doc) docs) }
 {
     let keep = Keep {
         first_alone: false,
         both: true,
         second_alone: false,
     };
-    Ok(Listed::Made(join(alloc, keep, a.ids(), b.ids())?))
+    Ok(Listed::Made(join(alloc, keep, a.places(), b.places())?))
 }
 
-/// The ids of the first list that the second doesn't have.
+/// The places of the first list that the second doesn't have.
 pub fn without<'a>(alloc: Global, a: &Listed<'_>, b: &Listed<'_>) -> Result<Listed<'a>, AllocError>
-    ensures { (p q : Doc → Bool) (docs : List Doc) → IsRising docs → ids_listed a.now ≡ ids_where p docs → ids_listed b.now ≡ ids_where q docs
-        → IfOk result (λ listed. ids_listed listed ≡ ids_where (λ doc. p doc && not (q doc)) docs) }
+    ensures { (p q : Doc → Bool) (docs : List Doc) → places_listed a.now ≡ places_where p docs → places_listed b.now ≡ places_where q docs
+        → IfOk result (λ listed. places_listed listed ≡ places_where (λ doc. p doc && not (q doc)) docs) }
 {
     let keep = Keep {
         first_alone: true,
         both: false,
         second_alone: false,
     };
-    Ok(Listed::Made(join(alloc, keep, a.ids(), b.ids())?))
+    Ok(Listed::Made(join(alloc, keep, a.places(), b.places())?))
 }
 
-/// The ids that one of the lists has, or both.
-fn all<'a>(alloc: Global, a: &Listed<'_>, b: &Listed<'_>) -> Result<Listed<'a>, AllocError>
-    ensures { (p q : Doc → Bool) (docs : List Doc) → IsRising docs → ids_listed a.now ≡ ids_where p docs → ids_listed b.now ≡ ids_where q docs
-        → IfOk result (λ listed. ids_listed listed ≡ ids_where (λ doc. p doc || q doc) docs) }
+/// The places that one of the lists has, or both.
+pub fn all<'a>(alloc: Global, a: &Listed<'_>, b: &Listed<'_>) -> Result<Listed<'a>, AllocError>
+    ensures { (p q : Doc → Bool) (docs : List Doc) → places_listed a.now ≡ places_where p docs → places_listed b.now ≡ places_where q docs
+        → IfOk result (λ listed. places_listed listed ≡ places_where (λ doc. p doc || q doc) docs) }
 {
     let keep = Keep {
         first_alone: true,
         both: true,
         second_alone: true,
     };
-    Ok(Listed::Made(join(alloc, keep, a.ids(), b.ids())?))
+    Ok(Listed::Made(join(alloc, keep, a.places(), b.places())?))
 }

@@ -1,28 +1,25 @@
-ghost use Rattle.std.specs.Prelude.{◌≡◌, ◌<◌, ◌≤◌, List, Bool, not, map, IfOk};
+ghost use Rattle.std.specs.Prelude.{◌≡◌, ◌<◌, ◌≤◌, ◌^◌, ℕ, All, List, IfOk, length, take};
 ghost use Rattle.fan_base.specs.declared.doc.Doc.{Doc};
 ghost use Rattle.query_model.specs.Answers.{hits_of};
-ghost use Rattle.query_model.specs.Documents.{DifferentIds, part_of};
-ghost use Rattle.shard_index.specs.Order.{ids_where, IsRising};
-ghost use Rattle.shard_index.specs.Selections.{Selects, ids_listed, holds_for, hits_of_ids};
-ghost use Rattle.shard_index.specs.Standing.{StandsFor, Indexes};
+ghost use Rattle.query_model.specs.Parts.{part_before, part_of, weighted_top};
+ghost use Rattle.shard_index.specs.Counting.{counts_of, DifferentWords};
+ghost use Rattle.shard_index.specs.Standing.{AreShort, Stands, StandsFor};
 
-use crate::hits::{first_hits, first_ids};
-use crate::in_order::in_order;
-use crate::postings::{Postings, ids_with, note_words};
-use crate::selection::{Listed, Selection, both, without};
-use fan_base::{Doc, Docs, Memory};
-use query_grammar::{Expr, Node};
+use crate::counts::Counts;
+use crate::index::Index;
+use fan_base::{Doc, Docs, Memory, Scores, Words};
+use query_grammar::Expr;
 use query_model::Hits;
-use query_model::limits::MOST_LISTED;
-use std::alloc::{AllocError, Global};
-use std::collections::BTreeMap;
+use query_model::laws::part_is_told_by_places;
+use std::alloc::Global;
 
-/// An index over a shard of the documents: their ids, ascending, and for each word the ids of those with it. It keeps no
-/// document.
+/// The shard with a number, of so many: an index of the documents at the places i, from 0, with `i mod shards` the number.
+/// Each question is asked of those at places below `before`.
 #[derive(Drop)]
 pub struct Shard {
-    ids: Vec<u32>,
-    postings: Postings,
+    index: Index,
+    shards: u32,
+    number: u32,
 }
 
 impl Shard {
@@ -30,76 +27,77 @@ impl Shard {
     pub fn build(alloc: Global, docs: &Docs, shards: u32, no: u32) -> Result<Shard, Memory>
         requires number { no < shards }
         requires shards { shards ≤ 64 }
-        requires ids { DifferentIds docs.now }
-        ensures { IfOk result (λ shard. StandsFor shard (part_of docs.now shards no)) }
+        requires few { length docs.now < 2 ^ 32 }
+        requires short { AreShort docs.now }
+        ensures { IfOk result (λ shard. StandsFor shard docs.now shards no) }
     {
-        let part = in_order(alloc, docs.as_slice(), shards, no)?;
-        Ok(Shard::index(alloc, part.as_slice())?)
-    }
-
-    /// The first 100 ids, ascending, of the documents for which the expression holds, and how many hold.
-    pub fn find(&self, e: &Expr) -> Result<Hits, Memory>
-        ensures { (docs : List Doc) → StandsFor self.now docs → IfOk result (λ hits. hits ≡ hits_of e.now docs) }
-    {
-        let alloc = *self.ids.allocator();
-        let selection = self.select(alloc, e)?;
-        Ok(self.hits(alloc, &selection)?)
-    }
-
-    /// The documents for which the expression holds. It calls itself once for each level of the tree.
-    fn select(&self, alloc: Global, e: &Expr) -> Result<Selection<'_>, AllocError>
-        ensures { (docs : List Doc) → Indexes self.now docs → IfOk result (λ selection. Selects selection (holds_for e.now) docs) }
-    {
-        match e.node() {
-            Node::Word(word) => Ok(Selection::Those(Listed::Lent(ids_with(&self.postings, word)))),
-            Node::Not(e) => Ok(self.select(alloc, e)?.complement()),
-            Node::Both(a, b) => both(alloc, &self.select(alloc, a)?, &self.select(alloc, b)?),
-            Node::Either(a, b) => {
-                let a = self.select(alloc, a)?.complement();
-                let b = self.select(alloc, b)?.complement();
-                Ok(both(alloc, &a, &b)?.complement())
+        let mut index = Index::new(alloc);
+        let docs = docs.as_slice();
+        for (place, doc) in docs.iter().enumerate() {
+            if place % shards as usize == no as usize {
+                index.add(alloc, doc)?;
             }
         }
-    }
-
-    /// The first 100 ids of the selected documents, and how many they are.
-    fn hits(&self, alloc: Global, selection: &Selection<'_>) -> Result<Hits, AllocError>
-        ensures { (test : Doc → Bool) (docs : List Doc) → Indexes self.now docs → Selects selection.now test docs
-            → IfOk result (λ hits. hits ≡ hits_of_ids (ids_where test docs)) }
-    {
-        match selection {
-            Selection::Those(listed) => first_hits(alloc, listed.ids()),
-            Selection::AllBut(listed) => self.hits_without(alloc, listed),
-        }
-    }
-
-    /// The first 100 ids of all documents but those with these ids, and how many they are. As many of all ids as are left
-    /// out, and 100 more, are enough to look at.
-    fn hits_without(&self, alloc: Global, left_out: &Listed<'_>) -> Result<Hits, AllocError>
-        ensures { (test : Doc → Bool) (docs : List Doc) → Indexes self.now docs → ids_listed left_out.now ≡ ids_where (λ doc. not (test doc)) docs
-            → IfOk result (λ hits. hits ≡ hits_of_ids (ids_where test docs)) }
-    {
-        let ids = self.ids.as_slice();
-        let left_out_len = left_out.ids().len();
-        let looked_at = ids.len().min(left_out_len + MOST_LISTED);
-        let front = without(alloc, &Listed::Lent(&ids[..looked_at]), left_out)?;
-        Ok(Hits {
-            ids: first_ids(alloc, front.ids())?,
-            total: ids.len().saturating_sub(left_out_len) as u64,
+        Ok(Shard {
+            index,
+            shards,
+            number: no,
         })
     }
 
-    /// The index of documents in ascending order of their ids.
-    fn index(alloc: Global, docs: &[&Doc]) -> Result<Shard, AllocError>
-        requires { IsRising (map (λ doc. doc.now) docs.now) }
-        ensures { IfOk result (λ shard. Indexes shard (map (λ doc. doc.now) docs.now)) }
+    /// The first 100 ids, ascending, of the documents for which the expression holds, and how many hold.
+    pub fn find(&self, e: &Expr, before: u32) -> Result<Hits, Memory>
+        requires { Stands self.now }
+        ensures { (docs : List Doc) (shards number : ℕ) → StandsFor self.now docs shards number →
+            IfOk result (λ hits. hits ≡ hits_of e.now (part_before docs shards number before)) }
     {
-        let mut ids = Vec::new(alloc);
-        let mut postings = BTreeMap::new(alloc);
-        for doc in docs {
-            ids.push(doc.id)?;
-            note_words(alloc, &mut postings, doc.words.as_slice(), doc.id)?;
-        }
-        Ok(Shard { ids, postings })
+        Ok(self.index.find(self.index.alloc(), self.front(before), e)?)
+    }
+
+    /// Of how many documents each word is one, and how many have one of them.
+    pub fn counts(&self, words: &Words, before: u32) -> Result<Counts, Memory>
+        requires { Stands self.now }
+        ensures { (docs : List Doc) (shards number : ℕ) → StandsFor self.now docs shards number →
+            IfOk result (λ counts. counts ≡ counts_of words.now (part_before docs shards number before)) }
+    {
+        Ok(
+            self.index
+                .counts(self.index.alloc(), self.front(before), words.as_slice())?,
+        )
+    }
+
+    /// The first `k` documents by the weights of these words, with their scores: the greater score first, then the smaller
+    /// id, and no score of 0.
+    pub fn scores(
+        &self,
+        words: &Words,
+        weights: &[u64],
+        k: u32,
+        before: u32,
+    ) -> Result<Scores, Memory>
+        requires stands { Stands self.now }
+        requires differ { DifferentWords words.now }
+        requires many { length weights.now ≡ length words.now }
+        requires low { All (λ weight. weight < 2 ^ 32) weights.now }
+        ensures { (docs : List Doc) (shards number : ℕ) → StandsFor self.now docs shards number →
+            IfOk result (λ scores. scores ≡ weighted_top k words.now weights.now (part_before docs shards number before)) }
+    {
+        let front = self.front(before);
+        let alloc = self.index.alloc();
+        Ok(
+            self.index
+                .scores(alloc, front, words.as_slice(), weights, k as usize)?,
+        )
+    }
+
+    /// How many of its documents stand at places below `before`.
+    fn front(&self, before: u32) -> usize
+        requires { Stands self.now }
+        ensures within { (docs : List Doc) (shards number : ℕ) → StandsFor self.now docs shards number → result ≤ length (part_of docs shards number) }
+        ensures front { (docs : List Doc) (shards number : ℕ) → StandsFor self.now docs shards number → take result (part_of docs shards number) ≡ part_before docs shards number before }
+    {
+        part_is_told_by_places();
+        let behind = before.saturating_sub(self.number) as usize;
+        behind.div_ceil(self.shards as usize).min(self.index.len())
     }
 }

@@ -1,14 +1,14 @@
 use Rattle.std.proofs.Common.{◌≤◌, ◌⊎◌, inl, inr, length, ◌∙◌}
 use Rattle.shard_index.proofs.JoinLemmas.{joined, joined-end, joined-where}
 use Rattle.shard_index.proofs.join.join.Goals as goal
-use Rattle.shard_index.proofs.join.join.Goals.{then-ids-test+else-j-second, else-ids-test}
+use Rattle.shard_index.proofs.join.join.Goals.{then-places-test+else-j-second, else-places-test}
 
 pub returns : goal.returns
-returns c = λ p q docs rising first second.
-    let past : (length c.args.second.now ≤ c.ids.j) ⊎ (length c.args.first.now ≤ c.ids.i) = elim c.ids-test.branch [
-      | then-ids-test+else-j-second w ↦ inl w.if-j-second.false
-      | else-ids-test w ↦ inr w.ids-test.false
+returns c = λ p q docs first second.
+    let past : (length c.args.second.now ≤ c.places.j) ⊎ (length c.args.first.now ≤ c.places.i) = elim c.places-test.branch [
+      | then-places-test+else-j-second w ↦ inl w.if-j-second.false
+      | else-places-test w ↦ inr w.places-test.false
     ] in
-    joined-end c.args.keep c.args.first.now c.args.second.now c.ids.kept.items c.extend_if.new.kept.items c.extend_if-2.new.kept.items (joined c.args.keep c.args.first.now c.args.second.now)
-    c.ids.i c.ids.j past c.ids.invariant.kept c.in_ok-extend_if.ensures c.in_ok-extend_if-2.ensures
-    ∙ ((λ k. joined c.args.keep (first k) (second k)) ∙ joined-where c.args.keep p q docs rising)
+    joined-end c.args.keep c.args.first.now c.args.second.now c.places.kept.items c.extend_if.new.kept.items c.extend_if-2.new.kept.items (joined c.args.keep c.args.first.now c.args.second.now)
+    c.places.i c.places.j past c.places.invariant.kept c.in_ok-extend_if.ensures c.in_ok-extend_if-2.ensures
+    ∙ ((λ k. joined c.args.keep (first k) (second k)) ∙ joined-where c.args.keep p q docs)

@@ -2,12 +2,12 @@ use Rattle.std.proofs.Common.{◌≡◌, ◌+◌, ◌-◌, ◌≤◌, ◌++◌, 
 use Rattle.shard_index.proofs.JoinLemmas.{joined}
 use Rattle.shard_index.proofs.join.join.Given as goal
 
-abbrev pub invariant-ids : goal.invariant-ids
-invariant-ids l = record {
+abbrev pub invariant-places : goal.invariant-places
+invariant-places l = record {
   within_first : l.i ≤ length l.first;
   within_second : l.j ≤ length l.second;
   kept : l.kept.items ++ joined l.keep (drop l.i l.first) (drop l.j l.second) ≡ joined l.keep l.first l.second;
 }
 
-abbrev pub decreases-ids : goal.decreases-ids
-decreases-ids l = (length l.first - l.i) + (length l.second - l.j)
+abbrev pub decreases-places : goal.decreases-places
+decreases-places l = (length l.first - l.i) + (length l.second - l.j)

@@ -1,5 +1,5 @@
-use Rattle.std.proofs.Common.{◌+◌, ◌<◌, ◌^◌, arith}
-use Rattle.shard_index.proofs.MergeLemmas.{total-fits, merged-of}
+use Rattle.std.proofs.Common.{◌+◌, ◌<◌, ◌^◌, ◌∙◌, arith}
+use Rattle.shard_index.proofs.MergeLemmas.{merged-of, total-fits}
 use Rattle.shard_index.proofs.merge.merge_hits.Goals as goal
 
 pub overflow_add-total : goal.overflow_add-total
@@ -9,5 +9,4 @@ overflow_add-total c =
     omega arith
 
 pub returns : goal.returns
-returns c = merged-of c.args.parts.now c.loop-part.part-index c.loop-part.ids.items c.in_ok-smallest_ids.field-0 c.loop-part.total
-    c.loop-part-test.false c.loop-part.invariant.ids c.in_ok-smallest_ids.ensures c.loop-part.invariant.total
+returns c = merged-of c.args.parts.now c.loop-part.part-index c.from_vec.result c.loop-part.total c.loop-part-test.false (c.from_vec.ensures ∙ c.loop-part.invariant.kept) c.loop-part.invariant.total

@@ -1,7 +1,7 @@
 use Rattle.std.proofs.Common.{◌∙◌}
-use Rattle.shard_index.proofs.SelectionLemmas.{ids_where-same, keeps-all}
+use Rattle.shard_index.proofs.SelectionLemmas.{places_where-same, keeps-all}
 use Rattle.shard_index.proofs.selection.all.Goals as goal
 
 pub returns : goal.returns
-returns c = λ p q docs rising first second.
-    c.in_ok-join.ensures p q docs rising (c.ids.ensures ∙ first) (c.ids-2.ensures ∙ second) ∙ ids_where-same _ _ docs (λ doc. keeps-all (p doc) (q doc))
+returns c = λ p q docs first second.
+    c.in_ok-join.ensures p q docs (c.places.ensures ∙ first) (c.places-2.ensures ∙ second) ∙ places_where-same _ _ docs (λ doc. keeps-all (p doc) (q doc))

@@ -1,10 +1,38 @@
-use Rattle.std.proofs.Common.{map, sym, ap, subst, ◌∙◌}
-use Rattle.shard_index.specs.Order.{IsRising}
-use Rattle.query_model.specs.Documents.{DifferentIds}
-use Rattle.shard_index.proofs.OrderLemmas.{part-rising}
+use Rattle.std.proofs.Common.{◌+◌, length, take, ap, sym, subst, arith}
+use Rattle.std.proofs.lemmas.List.{length-take-le}
+use Rattle.query_model.specs.Parts.{part_of}
+use Rattle.shard_index.specs.declared.index.Index.{Index}
+use Rattle.shard_index.specs.Standing.{Indexes}
+use Rattle.shard_index.proofs.IndexLemmas.{many-ids}
+use Rattle.shard_index.proofs.PartLemmas.{part-few, passed, taken}
 use Rattle.shard_index.proofs.shard.Shard.build.Goals as goal
+use Rattle.shard_index.proofs.shard.Shard.build.Goals.{then-place-shards+in_ok-add, else-place-shards}
 
-pub index-requires : goal.index-requires
-index-requires c =
-    let are = ap (λ docs. map (λ doc. doc.now) docs) c.as_slice-2.ensures.value ∙ c.in_ok-part.ensures in
-    subst IsRising (sym are) (part-rising c.as_slice.result.now c.args.shards c.args.no (subst DifferentIds (sym c.as_slice.ensures) c.requires.ids))
+pub add-requires-clause-room : goal.add-requires-clause-room
+add-requires-clause-room c =
+    let docs = c.as_slice-docs.result.now in
+    let so_far = take c.loop-place.place docs in
+    omega (
+      arith,
+      many-ids c.loop-place.index (part_of so_far c.args.shards c.args.no) c.loop-place.invariant,
+      part-few c.args.shards c.args.no so_far,
+      length-take-le c.loop-place.place docs (omega (arith, c.loop-place-test.true)),
+      ap length c.as_slice-docs.ensures,
+      c.requires.few,
+      c.loop-place-test.true,
+    )
+
+pub loop-place-preserved : goal.loop-place-preserved
+loop-place-preserved c =
+    let docs = c.as_slice-docs.result.now in
+    let next = part_of (take (c.loop-place.place + 1) docs) c.args.shards c.args.no in
+    elim c.if-place-shards.branch [
+      | then-place-shards+in_ok-add w ↦
+          subst (λ (index : Index). Indexes index next) (sym w.index-is)
+          (subst (λ ds. Indexes w.add.new.self ds) (sym (taken docs c.args.shards c.args.no c.loop-place.place c.index-docs-place.result c.loop-place-test.true c.index-docs-place.is w.if-place-shards.true))
+          (w.in_ok-add.ensures (part_of (take c.loop-place.place docs) c.args.shards c.args.no) c.loop-place.invariant))
+      | else-place-shards w ↦
+          subst (λ (index : Index). Indexes index next) (sym w.index-is)
+          (subst (λ ds. Indexes c.loop-place.index ds) (sym (passed docs c.args.shards c.args.no c.loop-place.place c.index-docs-place.result c.loop-place-test.true c.index-docs-place.is w.if-place-shards.false))
+          c.loop-place.invariant)
+    ]

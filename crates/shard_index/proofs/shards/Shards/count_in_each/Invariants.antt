@@ -1,0 +1,10 @@
+use Rattle.std.proofs.Common.{◌≡◌, List, length}
+use Rattle.fan_base.specs.declared.doc.Doc.{Doc}
+use Rattle.query_model.specs.Parts.{part_before}
+use Rattle.shard_index.specs.Counting.{counts_of}
+use Rattle.shard_index.specs.Parts.{by_shard}
+use Rattle.shard_index.specs.Standing.{StandForAll}
+use Rattle.shard_index.proofs.shards.Shards.count_in_each.Given as goal
+
+abbrev pub invariant-loop-number : goal.invariant-loop-number
+invariant-loop-number l = (docs : List Doc) → StandForAll l.self docs → l.parts.items ≡ by_shard (λ number. counts_of l.words (part_before docs (length l.self.shards.items) number l.before)) l.number

@@ -1,0 +1,44 @@
+ghost use Rattle.std.specs.Prelude.{◌≡◌, ◌<◌, ◌^◌, All, IfOk, length, replicate, take, zip};
+ghost use Rattle.query_model.specs.Answers.{ranked};
+ghost use Rattle.shard_index.specs.Totals.{added_at};
+
+use crate::best::keep_score;
+use fan_base::Scores;
+use std::alloc::{AllocError, Global};
+
+/// So many totals, each 0.
+pub fn zeros(alloc: Global, count: usize) -> Result<Vec<u64>, AllocError>
+    ensures { IfOk result (λ totals. totals.items ≡ replicate count 0) }
+{
+    vec![in alloc; 0; count]
+}
+
+/// Adds a weight to the totals at these places, once for each time that a place stands among them.
+pub fn add_at(totals: &mut Vec<u64>, places: &[u32], weight: u64)
+    requires places { All (λ place. place < length totals.old.items) places.now }
+    requires fits { All (λ total. total < 2 ^ 64) (added_at weight totals.old.items places.now) }
+    ensures { totals.new.items ≡ added_at weight totals.old.items places.now }
+{
+    for place in places {
+        totals[*place as usize] += weight;
+    }
+}
+
+/// The first `k` of the ids with their totals, those above 0 alone, in the order of ranks.
+pub fn first_scores(
+    alloc: Global,
+    ids: &[u32],
+    totals: &[u64],
+    k: usize,
+) -> Result<Scores, AllocError>
+    requires { length ids.now ≡ length totals.now }
+    ensures { IfOk result (λ scores. scores ≡ take k (ranked (zip ids.now totals.now))) }
+{
+    let mut kept = Vec::new(alloc);
+    for i in 0..ids.len() {
+        if totals[i] > 0 {
+            keep_score(&mut kept, k, (ids[i], totals[i]))?;
+        }
+    }
+    Ok(Scores::from_vec(kept))
+}
