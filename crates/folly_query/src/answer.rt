@@ -7,7 +7,7 @@ ghost use Rattle.query_model.specs.Output.{output};
 ghost use Rattle.query_model.specs.Walk.{Progress, progress_of};
 ghost use Rattle.query_model.specs.Walk as model;
 ghost use Rattle.query_walk.specs.Following.{Follows};
-ghost use Rattle.shard_index.specs.Standing.{StandForAll};
+ghost use Rattle.shard_index.specs.Standing.{StandForAll, StandForSome};
 ghost use Rattle.folly_query.specs.Passing.{Gains, GainsFront};
 ghost use Rattle.folly_query.specs.Steps.{AreStepsOf, HasRoomFor, step_of};
 
@@ -55,7 +55,7 @@ fn take_step(
     step: &Step,
     walk: &mut Walk,
 ) -> Result<(), Memory>
-    requires shards { (docs : List Doc) × StandForAll shards.now docs }
+    requires shards { StandForSome shards.now }
     requires room { HasRoomFor walk.old step.now }
     ensures { (docs : List Doc) (p : Progress) (l : Line) → StandForAll shards.now docs → Follows walk.old p → take (length p.documents) docs ≡ p.documents →
         step.now ≡ step_of l → OnOk result (Follows walk.new (model.step p l)) }
