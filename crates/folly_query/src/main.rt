@@ -19,6 +19,8 @@ mod parts;
 mod read;
 mod report;
 mod run;
+#[cfg(test)]
+mod tests;
 mod write;
 
 /// The words behind the program's name; none of them where they can't be had, and then the status that this ends with.
