@@ -1,0 +1,69 @@
+// What both files of tests make: documents, expressions, shards.
+ghost use Rattle.std.specs.Prelude.{◌≤◌, IfOk, IsTrue, All, length};
+ghost use Rattle.shard_index.specs.Standing.{AreShort, StandForAll, StandsFor};
+
+use fan_base::{Doc, Docs, Memory, Word, Words};
+use query_expr::{Expr, Token, parse};
+use shard_index::{Shard, Shards};
+use std::alloc::Global;
+use std::test::Fail;
+
+pub fn words_of(alloc: Global, text: &str) -> Result<Words, Fail> {
+    let mut words = Words::new(alloc);
+    for part in text.split(' ') {
+        words.push(Word::new(part.as_bytes())?)?;
+    }
+    Ok(words)
+}
+
+pub fn expression(alloc: Global, text: &str) -> Result<Expr, Fail> {
+    let mut tokens = Vec::new(alloc);
+    for part in text.split(' ') {
+        let token = match part {
+            "|" => Token::Bar,
+            "!" => Token::Bang,
+            "(" => Token::Left,
+            ")" => Token::Right,
+            word => Token::Word(Word::new(word.as_bytes())?),
+        };
+        tokens.push(token)?;
+    }
+    Ok(parse(alloc, tokens.as_slice())?)
+}
+
+pub fn docs_of(alloc: Global, table: &[(u32, &str)]) -> Result<Docs, Fail> {
+    let mut docs = Docs::new(alloc);
+    for (id, text) in table {
+        let words = words_of(alloc, text)?;
+        docs.push(Doc { id: *id, words })?;
+    }
+    Ok(docs)
+}
+
+fn are_short(docs: &Docs) -> bool
+    ensures { IsTrue result → AreShort docs.now }
+{
+    docs.iter().all(|doc| doc.words.len() <= 1_000)
+}
+
+/// So many shards of the documents.
+pub fn shards_of(alloc: Global, docs: &Docs, shards: u32) -> Result<Shards, Fail>
+    requires some { 1 ≤ shards }
+    requires many { shards ≤ 64 }
+    ensures { IfOk result (λ shards. StandForAll shards docs.now) }
+{
+    if docs.len() >= 1 << 32 || !are_short(docs) {
+        return Err(Fail::from(Memory));
+    }
+    Ok(Shards::build(alloc, docs, shards)?)
+}
+
+/// One shard of all documents.
+pub fn one_shard(alloc: Global, docs: &Docs) -> Result<Shard, Fail>
+    ensures { IfOk result (λ shard. StandsFor shard docs.now 1 0) }
+{
+    if docs.len() >= 1 << 32 || !are_short(docs) {
+        return Err(Fail::from(Memory));
+    }
+    Ok(Shard::build(alloc, docs, 1, 0)?)
+}
