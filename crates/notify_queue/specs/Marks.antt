@@ -55,11 +55,8 @@ module _ {M : Type 0} where
   abbrev pub marks_ended : SegId Global → ℕ → ℕ → List Look → Marking M
   marks_ended queue number puts looks = record { role = Ended; number = number; made = 0; read = 0; puts = puts; looks = looks; queue = queue }
 
-  abbrev pub SeatOf : Type 0
-  SeatOf = Seat (Option (PassOf M)) (Marking M)
-
   -- the receiver's seat of these marks: so many senders were made, and it has looked at nothing
-  abbrev pub IsFirstSeatOf : TableId → SegId Global → ℕ → SeatOf → Type 0
+  abbrev pub IsFirstSeatOf : TableId → SegId Global → ℕ → Seat (Option (PassOf M)) (Marking M) → Type 0
   IsFirstSeatOf table queue made seat = (seat.table_id ≡ table) × (seat.id ≡ 0) × (seat.me.0 ≡ reading queue made 0 [])
 
   -- the pass of the queue knows what the sender put in all
