@@ -42,16 +42,21 @@ impl LoopJob<Vec<u64>> for Note {
 
     fn run<R: Wait>(self, _rt: &R, world: &mut Vec<u64>, agenda: &mut Agenda<Note>) -> Mark {
         schedule_more(agenda, self.0.id);
-        let id = self.0.id.0;
-        let noted = match world.push(id) {
-            Ok(()) => true,
-            Err(_) => world.push(id).is_ok(),
-        };
-        if noted {
+        if note_down(world, self.0.id.0) {
             Mark::Done(self.0.number)
         } else {
             Mark::Memory
         }
+    }
+}
+
+// Notes an id, at a second try where the first finds no memory.
+fn note_down(world: &mut Vec<u64>, id: u64) -> bool
+    ensures { (world.new.items ≡ world.old.items ++ id ∷ []) ⊎ (world.new.items ≡ world.old.items) }
+{
+    match world.push(id) {
+        Ok(()) => true,
+        Err(_) => world.push(id).is_ok(),
     }
 }
 

@@ -80,7 +80,7 @@ module _ {W J : Type 0} (step : J → AgendaSeen J → AgendaSeen J → Type 0) 
   turns_lead : ((job : J) (a b : AgendaSeen J) → step job a b → TakesJob job a b) → (p q : Place W J) (turns : List (Turn J)) → TurnsThrough step head runs p turns q → LeadsUpTo head runs p (ran_of head turns) q
   turns_lead takes p q [] all = subst (λ (u : Place W J). LeadsUpTo head runs p [] u) all (upto_none head runs p.0 p.1 p.1 (part_same p.1))
   turns_lead takes p q (turn ∷ turns) all =
-      let ran = record {
+      let ran : RunsBehind head runs (head turn.job).id p turn.mark all.0 = record {
         job = turn.job;
         is_job = refl;
         ready = p.1;
