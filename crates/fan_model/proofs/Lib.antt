@@ -1,0 +1,4 @@
+mod Sorts
+mod TaskLaws
+mod PlaceLaws
+mod RowProofs
