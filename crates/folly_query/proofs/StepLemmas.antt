@@ -94,16 +94,40 @@ pub has_room : (lines : List Line) (i number : ℕ) (walk : Walk) (s : Step) →
 has_room lines i number walk s limits keeps follows at = subst (λ x. HasRoomFor walk x) (sym at.is) (by at.item at.more)
   where
     by : (l : Line) → take (i + 1) lines ≡ take i lines ++ l ∷ [] → HasRoomFor walk (step_of l)
-    by (line.Doc doc) more = (progress_of (take i lines), follows,
-        omega (arith, ap length keeps.documents, docs-few lines (i + 1), limits.few_documents, ap (λ ls. length (docs_of ls)) more, ap length (filter_map-push doc_of_line (take i lines) (line.Doc doc)),
-        length-append (docs_of (take i lines)) (doc ∷ [])))
-    by (line.Query query) more = (progress_of (take i lines), follows, record {
-      asked = omega (arith, keeps.asked, sum_by-take-le (λ l. cond (is_query l) 1 0) lines (i + 1), ap (λ ls. count_by is_query ls) more, sum_by_push (λ l. cond (is_query l) 1 0) (take i lines) (line.Query query),
-          count-queries lines, limits.few_queries);
-      now = omega (arith, keeps.now, sum_by-take-le ticks_of lines i, limits.few_ticks);
-    })
-    by (line.Tick n) more = (progress_of (take i lines), follows,
-        omega (arith, keeps.now, sum_by-take-le ticks_of lines (i + 1), ap (λ ls. sum_by ticks_of ls) more, sum_by_push ticks_of (take i lines) (line.Tick n), limits.few_ticks))
+    by (line.Doc doc) more = (
+      progress_of (take i lines),
+      follows,
+      omega (
+        arith,
+        ap length keeps.documents,
+        docs-few lines (i + 1),
+        limits.few_documents,
+        ap (λ ls. length (docs_of ls)) more,
+        ap length (filter_map-push doc_of_line (take i lines) (line.Doc doc)),
+        length-append (docs_of (take i lines)) (doc ∷ []),
+      ),
+    )
+    by (line.Query query) more = (
+      progress_of (take i lines),
+      follows,
+      record {
+        asked = omega (
+          arith,
+          keeps.asked,
+          sum_by-take-le (λ l. cond (is_query l) 1 0) lines (i + 1),
+          ap (λ ls. count_by is_query ls) more,
+          sum_by_push (λ l. cond (is_query l) 1 0) (take i lines) (line.Query query),
+          count-queries lines,
+          limits.few_queries,
+        );
+        now = omega (arith, keeps.now, sum_by-take-le ticks_of lines i, limits.few_ticks);
+      },
+    )
+    by (line.Tick n) more = (
+      progress_of (take i lines),
+      follows,
+      omega (arith, keeps.now, sum_by-take-le ticks_of lines (i + 1), ap (λ ls. sum_by ticks_of ls) more, sum_by_push ticks_of (take i lines) (line.Tick n), limits.few_ticks),
+    )
     by (line.Cancel n) more = tt
 
 -- one step, by what it is left of

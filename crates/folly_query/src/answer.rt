@@ -49,12 +49,7 @@ fn walk_over(alloc: Global, shards: &Shards, steps: &[Step]) -> Result<Walk, Mem
 }
 
 /// Takes one step. A query is answered over the documents so far.
-fn take_step(
-    alloc: Global,
-    shards: &Shards,
-    step: &Step,
-    walk: &mut Walk,
-) -> Result<(), Memory>
+fn take_step(alloc: Global, shards: &Shards, step: &Step, walk: &mut Walk) -> Result<(), Memory>
     requires shards { StandForSome shards.now }
     requires room { HasRoomFor walk.old step.now }
     ensures { (docs : List Doc) (p : Progress) (l : Line) → StandForAll shards.now docs → Follows walk.old p → take (length p.documents) docs ≡ p.documents →

@@ -44,10 +44,7 @@ fn answers() -> [Row; 14] {
             "doc 7 red apple\ndoc 4 red\ndoc 9 green\nfind !red\ncount !red | red\n",
             "1 find 1: 9\n2 count 3\n",
         ),
-        answered(
-            "DOC  1 Red\r\n\r\n# note\r\nfind RED",
-            "1 find 1: 1\n",
-        ),
+        answered("DOC  1 Red\r\n\r\n# note\r\nfind RED", "1 find 1: 1\n"),
         answered(
             "doc 5 a\nhi exists a\nlo exists b\n",
             "1 exists yes\n2 exists no\n",
@@ -62,10 +59,7 @@ fn answers() -> [Row; 14] {
             "doc 1 a\ntop 2 a\ndoc 2 b\ntop 2 a\n",
             "1 top 1: 1=1\n2 top 1: 1=2\n",
         ),
-        answered(
-            "find !a\ndoc 5 b\nfind !a\n",
-            "1 find 0:\n2 find 1: 5\n",
-        ),
+        answered("find !a\ndoc 5 b\nfind !a\n", "1 find 0:\n2 find 1: 5\n"),
         answered("doc 7 red apple\ndoc 4 red\nfind re", "1 find 0:\n"),
         answered(
             "doc 9 a\ndoc 8 a\ndoc 7 a\ndoc 6 a\ndoc 5 a\ncount a\nfind a\n",
@@ -103,18 +97,12 @@ fn delays_and_cancels() -> [Row; 6] {
 fn refusals() -> [Row; 9] {
     [
         refused("find (a | b\n", "error line 1: bad expression\n"),
-        refused(
-            "doc 4 x\ndoc 04 y\n",
-            "error line 2: duplicate document\n",
-        ),
+        refused("doc 4 x\ndoc 04 y\n", "error line 2: duplicate document\n"),
         refused(
             "doc 1 a\nfind a\ndoc 01 b\n",
             "error line 3: duplicate document\n",
         ),
-        refused(
-            "tick 10000000\ntick 1\n",
-            "error line 2: too many ticks\n",
-        ),
+        refused("tick 10000000\ntick 1\n", "error line 2: too many ticks\n"),
         refused(
             "find !!!!!!!!!!!!!!!!!!!!!!!!!!!!!!!!!!!!!!!!!!!!!!!!!!!!!!!!!!!!!!!!!a\n",
             "error line 1: expression too deep\n",
@@ -141,7 +129,11 @@ fn command_lines() -> [Row; 18] {
         line("run --workers 33", "", 2),
         line("run --bases 1 --bases 1", "", 2),
         line("run --workers=2", "", 0),
-        line("run --shards 64 --workers 32 --bases=8 --stop-at 007 --", "", 0),
+        line(
+            "run --shards 64 --workers 32 --bases=8 --stop-at 007 --",
+            "",
+            0,
+        ),
         line("run --shards 65", "", 2),
         line("help", "", 2),
         line("--help", "", 2),
@@ -149,8 +141,16 @@ fn command_lines() -> [Row; 18] {
         line("gen 1 2", "", 2),
         line("gen 1 20001 0", "", 2),
         line("gen 1 0 4097", "", 2),
-        line("gen 5 0 0", "documents 0 queries 0 lines 0 bytes 0 sum 0\n", 0),
-        line("gen -- 5 0 0", "documents 0 queries 0 lines 0 bytes 0 sum 0\n", 0),
+        line(
+            "gen 5 0 0",
+            "documents 0 queries 0 lines 0 bytes 0 sum 0\n",
+            0,
+        ),
+        line(
+            "gen -- 5 0 0",
+            "documents 0 queries 0 lines 0 bytes 0 sum 0\n",
+            0,
+        ),
         line(
             "gen 0 1 20 --shards 3",
             "documents 1 queries 20 lines 20 bytes 224 sum 16040\n",

@@ -186,7 +186,7 @@ stands_waits ls p query delay is some s =
     let many : p.asked + 1 ≡ 1 + count_by is_query ls = omega (arith, s.asked) in
     let at : now_at (ls ++ line.Query query ∷ []) (length ls) ≡ p.now = now_at-more ls (line.Query query) (length ls) (omega arith) ∙ (now_at-all ls ∙ sym s.now) in
     let due : due_of (ls ++ line.Query query ∷ []) (next_asked ls query) ≡ p.now + delay =
-        ap (λ d. due_with (ls ++ line.Query query ∷ []) (length ls) d) is ∙ ap (λ n. n + delay) at in
+    ap (λ d. due_with (ls ++ line.Query query ∷ []) (length ls) d) is ∙ ap (λ n. n + delay) at in
     let docs : docs_before (ls ++ line.Query query ∷ []) (next_asked ls query) ≡ p.documents = ap docs_of (take-append_seam ls (line.Query query ∷ [])) ∙ sym s.documents in
     record {
       now = omega (arith, s.now, sum_by_push ticks_of ls (line.Query query));
@@ -289,10 +289,14 @@ Counts ls p = (p.now ≡ sum_by ticks_of ls) × (p.documents ≡ docs_of ls) × 
 
 count_query : (ls : List Line) (p : Progress) (query : Query) (delay : Option ℕ) → Counts ls p → Counts (ls ++ line.Query query ∷ []) (asked_with p query.ask delay)
 count_query ls p query None (now, documents, asked) = (
-  omega (arith, now, sum_by_push ticks_of ls (line.Query query)), documents ∙ sym (no_doc ls query), omega (arith, asked, sum_by_push (λ l. cond (is_query l) 1 0) ls (line.Query query)),
+  omega (arith, now, sum_by_push ticks_of ls (line.Query query)),
+  documents ∙ sym (no_doc ls query),
+  omega (arith, asked, sum_by_push (λ l. cond (is_query l) 1 0) ls (line.Query query)),
 )
 count_query ls p query (Some delay) (now, documents, asked) = (
-  omega (arith, now, sum_by_push ticks_of ls (line.Query query)), documents ∙ sym (no_doc ls query), omega (arith, asked, sum_by_push (λ l. cond (is_query l) 1 0) ls (line.Query query)),
+  omega (arith, now, sum_by_push ticks_of ls (line.Query query)),
+  documents ∙ sym (no_doc ls query),
+  omega (arith, asked, sum_by_push (λ l. cond (is_query l) 1 0) ls (line.Query query)),
 )
 
 count_step : (ls : List Line) (p : Progress) (l : Line) → Counts ls p → Counts (ls ++ l ∷ []) (step p l)

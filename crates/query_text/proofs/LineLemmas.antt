@@ -55,6 +55,7 @@ by_first n tokens is r g = by (cases_lt n (length tokens)) r g
   where
     short : length tokens ≤ n → (r : Result Tree BadKind) → GivesTree (take n tokens) r → GivesTree tokens r
     short few r g = subst (λ ts. GivesTree ts r) (take_all n tokens few) g
+
     long : n < length tokens → (r : Result Tree BadKind) → GivesTree (take n tokens) r → GivesTree tokens r
     long many (Ok tree) g = absurd (omega (arith, g.some.1, is, length-take-le n tokens (omega (arith, many))))
     long many (Err kind) (expr.TooLong, u, same) = (expr.TooLong, omega (arith, is, many), same)
@@ -63,6 +64,7 @@ by_first n tokens is r g = by (cases_lt n (length tokens)) r g
     long many (Err kind) (expr.Unexpected place, u, same) = absurd (omega (arith, u.0.some.1, is, length-take-le n tokens (omega (arith, many))))
     long many (Err kind) (expr.Unclosed, u, same) = absurd (omega (arith, u.0.some.1, is, length-take-le n tokens (omega (arith, many))))
     long many (Err kind) (expr.Memory, u, same) = absurd u
+
     by : (n < length tokens) ⊎ (length tokens ≤ n) → (r : Result Tree BadKind) → GivesTree (take n tokens) r → GivesTree tokens r
     by (inl less) r g = long less r g
     by (inr more) r g = short more r g

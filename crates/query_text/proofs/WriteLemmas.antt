@@ -47,6 +47,7 @@ query_fields query = by query.ask
         before-append [] zs = refl
         before-append (x ∷ xs) zs =
             ap (λ bs. (x ++ space ∷ []) ++ bs) (before-append xs zs) ∙ sym (append_assoc (x ++ space ∷ []) (before_spaces xs) (before_spaces zs))
+
     by : (asks : Ask) → join_with_byte space (delay_fields query.delay ++ (prio_fields query.prio ++ ask_fields asks))
         ≡ before_spaces (delay_fields query.delay) ++ (before_spaces (prio_fields query.prio) ++ join_with_byte space (ask_fields asks))
     by (ask.Find e) = front _ _

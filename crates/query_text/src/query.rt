@@ -28,14 +28,7 @@ pub fn after_line(
     let delay = fields.next().ok_or(MISSING_FIELD)?;
     let delay = number_field(delay, 1, MOST_DELAY)?;
     let name = fields.next().ok_or(MISSING_FIELD)?;
-    query_from(
-        alloc,
-        shards,
-        so_far,
-        Some(delay),
-        keyword_of(name),
-        fields,
-    )
+    query_from(alloc, shards, so_far, Some(delay), keyword_of(name), fields)
 }
 
 /// The query with this delay that begins with this keyword.
@@ -69,15 +62,7 @@ fn prio_line(
     ensures { GivesBy result (GivesLine shards so_far.now (prio_behind delay prio fields.entry)) }
 {
     let name = fields.next().ok_or(MISSING_FIELD)?;
-    query_line(
-        alloc,
-        shards,
-        so_far,
-        delay,
-        prio,
-        keyword_of(name),
-        fields,
-    )
+    query_line(alloc, shards, so_far, delay, prio, keyword_of(name), fields)
 }
 
 /// The query with this delay and priority, from its ask on, where there is room for one more.
@@ -98,11 +83,7 @@ fn query_line(
 }
 
 /// What an ask with this name asks.
-fn ask_named(
-    alloc: Global,
-    name: Option<Keyword>,
-    fields: Fields<'_>,
-) -> Result<Ask, LineFault>
+fn ask_named(alloc: Global, name: Option<Keyword>, fields: Fields<'_>) -> Result<Ask, LineFault>
     ensures { GivesBy result (GivesAskBy (ask_behind name fields.entry)) }
 {
     match name {

@@ -31,23 +31,46 @@ fn each_line_has_its_fault(rt: HostRuntime) -> Result<(), Fail> {
         (b"find a\r\r", "bad byte"),
         (b"findx a", "unknown command"),
         (b"find(a)", "unknown command"),
+        (b"after 1 tick 1", "unknown command"),
         (b"hi lo find a", "unknown command"),
         (b"lo after 1 find a", "unknown command"),
         (b"lo tick", "unknown command"),
-        (b"tick 1", "not built yet"),
-        (b"after 0 find a", "not built yet"),
-        (b"TOP", "not built yet"),
-        (b"lo top", "not built yet"),
+        (b"after 1 after 1 find a", "unknown command"),
+        (b"seek", "unknown command"),
         (b"doc x", "bad number"),
         (b"doc 4294967296", "bad number"),
         (b"doc +1 $", "bad number"),
+        (b"tick 0", "bad number"),
+        (b"tick 10000001", "bad number"),
+        (b"tick x 1", "bad number"),
+        (b"cancel 0", "bad number"),
+        (b"cancel 50001", "bad number"),
+        (b"after 0 find a", "bad number"),
+        (b"after 4294967296 find a", "bad number"),
+        (b"top 0 a", "bad number"),
+        (b"top 101 a", "bad number"),
+        (b"lo top x", "bad number"),
         (b"doc 1 a-b", "bad word"),
         (b"find a-b", "bad word"),
         (b"find ) a $", "bad word"),
+        (b"top 1 a!", "bad word"),
+        (b"top 1 |", "bad word"),
         (b"find aaaaaaaaaaaaaaaaaaaaaaaaaaaaaaaaa", "bad word"),
         (b"doc", "missing field"),
+        (b"tick", "missing field"),
+        (b"cancel", "missing field"),
+        (b"after", "missing field"),
+        (b"after 1", "missing field"),
         (b"hi", "missing field"),
+        (b"after 1 hi", "missing field"),
+        (b"top", "missing field"),
+        (b"top 1", "missing field"),
+        (b"LO TOP 100", "missing field"),
+        (b"tick 1 2", "extra field"),
+        (b"cancel 1 x", "extra field"),
         (b"find", "bad expression"),
+        (b"count", "bad expression"),
+        (b"exists", "bad expression"),
         (b"find )", "bad expression"),
         (b"find a |", "bad expression"),
         (b"find (a", "bad expression"),
@@ -72,7 +95,10 @@ fn limits_of_a_line(rt: HostRuntime) -> Result<(), Fail> {
         ),
         (b"doc 1", b" a", 1_000, ""),
         (b"doc 1 $", b" a", 1_000, "error line 1: bad word\n"),
+        (b"top 1", b" a", 1_001, "error line 1: too many words\n"),
+        (b"top 1", b" a", 1_000, ""),
         (b"find", b" a", 1_025, "error line 1: expression too long\n"),
+        (b"find", b" a", 1_026, "error line 1: expression too long\n"),
         (b"find", b" )", 1_025, "error line 1: expression too long\n"),
         (b"find", b" a", 1_024, ""),
         (
@@ -103,15 +129,15 @@ fn first_fault_of_a_file(rt: HostRuntime) -> Result<(), Fail> {
         (b"".as_slice(), ""),
         (b"\n\r\n   \n# \xff\n  #\nfind a\n\r", ""),
         (b"doc 4 x\ndoc 04 y\n", "error line 2: duplicate document\n"),
+        (b"count a\ndoc 1 a\n", ""),
         (
-            b"count a\ndoc 1 a\n",
-            "error line 2: document after query\n",
+            b"doc 1 a\nfind a\ndoc 01 b\n",
+            "error line 3: duplicate document\n",
         ),
-        (b"find a\n\ndoc\n", "error line 3: document after query\n"),
-        (
-            b"find A\ndoc x\nfind )\n",
-            "error line 2: document after query\n",
-        ),
+        (b"find a\n\ndoc\n", "error line 3: missing field\n"),
+        (b"find A\ndoc x\nfind )\n", "error line 2: bad number\n"),
+        (b"tick 10000000\ntick 1\n", "error line 2: too many ticks\n"),
+        (b"tick 9999999\ncancel 7\ntick 1\n", ""),
         (b"find red\nfind (re", "error line 2: bad expression\n"),
         (b"doc 5 a\nhi exists a\nlo exists b\n", ""),
     ] {
@@ -161,11 +187,41 @@ fn queries_times_shards(rt: HostRuntime) -> Result<(), Fail> {
 }
 
 #[test]
+fn canonical_texts(rt: HostRuntime) -> Result<(), Fail> {
+    for (text, wanted) in [
+        (
+            b"DOC 04 B  a\nafter 7 mid find ((a|b) c)\nLO top 03 a\n".as_slice(),
+            "doc 4 b a\nafter 7 find (a | b) c\nlo top 3 a\n",
+        ),
+        (
+            b"# note\n\ndoc 7\r\nTICK 0001\ncancel 02\nhi  count !(!a)|b\n",
+            "doc 7\ntick 1\ncancel 2\nhi count !!a | b\n",
+        ),
+        (
+            b"exists (a (b c)) !(d|(e|f))\nfind (((a|b)))|((c d) e)",
+            "exists a (b c) !(d | (e | f))\nfind a | b | c d e\n",
+        ),
+    ] {
+        match read_input(rt.alloc(), text, 4) {
+            Ok(input) => {
+                let written = write_input(rt.alloc(), &input)?;
+                assert_eq!(rt; written.as_slice(), wanted.as_bytes(), "{wanted}");
+            }
+            Err(_) => assert!(rt; false),
+        }
+    }
+    Ok(())
+}
+
+#[test]
 fn lines_of_replies(rt: HostRuntime) -> Result<(), Fail> {
     let alloc = rt.alloc();
     let mut ids = fan_base::Ids::new(alloc);
     ids.push(4)?;
     ids.push(7)?;
+    let mut scores = fan_base::Scores::new(alloc);
+    scores.push((103, 2))?;
+    scores.push((101, 1))?;
     for (number, reply, wanted) in [
         (1, Reply::Find(Hits { ids, total: 2 }), "1 find 2: 4 7\n"),
         (
@@ -183,6 +239,9 @@ fn lines_of_replies(rt: HostRuntime) -> Result<(), Fail> {
         ),
         (4, Reply::Present(true), "4 exists yes\n"),
         (5, Reply::Present(false), "5 exists no\n"),
+        (6, Reply::Top(scores), "6 top 2: 103=2 101=1\n"),
+        (7, Reply::Top(fan_base::Scores::new(alloc)), "7 top 0:\n"),
+        (50_000, Reply::Cancelled, "50000 cancelled\n"),
     ] {
         let line = reply_line(alloc, number, &reply)?;
         assert_eq!(rt; line.as_slice(), wanted.as_bytes());

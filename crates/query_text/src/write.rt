@@ -94,12 +94,7 @@ fn push_ask(alloc: Global, text: &mut Vec<u8>, ask: &Ask) -> Result<(), AllocErr
     }
 }
 
-fn push_top(
-    alloc: Global,
-    text: &mut Vec<u8>,
-    most: u32,
-    words: &Words,
-) -> Result<(), AllocError>
+fn push_top(alloc: Global, text: &mut Vec<u8>, most: u32, words: &Words) -> Result<(), AllocError>
     ensures { OnOk result (text.new.items ≡ text.old.items ++ join_with_byte space (ask_fields (ask.Top most words.now))) }
 {
     push_named(alloc, text, b"top", most)?;
@@ -114,12 +109,7 @@ fn push_asked(text: &mut Vec<u8>, name: &[u8], expr: &Expr) -> Result<(), AllocE
 }
 
 /// A name, and a number behind a space.
-fn push_named(
-    alloc: Global,
-    text: &mut Vec<u8>,
-    name: &[u8],
-    number: u32,
-) -> Result<(), AllocError>
+fn push_named(alloc: Global, text: &mut Vec<u8>, name: &[u8], number: u32) -> Result<(), AllocError>
     ensures { OnOk result (text.new.items ≡ text.old.items ++ (name.now ++ space ∷ decimal number)) }
 {
     text.extend_from_slice(name)?;

@@ -98,7 +98,9 @@ impl Walk {
         ensures { (p : Progress) → Follows self p → IfOk result (λ text. text.items ≡ replies_text (all_replies p)) }
     {
         let Walk {
-            waiting, mut text, ..
+            waiting,
+            mut text,
+            ..
         } = self;
         push_cancelled(alloc, &mut text, waiting)?;
         Ok(text)

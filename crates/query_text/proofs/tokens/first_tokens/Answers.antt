@@ -5,9 +5,11 @@ use Rattle.query_text.proofs.TokenLemmas.{tokens_ok, tokens_none, first_of_parts
 use Rattle.query_text.proofs.tokens.first_tokens.Goals as goal
 
 pub fields-preserved : goal.fields-preserved
-fields-preserved c =
-    (tokens_ok c.fields.tokens.items c.push_tokens.new.tokens.items (parts c.in-Some.field.now) (parts_of c.next.new.self) (parts_of c.fields.fields) (ap parts_of c.in-Some.ensures.steps) c.in_ok-push_tokens.ensures.ok
-    ∙ c.fields.invariant.0, c.in_ok-push_tokens.ensures.few)
+fields-preserved c = (
+  tokens_ok c.fields.tokens.items c.push_tokens.new.tokens.items (parts c.in-Some.field.now) (parts_of c.next.new.self) (parts_of c.fields.fields) (ap parts_of c.in-Some.ensures.steps) c.in_ok-push_tokens.ensures.ok
+      ∙ c.fields.invariant.0,
+  c.in_ok-push_tokens.ensures.few,
+)
 
 pub returns : goal.returns
 returns c =
