@@ -1,9 +1,12 @@
 // What both files of tests make: documents, expressions, shards.
-ghost use Rattle.std.specs.Prelude.{◌≤◌, IfOk, IsTrue, All, length};
+ghost use Rattle.std.specs.Prelude.{◌≡◌, ◌≤◌, IfOk, length, nat_le};
+ghost use Rattle.std.specs.List.{list_all};
+ghost use Rattle.query_model.specs.Limits.{most_words};
 ghost use Rattle.shard_index.specs.Standing.{AreShort, StandForAll, StandsFor};
 
 use fan_base::{Doc, Docs, Memory, Word, Words};
 use query_expr::{Expr, Token, parse};
+use query_model::limits::MOST_WORDS;
 use shard_index::{Shard, Shards};
 use std::alloc::Global;
 use std::test::Fail;
@@ -40,29 +43,31 @@ pub fn docs_of(alloc: Global, table: &[(u32, &str)]) -> Result<Docs, Fail> {
     Ok(docs)
 }
 
-fn are_short(docs: &Docs) -> bool
-    ensures { IsTrue result → AreShort docs.now }
+fn are_short(docs: &[Doc]) -> bool
+    ensures { result ≡ list_all (λ doc. nat_le (length doc.words) most_words) docs.now }
 {
-    docs.iter().all(|doc| doc.words.len() <= 1_000)
+    docs.iter().all(|doc| doc.words.len() <= MOST_WORDS)
 }
 
 /// So many shards of the documents.
+#[tactic(auto, using(crate::proofs::Short::all_short))]
 pub fn shards_of(alloc: Global, docs: &Docs, shards: u32) -> Result<Shards, Fail>
     requires some { 1 ≤ shards }
     requires many { shards ≤ 64 }
     ensures { IfOk result (λ shards. StandForAll shards docs.now) }
 {
-    if docs.len() >= 1 << 32 || !are_short(docs) {
+    if docs.len() >= 1 << 32 || !are_short(docs.as_slice()) {
         return Err(Fail::from(Memory));
     }
     Ok(Shards::build(alloc, docs, shards)?)
 }
 
 /// One shard of all documents.
+#[tactic(auto, using(crate::proofs::Short::all_short))]
 pub fn one_shard(alloc: Global, docs: &Docs) -> Result<Shard, Fail>
     ensures { IfOk result (λ shard. StandsFor shard docs.now 1 0) }
 {
-    if docs.len() >= 1 << 32 || !are_short(docs) {
+    if docs.len() >= 1 << 32 || !are_short(docs.as_slice()) {
         return Err(Fail::from(Memory));
     }
     Ok(Shard::build(alloc, docs, 1, 0)?)

@@ -19,9 +19,9 @@ const ASKED: [&str; 8] = [
     "a ( b | ! c ) | ! ( a | d )",
 ];
 
-fn drawn_docs(alloc: Global, count: u32) -> Result<Docs, Fail> {
+fn drawn_docs(alloc: Global) -> Result<Docs, Fail> {
     let mut docs = Docs::new(alloc);
-    for i in 0..count {
+    for i in 0..131u32 {
         let words = words_of(alloc, TEXTS[i as usize * 5 % 7])?;
         docs.push(Doc {
             id: (i * 37 + 11) % 131,
@@ -46,7 +46,7 @@ fn ids_holding(alloc: Global, docs: &[Doc], e: &Expr) -> Result<Vec<u32>, Fail> 
 #[test]
 fn shards_find_what_a_look_at_every_document_finds(rt: HostRuntime) -> Result<(), Fail> {
     let alloc = rt.alloc();
-    let docs = drawn_docs(alloc, 131)?;
+    let docs = drawn_docs(alloc)?;
     for count in [1, 3] {
         let shards = shards_of(alloc, &docs, count)?;
         for asked in ASKED {
@@ -110,7 +110,7 @@ fn key_of(id: u32, score: u64) -> u128 {
 #[test]
 fn shards_rank_as_a_look_at_every_document_does(rt: HostRuntime) -> Result<(), Fail> {
     let alloc = rt.alloc();
-    let docs = drawn_docs(alloc, 131)?;
+    let docs = drawn_docs(alloc)?;
     for count in [1, 3] {
         let shards = shards_of(alloc, &docs, count)?;
         for (asked, k) in [("a", 3), ("c a", 100), ("d e b", 7)] {
