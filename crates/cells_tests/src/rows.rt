@@ -1,4 +1,5 @@
-ghost use Rattle.std.specs.Prelude.{◌≡◌, [], false, All, IfOk};
+ghost use Rattle.std.specs.Prelude.{◌≡◌, ◌<◌, ◌≤◌, false, length, All, IfOk};
+ghost use Rattle.core_word.specs.Seen.{SeenHome};
 ghost use Rattle.core_cells.specs.Seen.{SeenPass};
 
 use core_cells::{CellPass, Cells, NoCell};
@@ -8,6 +9,7 @@ use std::alloc::{AllocError, Global};
 use std::process::Abort;
 use std::sync::Wait;
 use std::test::Fail;
+use std::thread;
 
 type Numbers = Home<u64, u64, u64>;
 
@@ -31,7 +33,7 @@ fn used<'h>(
     halves: (Producer<'h, u64, u64, u64>, Consumer<'h, u64, u64, u64>),
     t: &mut Tally,
 ) -> bool
-    requires { pass.old.cells ≡ cells.now.cells }
+    requires { pass.old.cells ≡ cells.now }
     ensures { pass.new.cells ≡ pass.old.cells }
 {
     let (producer, consumer) = halves;
@@ -65,7 +67,7 @@ fn given_back<'h>(
     left: Left<'h, u64, u64, u64>,
     t: &mut Tally,
 ) -> bool
-    requires { pass.old.cells ≡ cells.now.cells }
+    requires { pass.old.cells ≡ cells.now }
     ensures { pass.new.cells ≡ pass.old.cells }
 {
     match left {
@@ -74,15 +76,62 @@ fn given_back<'h>(
     }
 }
 
+// Takes a cell, uses it and gives it back, as soon as one is free.
+fn cycle<'h>(
+    rt: &impl Wait,
+    cells: &Cells<'h, u64, u64, u64>,
+    pass: &mut CellPass<'h, u64, u64, u64>,
+    n: u64,
+    t: &mut Tally,
+) -> bool
+    requires { pass.old.cells ≡ cells.now }
+    ensures { pass.new.cells ≡ pass.old.cells }
+{
+    for _ in rt.forever() {
+        match cells.core(rt, pass, n, t) {
+            Ok(halves) => return used(rt, cells, pass, n, halves, t),
+            Err(NoCell) => thread::yield_now(),
+        }
+    }
+    unreachable!()
+}
+
 // A thread's pass, beside its cells.
 #[derive(Drop)]
 struct Worker<'c, 'h> {
     cells: &'c Cells<'h, u64, u64, u64>,
     pass: CellPass<'h, u64, u64, u64>,
-    ghost of_cells: { pass.cells ≡ cells.now.cells },
+    ghost of_cells: { pass.cells ≡ cells.now },
 }
 
 impl<'c, 'h> Worker<'c, 'h> {
+    // Uses a core for each of these numbers. It answers what was counted, and how many were used as their own.
+    fn work(&mut self, rt: &impl Wait, first: u64, end: u64) -> (Tally, u64) {
+        let mut t = Tally::new();
+        let mut own = 0u64;
+        for n in first..end {
+            if cycle(rt, self.cells, &mut self.pass, n, &mut t) {
+                own = own.saturating_add(1);
+            }
+        }
+        (t, own)
+    }
+
+    // How many cells are free, up to this number. Each is taken before the first one is given back.
+    fn free_cells(&mut self, rt: &impl Wait, most: u64, t: &mut Tally) -> u64 {
+        if most == 0 {
+            return 0;
+        }
+        match self.cells.core(rt, &mut self.pass, most, t) {
+            Err(NoCell) => 0,
+            Ok(halves) => {
+                let others = self.free_cells(rt, most - 1, t);
+                used(rt, self.cells, &mut self.pass, most, halves, t);
+                others.saturating_add(1)
+            }
+        }
+    }
+
     // Whether a core that is begun now is used as its own.
     fn uses(&mut self, rt: &impl Wait, n: u64, t: &mut Tally) -> bool {
         match self.cells.core(rt, &mut self.pass, n, t) {
@@ -104,14 +153,37 @@ impl<'c, 'h> Worker<'c, 'h> {
     }
 }
 
+type Made<'h> = (
+    Cells<'h, u64, u64, u64>,
+    Vec<CellPass<'h, u64, u64, u64>>,
+);
+
+fn cells_over<'h>(
+    rt: &impl Wait,
+    alloc: Global,
+    homes: &'h mut [Numbers],
+    passes: u32,
+) -> Result<Made<'h>, AllocError>
+    requires homes { (0 < length homes.old) × (length homes.old ≤ 65536) }
+    requires untaken { All (λ (home : SeenHome). home.taken ≡ false) homes.old }
+    requires passes { (0 < passes) × (passes ≤ 64) }
+    ensures { IfOk result (λ made. All (λ (p : SeenPass). p.cells ≡ made.0) made.1.items) }
+{
+    match Cells::new(rt, alloc, homes, passes) {
+        Ok(made) => Ok(made),
+        Err(_) => Err(AllocError),
+    }
+}
+
 // The last of the passes that were made.
 fn last_pass<'h>(
     rt: &impl Abort,
     cells: &Cells<'h, u64, u64, u64>,
     passes: &mut Vec<CellPass<'h, u64, u64, u64>>,
 ) -> CellPass<'h, u64, u64, u64>
-    requires { All (λ (p : SeenPass). p ≡ record { cells = cells.now.cells; took = []; put = [] }) passes.old.items }
-    ensures pass { result.cells ≡ cells.now.cells }
+    requires { All (λ (p : SeenPass). p.cells ≡ cells.now) passes.old.items }
+    ensures pass { result.cells ≡ cells.now }
+    ensures others { All (λ (p : SeenPass). p.cells ≡ cells.now) passes.new.items }
 {
     let Some(pass) = passes.pop() else {
         panic!(rt; "no pass is left")
@@ -123,7 +195,7 @@ fn last_pass<'h>(
 fn one_cell_is_given_out_refused_and_given_out_again(rt: HostRuntime) -> Result<(), Fail> {
     let mut homes = [home(rt.alloc())?];
     let mut t = Tally::new();
-    let (cells, mut passes) = Cells::new(&rt, rt.alloc(), &mut homes, 1).map_err(|_| AllocError)?;
+    let (cells, mut passes) = cells_over(&rt, rt.alloc(), &mut homes, 1)?;
     let pass = last_pass(&rt, &cells, &mut passes);
     let mut worker = Worker {
         cells: &cells,
@@ -132,5 +204,41 @@ fn one_cell_is_given_out_refused_and_given_out_again(rt: HostRuntime) -> Result<
     let answers = worker.in_one_cell(&rt, &mut t);
     assert_eq!(rt; answers, (true, false, true));
     assert_eq!(rt; counts(&t), (2, 2, 2, 2));
+    Ok(())
+}
+
+#[test]
+fn two_threads_take_and_give_back_a_hundred_thousand_cells(rt: HostRuntime) -> Result<(), Fail> {
+    let alloc = rt.alloc();
+    let mut homes = [
+        home(alloc)?,
+        home(alloc)?,
+        home(alloc)?,
+        home(alloc)?,
+        home(alloc)?,
+        home(alloc)?,
+        home(alloc)?,
+        home(alloc)?,
+    ];
+    let (cells, mut passes) = cells_over(&rt, alloc, &mut homes, 2)?;
+    let second = last_pass(&rt, &cells, &mut passes);
+    let first = last_pass(&rt, &cells, &mut passes);
+    let mut first = Worker {
+        cells: &cells,
+        pass: first,
+    };
+    let mut second = Worker {
+        cells: &cells,
+        pass: second,
+    };
+    let ((t, own), (other_t, other_own)) = thread::join(
+        &rt,
+        || first.work(&rt, 0, 50000),
+        || second.work(&rt, 50000, 100000),
+    );
+    let mut t = t.merge(other_t);
+    assert_eq!(rt; (own, other_own), (50000, 50000));
+    assert_eq!(rt; counts(&t), (100000, 100000, 100000, 100000));
+    assert_eq!(rt; first.free_cells(&rt, 9, &mut t), 8);
     Ok(())
 }

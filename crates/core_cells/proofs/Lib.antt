@@ -1,2 +1,3 @@
-mod Sums
+pub mod Sums
 pub mod Free
+pub mod Crossings

@@ -1,9 +1,14 @@
 -- Sums over a list in which one place changes.
-use Rattle.std.proofs.Common.{◌≡◌, ◌≢◌, ℕ, zero, suc, ◌+◌, ◌≤◌, List, [], ◌∷◌, refl, sym, ap, arith}
+use Rattle.std.proofs.Common.{◌≡◌, ◌≢◌, ℕ, zero, suc, ◌+◌, ◌<◌, ◌≤◌, List, [], ◌∷◌, length, refl, sym, ap, arith}
 use Rattle.std.specs.Prelude.{sum_by, slice_set}
 use mathlib.Core.Option.{some, some-injective, some-ne-none}
 use lib.ListN.{get_elem?}
 use Rattle.std.proofs.lemmas.List.Sums.{sum_by-cons}
+
+pub within : {A : Type 0} (xs : List A) (i : ℕ) (v : A) → get_elem? xs i ≡ some v → i < length xs
+within [] i v e = absurd (some-ne-none v (sym e))
+within (x ∷ xs) zero v e = omega arith
+within (x ∷ xs) (suc i) v e = omega (arith, within xs i v e)
 
 module _ {A : Type 0} (g : A → ℕ) where
   -- what stands at a place is a part of the sum

@@ -1,25 +1,35 @@
 -- What contracts see of cells and of their passes.
-use Rattle.std.specs.Prelude.{◌≡◌, ℕ, suc, ◌+◌, ◌<◌, List, [], ◌++◌, length, sum_by}
+use Rattle.std.specs.Prelude.{◌≡◌, ℕ, suc, ◌+◌, ◌<◌, List, [], ◌∷◌, length, sum_by, All}
 use Rattle.core_word.specs.Seen.{HomeId, SeenHome, SeenKey, SeenConsumer, SeenHusk}
+use Rattle.std.specs.Prelude.{Option}
+use Rattle.crossbeam_queue.specs.declared.array_queue.Doing.{Doing}
+use Rattle.crossbeam_queue.specs.declared.array_queue.Slotted.{Slotted}
 use Rattle.crossbeam_queue.specs.Passes.{Pass, view}
-use Rattle.core_cells.specs.declared.view.View.{View}
-use Rattle.core_cells.specs.Rule.{AreAccounted}
 
 -- which cells they are: no other cells share it
 abbrev pub CellsId : Type 0
 CellsId = HomeId
 
--- cells: which they are, the first keys of their homes, and how many passes they have
+-- cells: which they are, and how many
 pub record SeenCells : Type 0 where
-  pub cells : CellsId
+  pub id : CellsId
+  pub size : ℕ
+
+-- A pass: its cells, the first keys of their homes, how many passes they have, and the keys that it took out of their free queue and that it put into it, oldest first.
+pub record SeenPass : Type 0 where
+  pub cells : SeenCells
   pub homes : List SeenKey
   pub passes : ℕ
-
--- a pass: its cells, and the keys that it took out of their free queue and that it put into it, oldest first
-pub record SeenPass : Type 0 where
-  pub cells : CellsId
   pub took : List SeenKey
   pub put : List SeenKey
+
+-- a pass that has taken and put nothing
+abbrev pub new_pass : SeenCells → List SeenKey → ℕ → SeenPass
+new_pass cells homes passes = record { cells = cells; homes = homes; passes = passes; took = []; put = [] }
+
+-- all passes of these cells
+abbrev pub AreAll : SeenCells → List SeenPass → Type 0
+AreAll cells passes = (0 < length passes) × All (λ (pass : SeenPass). (pass.cells ≡ cells) × (pass.passes ≡ length passes)) passes
 
 -- the first key of a home
 abbrev pub first_key : SeenHome → SeenKey
@@ -43,15 +53,17 @@ put_by weight passes = sum_by (λ (pass : SeenPass). sum_by weight pass.put) pas
 abbrev pub AreFree : List SeenKey → List SeenKey → List SeenPass → Type 0
 AreFree keys homes passes = (weight : SeenKey → ℕ) → sum_by weight keys + took_by weight passes ≡ sum_by weight homes + put_by weight passes
 
--- What a call knows of the free queue at one of its moments: so many keys were in it, and with those that passes took they are those that new and passes put.
-abbrev pub HeldKeys : ℕ → SeenPass → Type 0
-HeldKeys n pass = (items : List SeenKey) × (took : List SeenKey) × (put : List SeenKey) × (length items ≡ n) × AreAccounted items (pass.took ++ took) (pass.put ++ put)
+-- So many keys are free, by these homes and what these passes took and put.
+abbrev pub FreeByAll : ℕ → List SeenKey → List SeenPass → Type 0
+FreeByAll n homes passes = (keys : List SeenKey) × (length keys ≡ n) × AreFree keys homes passes
 
--- the view of the pass that made the others, while these are out
-pub record IsOpen (v : View) : Type 0 where
-  pub made : 0 < v.made
-  pub held : v.held ≡ 1
-  pub took : v.took ≡ []
+-- So many keys were free at a moment of a call, as far as its pass knows: where it is the only pass of its cells, by what it took and put.
+abbrev pub WereFree : ℕ → SeenPass → Type 0
+WereFree n pass = pass.passes ≡ 1 → FreeByAll n pass.homes (pass ∷ [])
+
+-- all passes know these homes
+abbrev pub KnowHomes : List SeenKey → List SeenPass → Type 0
+KnowHomes homes passes = All (λ (pass : SeenPass). pass.homes ≡ homes) passes
 
 module _ {T V : Type 0} where
   -- what a pass knows
@@ -61,3 +73,8 @@ module _ {T V : Type 0} where
   -- a pass that has no slot of its queue
   abbrev pub IsIdlePass : Pass T V → Type 0
   IsIdlePass pass = pass.me.1 ≡ []
+
+module _ {T V Q A : Type 0} where
+  -- which queue it is
+  abbrev pub queue_id : Slotted (Option T) (Doing T V) Q A → CellsId
+  queue_id queue = queue.table.shared.table_id

@@ -1,5 +1,5 @@
 //! The rule of the free queue, and what each step on it tells. These types are for the proofs alone.
-ghost use Rattle.core_cells.specs.Rule.{FreeHolds, opening, left_by_fork, right_by_fork, with_pass, spent, takes, puts, Accounts};
+ghost use Rattle.core_cells.specs.Rule.{FreeHolds, opening, fills, left_by_count, right_by_count, left_by_fork, right_by_fork, with_pass, spent, takes, puts, Accounts};
 
 use crate::view::View;
 use core_word::Key;
@@ -18,6 +18,26 @@ impl<'h, T, C, P> Protocol<Key<'h, T, C, P>, View> for FreeRule {
     ghost holds = { FreeHolds };
 
     ghost first = { opening };
+}
+
+/// The first key of a home is put.
+pub(crate) struct Fills;
+
+impl<'h, T, C, P> Outcome<Key<'h, T, C, P>, View> for Fills {
+    ghost then = { fills };
+}
+
+impl<'h, T, C, P> Lesson<Key<'h, T, C, P>, View> for Fills {
+    ghost fact = { Accounts };
+}
+
+/// A pass is counted that there is to be.
+pub(crate) struct Counts;
+
+impl Split<View> for Counts {
+    ghost left = { left_by_count };
+
+    ghost right = { right_by_count };
 }
 
 /// A further pass is made.

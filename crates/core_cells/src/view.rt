@@ -19,10 +19,14 @@ impl Model for ListedKey {
 
 /// What a pass of the free queue knows.
 pub struct View {
-    /// How many passes it has made, itself among them. Only the first pass makes any.
+    /// How many passes it has made, itself among them. Only the opening pass makes any.
     pub made: u64,
     /// For how many passes it stands: 1, and more once it has taken others in. One that was taken in stands for none.
     pub held: u64,
+    /// How many passes there are to be, beside the opening one.
+    pub passes: u64,
+    /// The first keys of all homes.
+    pub homes: LinkedList<ListedKey>,
     /// The keys that it took out of the free queue, oldest first.
     pub took: LinkedList<ListedKey>,
     /// The keys that it put into it, oldest first.

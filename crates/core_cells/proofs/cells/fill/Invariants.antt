@@ -5,4 +5,5 @@ use Rattle.core_cells.specs.Seen.{first_key}
 use Rattle.core_cells.proofs.cells.fill.Given as goal
 
 abbrev pub invariant-loop-home : goal.invariant-loop-home
-invariant-loop-home g l = IsPassOf l.free l.pass × (view l.pass ≡ record { made = 1; held = 1; took = []; put = map first_key (take l.home-index l.fn.homes) })
+invariant-loop-home g l = IsPassOf l.free l.pass
+    × (view l.pass ≡ record { made = 1; held = 1; passes = 0; homes = map first_key (take l.home-index l.fn.homes); took = []; put = map first_key (take l.home-index l.fn.homes) })

@@ -8,4 +8,6 @@ another-another-requires-clause-queue g c = c.loop.invariant.0
 
 pub another-another-requires-clause-rule : goal.another-another-requires-clause-rule
 another-another-requires-clause-rule g c =
-    makes_pass _ _ (λ z. let made = ap (λ (v : View). v.made) c.loop.invariant.2 in absurd (omega (arith, made, z, c.requires.pass.1)))
+    let made = ap (λ (v : View). v.made) c.loop.invariant.2 in
+    let passes = ap (λ (v : View). v.passes) c.loop.invariant.2 in
+    makes_pass _ _ (λ z. absurd (omega (arith, made, z))) (omega (arith, made, passes, c.requires.pass.2, c.loop-test.true))

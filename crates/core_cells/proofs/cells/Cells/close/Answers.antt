@@ -1,35 +1,26 @@
-use Rattle.std.proofs.Common.{◌≡◌, ap, ◌∙◌, arith}
+use Rattle.std.proofs.Common.{◌≡◌, ◌≤◌, ap, ◌∙◌, subst, arith, length}
 use Rattle.crossbeam_queue.specs.Passes.{view}
 use Rattle.core_cells.specs.declared.view.View.{View}
-use Rattle.core_cells.specs.Seen.{SeenPass}
-use Rattle.core_cells.proofs.Free.{takes_pass_in, learns, took_in, put_in, all_before}
+use Rattle.core_cells.specs.Seen.{SeenCells, SeenPass}
+use Rattle.core_cells.proofs.Free.{learns, all_free, took_last, put_last, all_last}
 use Rattle.core_cells.proofs.cells.Cells.close.Goals as goal
-
-pub absorb-requires-clause-rule : goal.absorb-requires-clause-rule
-absorb-requires-clause-rule g c =
-    let i = c.loop-pass.invariant in
-    takes_pass_in _ _ _ _ (λ z. absurd (omega (arith, z, i.2))) (λ z. absurd (omega (arith, z, i.4)))
 
 pub len_as-requires-clause-rule : goal.len_as-requires-clause-rule
 len_as-requires-clause-rule g c =
-    let i = c.loop-pass.invariant in
-    learns _ _ (λ z. absurd (omega (arith, z, i.4)))
+    let held = c.take_in.ensures.whole.2 in
+    learns _ _ (λ z. absurd (omega (arith, z, held)))
 
-pub loop-pass-preserved : goal.loop-pass-preserved
-loop-pass-preserved g c =
-    let i = c.loop-pass.invariant in
-    let items = c.in-Some.ensures.items in
-    let known = c.absorb.ensures.rule in
-    let pass = c.into_pass.ensures.view in
-    let held = ap (λ (v : View). v.held) known in
-    let one = ap (λ (v : View). v.held) pass in
-    let id = c.absorb.ensures.queue.0 in (
-      (id ∙ i.0.0, c.absorb.ensures.queue.2 ∙ i.0.1),
-      id ∙ i.1,
-      ap (λ (v : View). v.made) known ∙ i.2,
-      omega (arith, held, one, i.3, c.in-Some.ensures.cases),
-      omega (arith, held, one, i.4),
-      all_before (λ (pass : SeenPass). pass.cells ≡ c.args.self.cells) c.loop-pass.passes.items c.pop.new.self.items c.in-Some.pass items i.5,
-      λ weight. took_in weight (view c.loop-pass.opening) (view c.into_pass.result) (view c.absorb.new.pass) c.loop-pass.passes.items c.pop.new.self.items c.in-Some.pass _ items known (ap (λ (v : View). v.took) pass) (i.6 weight),
-      λ weight. put_in weight (view c.loop-pass.opening) (view c.into_pass.result) (view c.absorb.new.pass) c.loop-pass.passes.items c.pop.new.self.items c.in-Some.pass _ items known (ap (λ (v : View). v.put) pass) (i.7 weight),
-    )
+pub returns : goal.returns
+returns g c = record {
+  most = subst (λ n. c.len_as.result ≤ n) (ap (λ (cells : SeenCells). cells.size) c.self.view_is) c.len_as.ensures.rule.0;
+  free = λ homes know.
+      let items = c.in-Some.ensures.items in
+      let last = c.into_pass-whole.ensures.view in
+      let held = c.take_in.ensures.whole.2 in
+      let here = all_last (λ (pass : SeenPass). (pass.cells ≡ c.args.self) × (pass.passes ≡ length c.args.passes.items)) c.args.passes.items c.pop.new.self.items c.in-Some.last items c.requires.all.1 in
+      let passes = c.take_in.ensures.knows.0 ∙ (ap (λ (v : View). v.passes) last ∙ here.1) in
+      let same = c.take_in.ensures.knows.1 ∙ (ap (λ (v : View). v.homes) last ∙ all_last (λ (pass : SeenPass). pass.homes ≡ homes) c.args.passes.items c.pop.new.self.items c.in-Some.last items know) in
+      all_free _ (view c.take_in.new.whole) homes c.args.passes.items c.len_as.ensures.rule.1 c.take_in.ensures.whole.1 (omega (arith, held, passes, c.in-Some.ensures.cases)) same
+      (λ weight. c.take_in.ensures.took weight ∙ took_last weight (view c.into_pass-whole.result) c.args.passes.items c.pop.new.self.items c.in-Some.last items (ap (λ (v : View). v.took) last))
+      (λ weight. c.take_in.ensures.put weight ∙ put_last weight (view c.into_pass-whole.result) c.args.passes.items c.pop.new.self.items c.in-Some.last items (ap (λ (v : View). v.put) last));
+}
