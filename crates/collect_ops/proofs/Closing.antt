@@ -19,11 +19,11 @@ use Rattle.collect_ops.specs.declared.view.View.{View}
 use Rattle.collect_ops.specs.declared.view.View.TheVariants as view
 use Rattle.collect_ops.specs.Views.{waits, end_in}
 use Rattle.collect_ops.specs.Rule.{Held, Cells, Claim, free, out, back, claim_word, left_of, ClaimFits, home_of, end_home, DeskHolds}
-use Rattle.collect_ops.specs.Closing.{IsOf, IsUntouched, Closes, ClosesUntouched, Rests, kept_in_slots, kept_from, held_outcome, held_end}
+use Rattle.collect_ops.specs.Closing.{IsOf, IsUntouched, Closes, ClosesUntouched, Rests, kept_in_slots, kept_from, held_outcome, held_end, unclaimed, uncounted}
 use Rattle.collect_ops.proofs.Lists.{within, left_word, claim_word_is}
 use Rattle.collect_ops.proofs.Gather.{home_at}
 use Rattle.collect_ops.proofs.Dealing.{none_before}
-use Rattle.collect_ops.proofs.Claiming.{nobody as unclaimed}
+use Rattle.collect_ops.proofs.Claiming.{nobody as nobody_claimed}
 
 module _ {X : Type 0} where
   -- all arrivals are ready
@@ -156,19 +156,15 @@ module _ {X E : Type 0} where
   abbrev no_slots : List (Held X E)
   no_slots = []
 
-  held_at : (n : ℕ) (slots : List (Held X E)) (h k : Held X E) → get_elem? slots n ≡ maybe.some h → get_elem? slots n ≡ maybe.some k → h ≡ k
-  held_at n slots h k e f = some-injective h k (sym e ∙ f)
-
   -- the end is in its slot where nobody had claimed and some were left
-  pub end_back : (n : ℕ) (end : Option E) (words : List ℕ) (slots : List (Held X E)) (h : Held X E) → Closes n end words slots → slice_index words 1 ≡ 0 → slice_index words 0 ≢ 0 → get_elem? slots n ≡ maybe.some h → held_end h ≡ end
-  end_back n end words slots h c claimed left at = from c.last.0 c.last.1 c.last.2 c.last.4
+  pub end_there : (n : ℕ) (end : Option E) (words : List ℕ) (slots : List (Held X E)) (c : Closes n end words slots) → slice_index words 1 ≡ 0 → slice_index words 0 ≢ 0 → get_elem? slots n ≡ maybe.some (Some (item.End c.ending))
+  end_there n end words slots c claimed left = from c.last.0 c.last.1 c.last.2 c.last.4
     where
-      from : (s : Cells X E) → IsOf n c.ending s → s.words ≡ words → ((k : ℕ) (y : Held X E) → get_elem? s.homes k ≡ maybe.some (maybe.some y) → get_elem? slots k ≡ maybe.some y) → held_end h ≡ end
+      from : (s : Cells X E) → IsOf n c.ending s → s.words ≡ words → ((k : ℕ) (y : Held X E) → get_elem? s.homes k ≡ maybe.some (maybe.some y) → get_elem? slots k ≡ maybe.some y) → get_elem? slots n ≡ maybe.some (Some (item.End c.ending))
       from s (inl (b, size, ending)) ws match =
-          let none = unclaimed b.claim (sym (claim_word_is s.words _ _ b.words) ∙ (ap (λ (l : List ℕ). slice_index l 1) ws ∙ claimed)) in
+          let none = nobody_claimed b.claim (sym (claim_word_is s.words _ _ b.words) ∙ (ap (λ (l : List ℕ). slice_index l 1) ws ∙ claimed)) in
           let wide : length (map (home_of {X = X} {E = E}) b.phases) ≡ n = length-map b.phases (home_of {X = X} {E = E}) ∙ (b.long ∙ size) in
-          let there = match n (Some (item.End c.ending)) (ap (λ hs. get_elem? hs n) b.homes ∙ (at_last (map home_of b.phases) (end_home b.ending b.claim) n wide ∙ (λ i. maybe.some (end_home (ending i) (none i))))) in
-          ap held_end (held_at n slots h (Some (item.End c.ending)) at there) ∙ sym c.same
+          match n (Some (item.End c.ending)) (ap (λ hs. get_elem? hs n) b.homes ∙ (at_last (map home_of b.phases) (end_home b.ending b.claim) n wide ∙ (λ i. maybe.some (end_home (ending i) (none i)))))
       from s (inr (b, size, ending)) ws match = absurd (left (ap (λ (l : List ℕ). slice_index l 0) (sym ws ∙ b.words)))
 
   kept_counts : (ps : List (Phase X)) (hs : List (Held X E)) → ((k : ℕ) (x : X) (found : ℕ) → get_elem? ps k ≡ maybe.some (phase.Kept x found) → get_elem? hs k ≡ maybe.some (Some (item.Outcome x)))
@@ -231,8 +227,13 @@ module _ {X E : Type 0} where
   pub nothing_kept : (n : ℕ) (end : Option E) (words : List ℕ) (slots : List (Held X E)) → ClosesUntouched n end words slots → kept_from 0 n slots ≡ []
   nothing_kept n end words slots c = none_kept n slots c.untouched.empty
 
-  pub end_untouched : (n : ℕ) (end : Option E) (words : List ℕ) (slots : List (Held X E)) (h : Held X E) → ClosesUntouched n end words slots → get_elem? slots n ≡ maybe.some h → held_end h ≡ end
-  end_untouched n end words slots h c at = ap held_end (held_at n slots h (Some (item.End c.ending)) at c.untouched.ending) ∙ sym c.same
+-- the two words of a closed desk
+pub two_words : {X E : Type 0} (n : ℕ) (end : Option E) (words : List ℕ) (slots : List (Held X E)) → Closes n end words slots → words ≡ slice_index words 0 ∷ slice_index words 1 ∷ []
+two_words n end words slots c = from c.last.0 c.last.1 c.last.2
+  where
+    from : (s : Cells _ _) → IsOf n c.ending s → s.words ≡ words → words ≡ slice_index words 0 ∷ slice_index words 1 ∷ []
+    from s (inl (b, size, ending)) ws = subst (λ (l : List ℕ). l ≡ slice_index l 0 ∷ slice_index l 1 ∷ []) (sym b.words ∙ ws) refl
+    from s (inr (b, size, ending)) ws = subst (λ (l : List ℕ). l ≡ slice_index l 0 ∷ slice_index l 1 ∷ []) (sym b.words ∙ ws) refl
 
 -- the next outcome is missing exactly where nothing is left
 pub none_exactly : {A : Type 0} (o : Option A) (before after : List A) → before ≡ option_to_list o ++ after → (IsNone o → after ≡ []) → (IsNone o → before ≡ []) × (before ≡ [] → IsNone o)
@@ -250,3 +251,26 @@ all_taken size at closed r e k lt =
     dite (ℕ_discrete k size)
     (λ same. ap (get_or_false (slots_filled closed.slots)) same ∙ r.end)
     (λ ne. r.taken k (omega arith))
+
+-- the end, and the outcomes, by the two words
+pub no_end_counted : {E : Type 0} (left claimed : ℕ) (end : Option E) → left ≡ 0 → unclaimed left claimed end ≡ None
+no_end_counted left claimed end e = ap (λ n. unclaimed n claimed end) e
+
+pub no_end_claimed : {E : Type 0} (left claimed : ℕ) (end : Option E) → claimed ≢ 0 → unclaimed left claimed end ≡ None
+no_end_claimed zero claimed end ne = refl
+no_end_claimed (suc left) zero end ne = absurd (ne refl)
+no_end_claimed (suc left) (suc claimed) end ne = refl
+
+pub same_end : {X E : Type 0} (n : ℕ) (slots : List (Held X E)) (h k : Held X E) → get_elem? slots n ≡ maybe.some h → get_elem? slots n ≡ maybe.some k → held_end h ≡ held_end k
+same_end n slots h k e f = ap held_end (some-injective h k (sym e ∙ f))
+
+pub end_unclaimed : {E : Type 0} (left claimed : ℕ) (end : Option E) → left ≢ 0 → claimed ≡ 0 → unclaimed left claimed end ≡ end
+end_unclaimed zero claimed end ne e = absurd (ne refl)
+end_unclaimed (suc left) claimed end ne e = ap (λ n. unclaimed (suc left) n end) e
+
+pub none_counted : {X : Type 0} (left : ℕ) (outcomes : List X) → left ≡ 0 → uncounted left outcomes ≡ []
+none_counted left outcomes e = ap (λ n. uncounted n outcomes) e
+
+pub all_uncounted : {X : Type 0} (left : ℕ) (outcomes : List X) → left ≢ 0 → uncounted left outcomes ≡ outcomes
+all_uncounted zero outcomes ne = absurd (ne refl)
+all_uncounted (suc left) outcomes ne = refl

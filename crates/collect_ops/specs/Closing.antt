@@ -1,5 +1,5 @@
 -- What a desk hands out when it is closed.
-use Rattle.std.specs.Prelude.{◌≡◌, ◌⊎◌, ℕ, ◌+◌, ◌<◌, ◌≤◌, true, false, List, [], ◌∷◌, take, drop, slice_index_or, Option, Some, None}
+use Rattle.std.specs.Prelude.{◌≡◌, ◌⊎◌, ℕ, zero, suc, ◌+◌, ◌<◌, ◌≤◌, true, false, List, [], ◌∷◌, take, drop, slice_index_or, Option, Some, None}
 use Rattle.std.specs.Slots.{slots_len, slots_items, slots_filled}
 use mathlib.Core.Option as maybe
 use lib.ListN.{get_elem?}
@@ -9,6 +9,17 @@ use Rattle.collect_ops.specs.declared.view.Ending.{Ending}
 use Rattle.collect_ops.specs.declared.view.Item.TheVariants as item
 use Rattle.collect_ops.specs.Seen.{DeskId, KeptSeen}
 use Rattle.collect_ops.specs.Rule.{Held, Cells, Gathering, Full}
+
+-- the end, where some arrivals were left and nobody had claimed: else an arrival got it
+abbrev pub unclaimed : {E : Type 0} → ℕ → ℕ → Option E → Option E
+unclaimed zero claimed end = None
+unclaimed (suc left) zero end = end
+unclaimed (suc left) (suc claimed) end = None
+
+-- the outcomes, where some arrivals were left: else the last one got them
+abbrev pub uncounted : {X : Type 0} → ℕ → List X → List X
+uncounted zero outcomes = []
+uncounted (suc left) outcomes = outcomes
 
 module _ {X E : Type 0} where
   -- the outcome in a slot, if it has one
@@ -73,5 +84,7 @@ module _ {X E : Type 0} where
   pub record EndsAs (desk : DeskId E) (kept : KeptSeen X E) : Type 0 where
     pub slots : List (Held X E)
     pub closes : Closes desk.size desk.end (kept.left ∷ kept.claimed ∷ []) slots
-    pub outcomes : kept.outcomes ≡ kept_from 0 desk.size slots
-    pub end : (h : Held X E) → get_elem? slots desk.size ≡ maybe.some h → kept.end ≡ held_end h
+    pub outcomes : kept.outcomes ≡ uncounted kept.left (kept_from 0 desk.size slots)
+    pub held : Held X E
+    pub in_last : get_elem? slots desk.size ≡ maybe.some held
+    pub end : kept.end ≡ unclaimed kept.left kept.claimed (held_end held)

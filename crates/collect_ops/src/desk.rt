@@ -1,5 +1,5 @@
 //! A desk: the memory in which outcomes are gathered.
-ghost use Rattle.std.specs.Prelude.{◌≡◌, ◌≢◌, ◌↔◌, ◌+◌, ◌≤◌, true, false, [], length, IfOk, IfErr, IsErr};
+ghost use Rattle.std.specs.Prelude.{◌≡◌, ◌≢◌, ◌↔◌, ◌+◌, ◌≤◌, true, false, None, [], length, IfOk, IfErr, IsErr};
 
 use crate::arrival::Arrivals;
 use crate::kept::{self, Kept};
@@ -117,11 +117,14 @@ impl<X, E, K> Desk<X, E, K> {
         Ok(Arrivals::new(&self.table.shared, seat, size))
     }
 
-    /// Gives the memory back, and hands out what was kept and never handed out, and the end where nothing completed. Of
-    /// an outcome whose arrival was in the middle of its call nothing is said: no call can be, unless it was forgotten.
+    /// Gives the memory back, and hands out what was kept and never handed out, and the end where nothing completed.
+    /// Where somebody has claimed there is no end, and where none is left there is nothing. Of an outcome whose arrival
+    /// was in the middle of its call nothing is said: no call can be, unless it was forgotten.
     pub fn close(self) -> Kept<Desk<X, E, K>>
         ensures size { result.size ≡ self.desk.size }
         ensures untaken { self.taken ≡ false → (result.outcomes ≡ []) × (result.end ≡ self.desk.end) }
+        ensures counted { result.left ≡ 0 → (result.outcomes ≡ []) × (result.end ≡ None) }
+        ensures claimed { result.claimed ≢ 0 → result.end ≡ None }
         ensures end { result.claimed ≡ 0 → result.left ≢ 0 → result.end ≡ self.desk.end }
         ensures kept { result.left ≢ 0 → self.desk.size ≤ length result.outcomes + result.left }
         ensures ended { EndsAs self.desk result }
@@ -133,8 +136,6 @@ impl<X, E, K> Desk<X, E, K> {
             size,
             kind: _,
         } = self;
-        let mut slots = kept::closed(table, owner, dealer, size);
-        let end = kept::end_of(slots.take(size));
-        Kept::new(slots, size, end)
+        Kept::of(kept::closed(table, owner, dealer, size), size)
     }
 }

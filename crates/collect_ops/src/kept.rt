@@ -1,12 +1,16 @@
 //! What a desk hands out when it is closed.
 ghost use Rattle.std.specs.Prelude.{◌≡◌, ◌↔◌, ◌+◌, ◌≤◌, [], ◌++◌, slice_index, option_to_list, IsSome, IsNone};
 ghost use Rattle.std.specs.Slots.{slots_len, slots_items, IsFull};
-ghost use Rattle.collect_ops.specs.Closing.{Rests, SameSlots, kept_from, held_outcome, held_end, Closes, ClosesUntouched};
+ghost use mathlib.Core.Option.{some};
+ghost use lib.ListN.{get_elem?};
+ghost use Rattle.collect_ops.specs.Rule.{Held};
+ghost use Rattle.collect_ops.specs.Closing.{Rests, SameSlots, kept_from, held_outcome, held_end, unclaimed, uncounted, Closes, ClosesUntouched};
 ghost use Rattle.collect_ops.specs.Steps.{IsDesk, IsOwner, HasDealer};
 ghost use Rattle.collect_ops.specs.Views.{end_in};
 
 use crate::desk::{Gathers, Memories};
 use crate::rule::Place;
+use crate::steps::{CLAIM, LEFT};
 use crate::view::{Ending, Item};
 use atomic_table::Closed;
 use std::alloc::Global;
@@ -48,7 +52,7 @@ pub(crate) fn closed<X, E>(
     requires some { 1 ≤ size }
     requires owner { IsOwner size table.shared.table_id owner }
     requires dealer { HasDealer size table.shared.table_id owner.me.0 dealer }
-    ensures long { slots_len result.slots ≡ size + 1 }
+    ensures counts { (slots_len result.words ≡ 2) × (slots_len result.slots ≡ size + 1) }
     ensures full { IsFull result.words × IsFull result.slots }
     ensures last { Closes size (end_in owner.me.0) (slots_items result.words) (slots_items result.slots) }
     ensures untouched { IsSome dealer → ClosesUntouched size (end_in owner.me.0) (slots_items result.words) (slots_items result.slots) }
@@ -79,7 +83,7 @@ fn outcome_of<X, E>(item: Option<Item<X, E>>) -> Option<X>
 }
 
 // The end in the slot of the end.
-pub(crate) fn end_of<X, E>(item: Option<Item<X, E>>) -> Option<E>
+fn end_of<X, E>(item: Option<Item<X, E>>) -> Option<E>
     ensures { result ≡ held_end item }
 {
     match item {
@@ -94,6 +98,39 @@ pub(crate) fn end_of<X, E>(item: Option<Item<X, E>>) -> Option<E>
         }
         None => None,
     }
+}
+
+// The end comes out where some arrivals were left and nobody had claimed. Else an arrival got it.
+fn if_unclaimed<E>(end: Option<E>, left: u64, claimed: u64) -> Option<E>
+    ensures { result ≡ unclaimed left claimed end }
+{
+    if left == 0 {
+        leak(end);
+        return None;
+    }
+    if claimed != 0 {
+        leak(end);
+        return None;
+    }
+    end
+}
+
+// The first slot whose outcome comes out. Where no arrival was left, the last one got all of them.
+fn first_slot<X, E>(slots: &mut Slots<X, E>, size: usize, left: u64) -> usize
+    requires { Rests 0 size slots.old }
+    ensures rests { Rests result size slots.new }
+    ensures same { SameSlots slots.old slots.new }
+    ensures outcomes { kept_from result size (slots_items slots.old.slots) ≡ uncounted left (kept_from 0 size (slots_items slots.old.slots)) }
+{
+    if left != 0 {
+        return 0;
+    }
+    let mut at = 0;
+    while at < size {
+        leak(slots.take(at));
+        at += 1;
+    }
+    at
 }
 
 // The room is empty, but where the slot was that of an arrival: then nothing is known of it.
@@ -136,13 +173,24 @@ fn free<X, E>(mut slots: Slots<X, E>, from: usize, size: usize)
 }
 
 impl<D: Gathers> Kept<D> {
-    pub(crate) fn new(slots: Slots<D::Kept, D::End>, size: usize, end: Option<D::End>) -> Kept<D>
-        requires { Rests 0 size slots }
-        ensures { result ≡ record { size = size; left = slice_index (slots_items slots.words) 0; claimed = slice_index (slots_items slots.words) 1; outcomes = kept_from 0 size (slots_items slots.slots); end = end } }
+    /// What comes out of the slots of a closed desk.
+    pub(crate) fn of(slots: Slots<D::Kept, D::End>, size: usize) -> Kept<D>
+        requires counts { (slots_len slots.words ≡ 2) × (slots_len slots.slots ≡ size + 1) }
+        requires full { IsFull slots.words × IsFull slots.slots }
+        ensures size { result.size ≡ size }
+        ensures left { result.left ≡ slice_index (slots_items slots.words) 0 }
+        ensures claimed { result.claimed ≡ slice_index (slots_items slots.words) 1 }
+        ensures outcomes { result.outcomes ≡ uncounted result.left (kept_from 0 size (slots_items slots.slots)) }
+        ensures end { (h : Held D.Kept D.End) × (get_elem? (slots_items slots.slots) size ≡ some h) × (result.end ≡ unclaimed result.left result.claimed (held_end h)) }
     {
+        let mut slots = slots;
+        let left = slots.word(LEFT);
+        let claimed = slots.word(CLAIM);
+        let end = if_unclaimed(end_of(slots.take(size)), left, claimed);
+        let next = first_slot(&mut slots, size, left);
         Kept {
             slots,
-            next: 0,
+            next,
             size,
             end,
         }

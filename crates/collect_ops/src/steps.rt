@@ -18,9 +18,11 @@ use crate::rule::{
 };
 use crate::view::{Ending, Item, Phase, View};
 
-const LEFT: usize = 0;
+/// The word of how many are left.
+pub(crate) const LEFT: usize = 0;
 
-const CLAIM: usize = 1;
+/// The word that an arrival claims by.
+pub(crate) const CLAIM: usize = 1;
 
 // Puts an item into the empty slot that the seat took last.
 fn put<X, E>(table: &Cells<X, E>, seat: &mut Place<X, E>, slot: usize, item: Item<X, E>)
