@@ -31,6 +31,7 @@ pub trait Proxy<T, C> {
 }
 
 /// The proxy of a core that never has one: there is no value of this type.
+#[derive(Drop)]
 pub enum NoProxy {}
 
 impl<T, C> Proxy<T, C> for NoProxy {
