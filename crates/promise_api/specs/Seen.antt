@@ -18,7 +18,7 @@ pub record SeenChain (K : Type 0) : Type 0 where
 
 -- the two halves of the core that a key begins with this number
 abbrev pub producer_of : SeenKey → ℕ → SeenProducer
-producer_of key number = record { home = key.home; use_number = key.use_number; no = number; sight = seen.Unseen }
+producer_of key number = record { home = key.home; use_number = key.use_number; no = number; sight = seen.Unseen; looks = 0 }
 
 abbrev pub consumer_of : SeenKey → ℕ → SeenConsumer
 consumer_of key number = record { home = key.home; use_number = key.use_number; no = number }
