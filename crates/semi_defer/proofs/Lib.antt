@@ -1,0 +1,5 @@
+pub mod Sides
+pub mod Slots
+pub mod Acting
+pub mod Beginning
+pub mod Endings
