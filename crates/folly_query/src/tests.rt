@@ -227,3 +227,123 @@ fn a_generated_input_is_summed_up_over_each_number_of_shards(rt: HostRuntime) ->
     }
     Ok(())
 }
+
+// The run over two documents and one query, with this source and sink: its status, and what was written.
+fn red(alloc: Global, mut source: MemSource, mut sink: MemSink) -> Result<(Status, Vec<u8>), Fail> {
+    let status = status_of(alloc, "run", &mut source, &mut sink)?;
+    Ok((status, sink.bytes().to_vec(alloc)?))
+}
+
+#[test]
+fn a_read_fails_at_each_call(rt: HostRuntime) -> Result<(), Fail> {
+    let alloc = rt.alloc();
+    for call in 0..8 {
+        let input = Vec::from_slice(alloc, RED.as_bytes())?;
+        let source = MemSource::new(input, 5, vec![in alloc; call; 1]?);
+        let sink = MemSink::new(alloc, 100, 10, Vec::new(alloc))?;
+        let (status, written) = red(alloc, source, sink)?;
+        assert_eq!(rt; status, Status::ReadFault, "{call}");
+        assert!(rt; written.is_empty());
+    }
+    Ok(())
+}
+
+#[test]
+fn a_write_fails_at_each_byte(rt: HostRuntime) -> Result<(), Fail> {
+    let alloc = rt.alloc();
+    let output = b"1 find 2: 4 7\n".as_slice();
+    for size in 0..output.len() {
+        let input = Vec::from_slice(alloc, RED.as_bytes())?;
+        let source = MemSource::new(input, 100, Vec::new(alloc));
+        let sink = MemSink::new(alloc, 100, 1, vec![in alloc; size as u64; 1]?)?;
+        let (status, written) = red(alloc, source, sink)?;
+        assert_eq!(rt; status, Status::WriteFault, "{size}");
+        assert_eq!(rt; written.as_slice(), &output[..size]);
+        let input = Vec::from_slice(alloc, RED.as_bytes())?;
+        let source = MemSource::new(input, 100, Vec::new(alloc));
+        let sink = MemSink::new(alloc, size, 10, Vec::new(alloc))?;
+        let (status, written) = red(alloc, source, sink)?;
+        assert_eq!(rt; status, Status::WriteFault, "{size}");
+        assert_eq!(rt; written.as_slice(), &output[..size]);
+    }
+    Ok(())
+}
+
+#[test]
+fn an_error_line_is_cut(rt: HostRuntime) -> Result<(), Fail> {
+    let alloc = rt.alloc();
+    let input = Vec::from_slice(alloc, b"find (a | b\n")?;
+    let mut source = MemSource::new(input, 100, Vec::new(alloc));
+    let mut sink = MemSink::new(alloc, 5, 10, Vec::new(alloc))?;
+    let status = status_of(alloc, "run", &mut source, &mut sink)?;
+    assert_eq!(rt; status.number(), 3);
+    assert_eq!(rt; sink.bytes(), b"error".as_slice());
+    Ok(())
+}
+
+#[test]
+fn nothing_is_read_behind_a_failed_read(rt: HostRuntime) -> Result<(), Fail> {
+    let alloc = rt.alloc();
+    let input = Vec::from_slice(alloc, RED.as_bytes())?;
+    let mut source = MemSource::new(input, 5, Vec::from_slice(alloc, &[1])?);
+    let mut sink = MemSink::new(alloc, 1000, 1000, Vec::new(alloc))?;
+    let status = status_of(alloc, "run", &mut source, &mut sink)?;
+    assert_eq!(rt; status, Status::ReadFault);
+    let mut left = [0; 5];
+    assert_eq!(rt; source.read(&mut left), Ok(5));
+    assert_eq!(rt; left.as_slice(), b" red ".as_slice());
+    Ok(())
+}
+
+#[test]
+fn too_many_tasks(rt: HostRuntime) -> Result<(), Fail> {
+    let alloc = rt.alloc();
+    let mut input = String::new(alloc);
+    for _ in 0..4_097 {
+        input.push_str("count a\n")?;
+    }
+    let mut source = MemSource::new(input.into_bytes(), 70_000, Vec::new(alloc));
+    let mut sink = MemSink::new(alloc, 1000, 1000, Vec::new(alloc))?;
+    let status = status_of(alloc, "run --shards 64", &mut source, &mut sink)?;
+    assert_eq!(rt; status.number(), 3);
+    let wanted = b"error line 4097: too many tasks\n".as_slice();
+    assert_eq!(rt; sink.bytes(), wanted);
+    Ok(())
+}
+
+#[test]
+fn one_hundred_ids_are_listed(rt: HostRuntime) -> Result<(), Fail> {
+    let alloc = rt.alloc();
+    let mut input = String::new(alloc);
+    let mut output = String::from_str(alloc, "1 find 101:")?;
+    for id in 0..101 {
+        input.push_str(format!(in alloc; "doc {id} w\n")?.as_str())?;
+        if id < 100 {
+            output.push_str(format!(in alloc; " {id}")?.as_str())?;
+        }
+    }
+    input.push_str("find w\n")?;
+    output.push_str("\n")?;
+    let mut source = MemSource::new(input.into_bytes(), 70_000, Vec::new(alloc));
+    let mut sink = MemSink::new(alloc, 1000, 1000, Vec::new(alloc))?;
+    let status = status_of(alloc, "run", &mut source, &mut sink)?;
+    assert_eq!(rt; status, Status::Done);
+    assert_eq!(rt; sink.bytes(), output.as_bytes());
+    Ok(())
+}
+
+// One comment of so many bytes: the status that it comes to, and how many bytes are written.
+fn comment_of(alloc: Global, size: usize) -> Result<(Status, usize), Fail> {
+    let input = vec![in alloc; b'#'; size]?;
+    let mut source = MemSource::new(input, 70_000, Vec::new(alloc));
+    let mut sink = MemSink::new(alloc, 1000, 1000, Vec::new(alloc))?;
+    let status = status_of(alloc, "run", &mut source, &mut sink)?;
+    Ok((status, sink.bytes().len()))
+}
+
+#[test]
+fn largest_input_and_one_byte_more(rt: HostRuntime) -> Result<(), Fail> {
+    assert_eq!(rt; comment_of(rt.alloc(), 67_108_864)?, (Status::Done, 0));
+    assert_eq!(rt; comment_of(rt.alloc(), 67_108_865)?, (Status::TooLarge, 0));
+    Ok(())
+}
