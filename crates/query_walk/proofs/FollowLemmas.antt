@@ -1,5 +1,5 @@
 -- A walk that goes on follows the progress.
-use Rattle.std.proofs.Common.{◌≡◌, ℕ, ◌+◌, List, [], ◌∷◌, ◌++◌, not, Result, Ok, Err, OnOk, refl, sym, ap, ◌∙◌}
+use Rattle.std.proofs.Common.{◌≡◌, ℕ, ◌+◌, List, ◌++◌, not, Result, Ok, Err, OnOk, sym, ap, ◌∙◌}
 use Rattle.std.specs.Prelude.{filter, map}
 use Rattle.std.proofs.lemmas.Grind.{flat_map-append}
 use Rattle.query_model.specs.declared.line.Line.TheVariants as line
