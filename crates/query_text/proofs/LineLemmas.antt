@@ -1,15 +1,13 @@
 -- What a line gives, step by step.
-use Rattle.std.proofs.Common.{◌≡◌, ℕ, ◌+◌, ◌<◌, ◌≤◌, List, length, take, true, Option, Some, ◌⊎◌, inl, inr, Result, Ok, Err, refl, sym, ap, ◌∙◌, subst, arith}
+use Rattle.std.proofs.Common.{◌≡◌, ℕ, ◌<◌, ◌≤◌, List, length, take, true, Some, ◌⊎◌, inl, inr, Result, Ok, Err, refl, sym, ap, ◌∙◌, subst, arith}
 use Rattle.std.specs.Prelude.{map}
 use Rattle.std.specs.Char.{to_ascii_lowercase}
 use Rattle.std.specs.List.{list_all}
 use Rattle.std.proofs.lemmas.Bool.{cases_lt}
 use Rattle.std.proofs.lemmas.List.{take_all, length-take-le}
 use Rattle.query_grammar.specs.declared.token.Token.{Token}
-use Rattle.query_grammar.specs.declared.fault.ExprFault.{ExprFault}
 use Rattle.query_grammar.specs.declared.fault.ExprFault.TheVariants as expr
 use Rattle.query_grammar.specs.Tree.{Tree}
-use Rattle.query_grammar.specs.Faults as grammar
 use Rattle.query_model.specs.declared.line.Line.{Line}
 use Rattle.query_model.specs.declared.line.Line.TheVariants as line
 use Rattle.query_model.specs.declared.line.Ask.{Ask}
@@ -18,12 +16,12 @@ use Rattle.query_model.specs.declared.fault.BadKind.{BadKind}
 use Rattle.query_model.specs.declared.fault.BadKind.TheVariants.{BadByte}
 use Rattle.query_model.specs.Results.{◌>>=◌, check}
 use Rattle.query_model.specs.Pieces.{Bytes, fields, is_printable}
-use Rattle.query_model.specs.Expressions.{GivesTree, kind_of, tokens_of}
+use Rattle.query_model.specs.Expressions.{GivesTree, tokens_of}
 use Rattle.query_model.specs.ByFacts.{IsTickLine}
 use Rattle.query_model.specs.Lines as model
 use Rattle.query_text.specs.declared.fault.LineFault.{LineFault}
 use Rattle.query_text.specs.declared.fault.LineFault.TheVariants as fault
-use Rattle.query_text.specs.Outcomes.{FailsBy, Gives, GivesBy}
+use Rattle.query_text.specs.Outcomes.{FailsBy, GivesBy}
 use Rattle.query_text.specs.Sayings.{GivesAskBy, GivesTreeBy, first_tokens, most_kept}
 use Rattle.query_text.specs.Tracks.{HasRoom}
 

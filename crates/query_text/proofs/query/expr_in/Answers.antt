@@ -1,4 +1,4 @@
-use Rattle.std.proofs.Common.{◌≡◌, Ok, ap, ◌∙◌, sym}
+use Rattle.std.proofs.Common.{Ok, ap, ◌∙◌, sym}
 use Rattle.query_text.proofs.LineLemmas.{tree_by_first}
 use Rattle.query_text.proofs.query.expr_in.Goals as goal
 

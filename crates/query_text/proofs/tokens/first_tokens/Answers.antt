@@ -1,4 +1,4 @@
-use Rattle.std.proofs.Common.{rules, ◌≡◌, [], ◌∷◌, ap, sym, ◌∙◌, refl}
+use Rattle.std.proofs.Common.{rules, ◌≡◌, [], ap, sym, ◌∙◌}
 use Rattle.query_model.specs.Expressions.{parts, parts_of}
 use Rattle.query_text.specs.Sayings.{tokens_behind}
 use Rattle.query_text.proofs.TokenLemmas.{tokens_ok, tokens_none, first_of_parts}

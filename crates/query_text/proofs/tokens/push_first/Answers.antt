@@ -1,4 +1,4 @@
-use Rattle.std.proofs.Common.{◌≡◌, ◌<◌, ◌≤◌, length, [], ◌∷◌, ◌++◌, take, sym, ◌∙◌, arith, length-append}
+use Rattle.std.proofs.Common.{◌∙◌, arith}
 use Rattle.query_text.proofs.TokenLemmas.{one_kept, none_kept}
 use Rattle.query_text.proofs.tokens.push_first.Goals as goal
 

@@ -1,4 +1,4 @@
-use Rattle.std.proofs.Common.{OnOk, ◌≡◌, ◌++◌, ap, ◌∙◌, subst}
+use Rattle.std.proofs.Common.{OnOk, ◌≡◌, ◌++◌, subst}
 use Rattle.std.specs.Prelude.{codes}
 use Rattle.std.specs.Fmt.{decimal}
 use Rattle.query_text.specs.Writing.{behind_spaces}
