@@ -46,12 +46,15 @@ pub record Stands (shard : Shard) : Type 0 where
   pub number : ℕ
   pub stands : StandsFor shard docs shards number
 
+abbrev pub how_many : Shards → ℕ
+how_many all = length all.shards.items
+
 -- there is a shard at least, each stands for the part of these documents with its number, and places fit a u32
 pub record StandForAll (all : Shards) (docs : List Doc) : Type 0 where
-  pub some : 0 < length all.shards.items
+  pub some : 0 < how_many all
   pub docs_are : all.docs ≡ length docs
   pub few : length docs < 2 ^ 32
-  pub each : (number : ℕ) (shard : Shard) → number < length all.shards.items → StandsFor (get_or all.shards.items number shard) docs (length all.shards.items) number
+  pub each : (number : ℕ) (shard : Shard) → number < how_many all → StandsFor (get_or all.shards.items number shard) docs (how_many all) number
 
 -- the shards are those of some documents
 pub record StandForSome (all : Shards) : Type 0 where

@@ -128,7 +128,8 @@ impl Index {
         requires differ { DifferentWords words.now }
         requires many { length weights.now ≡ length words.now }
         requires low { All (λ weight. weight < 2 ^ 32) weights.now }
-        ensures { (docs : List Doc) → Indexes self.now docs → IfOk result (λ scores. scores ≡ weighted_top k words.now weights.now (take front docs)) }
+        ensures { (docs : List Doc) → Indexes self.now docs
+            → IfOk result (λ scores. scores ≡ weighted_top k words.now weights.now (take front docs)) }
     {
         let totals = self.totals(alloc, front, words, weights)?;
         first_scores(alloc, &self.ids[..front], totals.as_slice(), k)
@@ -147,7 +148,8 @@ impl Index {
         requires differ { DifferentWords words.now }
         requires many { length weights.now ≡ length words.now }
         requires low { All (λ weight. weight < 2 ^ 32) weights.now }
-        ensures { (docs : List Doc) → Indexes self.now docs → IfOk result (λ totals. totals.items ≡ map (weighted_score (zip words.now weights.now)) (take front docs)) }
+        ensures { (docs : List Doc) → Indexes self.now docs
+            → IfOk result (λ totals. totals.items ≡ map (weighted_score (zip words.now weights.now)) (take front docs)) }
     {
         let mut totals = zeros(alloc, front)?;
         for i in 0..words.len() {

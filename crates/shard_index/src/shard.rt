@@ -93,8 +93,10 @@ impl Shard {
     /// How many of its documents stand at places below `before`.
     fn front(&self, before: u32) -> usize
         requires { Stands self.now }
-        ensures within { (docs : List Doc) (shards number : ℕ) → StandsFor self.now docs shards number → result ≤ length (part_of docs shards number) }
-        ensures front { (docs : List Doc) (shards number : ℕ) → StandsFor self.now docs shards number → take result (part_of docs shards number) ≡ part_before docs shards number before }
+        ensures within { (docs : List Doc) (shards number : ℕ) → StandsFor self.now docs shards number →
+            result ≤ length (part_of docs shards number) }
+        ensures front { (docs : List Doc) (shards number : ℕ) → StandsFor self.now docs shards number →
+            take result (part_of docs shards number) ≡ part_before docs shards number before }
     {
         part_is_told_by_places();
         let behind = before.saturating_sub(self.number) as usize;

@@ -4,7 +4,7 @@ ghost use Rattle.query_model.specs.Answers.{answer, each_once, hits_of, top_of, 
 ghost use Rattle.query_model.specs.Parts.{part_before, weighted_top};
 ghost use Rattle.shard_index.specs.Counting.{counts_of, DifferentWords};
 ghost use Rattle.shard_index.specs.Parts.{by_shard};
-ghost use Rattle.shard_index.specs.Standing.{AreShort, StandForAll, StandForSome};
+ghost use Rattle.shard_index.specs.Standing.{AreShort, how_many, StandForAll, StandForSome};
 
 use crate::counts::Counts;
 use crate::laws::{merged_hits_are_the_whole, merged_scores_are_the_whole};
@@ -71,7 +71,7 @@ impl Shards {
     fn find_in_each(&self, e: &Expr, before: u32) -> Result<Vec<Hits>, Memory>
         requires { StandForSome self.now }
         ensures { (docs : List Doc) → StandForAll self.now docs → IfOk result (λ parts. parts.items
-            ≡ by_shard (λ number. hits_of e.now (part_before docs (length self.now.shards.items) number before)) (length self.now.shards.items)) }
+            ≡ by_shard (λ number. hits_of e.now (part_before docs (how_many self.now) number before)) (how_many self.now)) }
     {
         let mut parts = Vec::new(self.alloc);
         for number in 0..self.shards.len() {
@@ -95,7 +95,8 @@ impl Shards {
     /// The weights of words among the first documents.
     fn weights(&self, words: &Words, before: u32) -> Result<Vec<u64>, Memory>
         requires { StandForSome self.now }
-        ensures { (docs : List Doc) → StandForAll self.now docs → IfOk result (λ weights. weights.items ≡ map (weight_of (take before docs)) words.now) }
+        ensures { (docs : List Doc) → StandForAll self.now docs
+            → IfOk result (λ weights. weights.items ≡ map (weight_of (take before docs)) words.now) }
     {
         merged_scores_are_the_whole();
         let parts = self.count_in_each(words, before)?;
@@ -107,7 +108,7 @@ impl Shards {
     fn count_in_each(&self, words: &Words, before: u32) -> Result<Vec<Counts>, Memory>
         requires { StandForSome self.now }
         ensures { (docs : List Doc) → StandForAll self.now docs → IfOk result (λ parts. parts.items
-            ≡ by_shard (λ number. counts_of words.now (part_before docs (length self.now.shards.items) number before)) (length self.now.shards.items)) }
+            ≡ by_shard (λ number. counts_of words.now (part_before docs (how_many self.now) number before)) (how_many self.now)) }
     {
         let mut parts = Vec::new(self.alloc);
         for number in 0..self.shards.len() {
@@ -129,7 +130,7 @@ impl Shards {
         requires many { length weights.now ≡ length words.now }
         requires low { All (λ weight. weight < 2 ^ 32) weights.now }
         ensures { (docs : List Doc) → StandForAll self.now docs → IfOk result (λ parts. parts.items
-            ≡ by_shard (λ number. weighted_top k words.now weights.now (part_before docs (length self.now.shards.items) number before)) (length self.now.shards.items)) }
+            ≡ by_shard (λ number. weighted_top k words.now weights.now (part_before docs (how_many self.now) number before)) (how_many self.now)) }
     {
         let mut parts = Vec::new(self.alloc);
         for number in 0..self.shards.len() {
