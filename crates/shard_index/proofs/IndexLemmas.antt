@@ -1,8 +1,7 @@
 -- An index of one more document, and what it tells of its first documents.
 use Rattle.std.proofs.Common.{◌≡◌, ℕ, suc, ◌+◌, ◌-◌, ◌*◌, ◌<◌, ◌≤◌, ◌^◌, List, [], ◌∷◌, ◌++◌, length, Bool, true, false, cond, get_or, replicate, refl, sym, ap, ◌∙◌, subst, arith, take, map, zip, append-nil, zero-add}
-use Rattle.std.specs.List.{All, AllByRecursion, count_by}
+use Rattle.std.specs.List.{All, AllByRecursion}
 use Rattle.std.proofs.lemmas.List.{length-map, take-map, length-take-le}
-use Rattle.std.proofs.lemmas.List.Sums.{length-filter}
 use Rattle.fan_base.specs.declared.doc.Doc.{Doc}
 use Rattle.fan_base.specs.declared.word.Word.{Word}
 use Rattle.query_grammar.specs.Tree.{Tree}
@@ -11,7 +10,7 @@ use Rattle.query_model.specs.Answers.{having, hits_of, ranked, times_in}
 use Rattle.query_model.specs.Parts.{weighted_score, weighted_top}
 use Rattle.shard_index.specs.declared.index.Index.{Index}
 use Rattle.shard_index.specs.Counting.{DifferentWords}
-use Rattle.shard_index.specs.Places.{front_of, has_word, holds_in, places_from, places_where, repeats_of}
+use Rattle.shard_index.specs.Places.{front_of, has_word, holds_in, places_where, repeats_of}
 use Rattle.shard_index.specs.Postings.{Noted, is_last, noted_for, with_words}
 use Rattle.shard_index.specs.Selections.{hits_where}
 use Rattle.shard_index.specs.Standing.{Indexes}
@@ -90,13 +89,6 @@ unfolding hits_of
 hits-are-of e docs = refl
 
 -- counts
-
-pub none-places : (place : ℕ) (docs : List Doc) → [] ≡ places_from place (λ _. false) docs
-none-places place [] = refl
-none-places place (d ∷ ds) = none-places (place + 1) ds
-
-pub count-places : (test : Doc → Bool) (docs : List Doc) (places : List ℕ) → places ≡ places_where test docs → length places ≡ count_by test docs
-count-places test docs places is = ap length is ∙ (length-places 0 test docs ∙ length-filter test docs)
 
 pub count-having : (w : Word) (docs : List Doc) (places : List ℕ) → places ≡ places_where (has_word w) docs → length places ≡ length (having w docs)
 count-having w docs places is = ap length is ∙ length-places 0 (has_word w) docs

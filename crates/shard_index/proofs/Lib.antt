@@ -10,3 +10,4 @@ mod ScoreLemmas
 mod PartLemmas
 mod IndexLemmas
 mod MergeLemmas
+mod MarkLemmas

@@ -11,8 +11,9 @@ ghost use Rattle.shard_index.specs.Standing.{HasRoom, Indexes};
 use crate::counts::Counts;
 use crate::front::below;
 use crate::hits::hits;
+use crate::marks::{count_marks, mark_at, no_marks};
 use crate::postings::{Postings, note_words, places_with, repeats_with};
-use crate::selection::{Listed, Selection, all, both};
+use crate::selection::{Listed, Selection, both};
 use crate::totals::{add_at, first_scores, zeros};
 use fan_base::{Doc, Numbers, Scores, Word};
 use query_grammar::{Expr, Node};
@@ -99,18 +100,20 @@ impl Index {
 
     /// Of how many documents each word is one, and how many have one of them.
     pub fn counts(&self, alloc: Global, front: usize, words: &[Word]) -> Result<Counts, AllocError>
+        requires docs { (docs : List Doc) × Indexes self.now docs }
+        requires front { front ≤ length self.now.ids.items }
         ensures { (docs : List Doc) → Indexes self.now docs → IfOk result (λ counts. counts ≡ counts_of words.now (take front docs)) }
     {
         let mut with = Vec::new(alloc);
-        let mut any = Listed::Made(Vec::new(alloc));
+        let mut marks = no_marks(alloc, front)?;
         for word in words {
-            let places = Listed::Lent(below(places_with(&self.postings, word), front));
-            with.push(places.places().len() as u64)?;
-            any = all(alloc, &any, &places)?;
+            let places = below(places_with(&self.postings, word), front);
+            with.push(places.len() as u64)?;
+            mark_at(&mut marks, places);
         }
         Ok(Counts {
             with: Numbers::from_vec(with),
-            any: any.places().len() as u64,
+            any: count_marks(marks.as_slice()),
         })
     }
 

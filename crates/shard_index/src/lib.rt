@@ -15,6 +15,7 @@ mod hits;
 mod index;
 mod join;
 mod laws;
+mod marks;
 mod merge;
 mod once;
 mod postings;

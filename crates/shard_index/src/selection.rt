@@ -90,7 +90,7 @@ pub fn without<'a>(alloc: Global, a: &Listed<'_>, b: &Listed<'_>) -> Result<List
 }
 
 /// The places that one of the lists has, or both.
-pub fn all<'a>(alloc: Global, a: &Listed<'_>, b: &Listed<'_>) -> Result<Listed<'a>, AllocError>
+fn all<'a>(alloc: Global, a: &Listed<'_>, b: &Listed<'_>) -> Result<Listed<'a>, AllocError>
     ensures { (p q : Doc → Bool) (docs : List Doc) → places_listed a.now ≡ places_where p docs → places_listed b.now ≡ places_where q docs
         → IfOk result (λ listed. places_listed listed ≡ places_where (λ doc. p doc || q doc) docs) }
 {
