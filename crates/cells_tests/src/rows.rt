@@ -153,10 +153,7 @@ impl<'c, 'h> Worker<'c, 'h> {
     }
 }
 
-type Made<'h> = (
-    Cells<'h, u64, u64, u64>,
-    Vec<CellPass<'h, u64, u64, u64>>,
-);
+type Made<'h> = (Cells<'h, u64, u64, u64>, Vec<CellPass<'h, u64, u64, u64>>);
 
 fn cells_over<'h>(
     rt: &impl Wait,
