@@ -96,7 +96,7 @@ fn call_both<L: Ledger>(
     let id = draw(seed) % 20_000;
     match draw(seed) % 8 {
         0 => tick_both(wheel, plain, steps),
-        1 | 2 => {
+        1 => {
             if wheel.cancel(id) != plain.cancel(id) {
                 return differ(plain.now);
             }
