@@ -1,0 +1,15 @@
+//! Callers of the runtime, each as short as a user would write it: a promise and its future, a continuation on an executor, a
+//! proxy, a core by hand. `docs/LIBRARY.md` goes through them. They are proved and tested, and nothing stands on them.
+#![tactic(auto)]
+
+mod chained;
+mod halves;
+mod promised;
+mod proxied;
+#[cfg(test)]
+mod tests;
+
+pub use chained::{Arrived, Double, Doubling, DoublingJob, double_value};
+pub use halves::{Handed, consume, hand_over, produce};
+pub use promised::{Answer, answered, keep};
+pub use proxied::ask_another;
