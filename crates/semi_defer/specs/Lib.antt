@@ -6,3 +6,4 @@ pub mod Steps
 pub mod Seen
 pub mod Answers
 pub mod Closing
+pub mod Deferring

@@ -11,6 +11,14 @@
 //!                        Holder --set_executor(e)--> the job that was kept, to run on e, or none
 //!                               --detach-----------> the job that was kept, which isn't to run, or none
 //!
+//! semi(key) --> Promise
+//!            \-> SemiFuture --via(e)--> a future on e
+//!                           --defer(callback)-->.   deferral(adder, holder, key 2, continuation) gives the callback, a DeferChain,
+//!                                                   and Deferred, the future of key 2's core, with the holder
+//! DeferChain --land(outcome)--> as add of the job {outcome, chain}: kept, to run on e, or gone
+//! Deferred --via(e)--> the future on e, and the job that was kept, to run on e
+//!          --give_up-> the job that was kept, to abandon
+//!
 //! one word:   Empty -- add --> HasFunction -- set_executor --> HasExecutor, or -- detach --> Detached
 //!             Empty -- set_executor --> HasExecutor, or -- detach --> Detached; an add then changes nothing
 //! ```
@@ -26,20 +34,24 @@
 #![tactic(auto)]
 
 mod adder;
+mod deferring;
 mod history;
 mod holder;
 mod home;
 mod laws;
 mod remains;
 mod rule;
+mod semi_future;
 mod state;
 mod steps;
 mod view;
 
 pub use adder::{AddReceipt, Added, Adder};
+pub use deferring::{DeferChain, DeferJob, Deferred, deferral};
 pub use history::{AddEvent, ChooseEvent};
 pub use holder::{ChooseReceipt, Holder};
 pub use home::DeferredHome;
 pub use laws::sides_agree;
 pub use remains::Remains;
+pub use semi_future::{SemiFuture, semi};
 pub use state::{Chosen, State};
