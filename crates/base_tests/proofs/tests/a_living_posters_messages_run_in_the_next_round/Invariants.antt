@@ -1,0 +1,11 @@
+use Rattle.std.proofs.Common.{◌≡◌, ◌+◌, ◌≤◌, length}
+use Rattle.base_tests.specs.Posts.{AllOn, of_tests}
+use Rattle.base_tests.proofs.tests.a_living_posters_messages_run_in_the_next_round.Given as goal
+
+abbrev pub invariant-loop-id : goal.invariant-loop-id
+invariant-loop-id g l = record {
+  queue : l.poster.queue ≡ l.base.queue.queue;
+  number : l.poster.number ≡ 0;
+  few : length l.poster.sent + 20 ≤ l.id;
+  posts : AllOn of_tests l.poster;
+}
