@@ -1,5 +1,5 @@
 // A thread that posts a note and waits until the base has run it, again and again: neither side sleeps through a message.
-ghost use Rattle.std.specs.Prelude.{◌≡◌, ◌≤◌, [], length};
+ghost use Rattle.std.specs.Prelude.{◌≡◌, []};
 ghost use Rattle.base_tests.specs.Posts.{AllOn};
 
 use super::note::*;
