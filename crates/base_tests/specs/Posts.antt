@@ -3,11 +3,10 @@ use Rattle.std.specs.Prelude.{◌≡◌}
 use Rattle.std.specs.List.{All}
 use Rattle.fan_base.specs.declared.number.ExecId.{ExecId}
 use Rattle.notify_queue.specs.Ends.{Sending}
-use Rattle.base_tests.specs.declared.note.Note.{Note}
 
--- each note that it put has this executor
-abbrev pub AllOn : ExecId → Sending Note → Type 0
-AllOn exec s = All (λ (note : Note). note.0.exec ≡ exec) s.sent
+-- each job that it put has this executor
+abbrev pub AllOn : {J : Type 0} → (J → ExecId) → ExecId → Sending J → Type 0
+AllOn exec_of exec s = All (λ job. exec_of job ≡ exec) s.sent
 
 -- the executor of the tests' base
 abbrev pub of_tests : ExecId

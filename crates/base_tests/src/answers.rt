@@ -55,7 +55,7 @@ fn post_and_wait<R: Abort + Wait>(
 ) -> (SenderEnd<Note>, Receiver<u64>)
     requires { poster.sent ≡ [] }
     ensures end { (result.0.queue ≡ poster.queue) × (result.0.number ≡ poster.number) }
-    ensures posts { AllOn EXEC result.0 }
+    ensures posts { AllOn (λ note. note.0.exec) EXEC result.0 }
 {
     for id in 0..NOTES {
         wait_a_little(id);
@@ -109,7 +109,7 @@ fn no_note_is_slept_through(rt: HostRuntime) {
         move ||
             requires { poster.sent ≡ [] }
             ensures end { (result.0.queue ≡ poster.queue) × (result.0.number ≡ poster.number) }
-            ensures posts { AllOn EXEC result.0 }
+            ensures posts { AllOn (λ note. note.0.exec) EXEC result.0 }
         { post_and_wait(&rt, poster.open(), answers.open()) },
         move || run_until_closed(&rt, base.open(), world.open()),
     );

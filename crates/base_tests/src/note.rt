@@ -195,10 +195,10 @@ pub(crate) fn try_timers<R: Abort>(rt: &R, agenda: &mut Agenda<Note>)
 // Posts a note, at a second try where the first finds no memory, and says whether it was posted.
 pub(crate) fn post<R: Wait>(rt: &R, poster: &mut Poster<Note>, id: u64) -> bool
     requires few { length poster.old.sent < 1000000 }
-    requires posts { AllOn EXEC poster.old }
+    requires posts { AllOn (λ note. note.0.exec) EXEC poster.old }
     ensures same { (poster.new.queue ≡ poster.old.queue) × (poster.new.number ≡ poster.old.number) }
     ensures few { length poster.new.sent ≤ length poster.old.sent + 1 }
-    ensures posts { AllOn EXEC poster.new }
+    ensures posts { AllOn (λ note. note.0.exec) EXEC poster.new }
 {
     match poster.put(rt, note_on(EXEC, id)) {
         Ok(_) => true,
@@ -243,7 +243,7 @@ pub(crate) fn close_one<R: Wait>(
 ) -> BaseEnd<Note>
     requires base { (base.queue.senders ≡ 1) × (base.agenda.exec ≡ EXEC) }
     requires end { (end.queue ≡ base.queue.queue) × (end.number ≡ 0) }
-    requires posts { AllOn EXEC end }
+    requires posts { AllOn (λ note. note.0.exec) EXEC end }
     requires ends { (ends.items ≡ []) × (1 ≤ vec_capacity ends) }
 {
     ends.push_reserved(end);

@@ -24,5 +24,5 @@ close-requires-clause-posts g c =
     let end = c.args.end in
     let exec = c.args.base.agenda.exec in
     let items : c.push_reserved.new.self.items ≡ end ∷ [] = c.push_reserved.ensures.items ∙ ap (λ l. l ++ end ∷ []) c.requires.ends.0 in
-    let all = All-cons (AllOn exec) end [] (subst (λ (x : ExecId). AllOn x end) (sym c.requires.base.1) c.requires.posts) (All-nil (AllOn exec)) in
+    let all = All-cons (AllOn (λ (note : Note). note.0.exec) exec) end [] (subst (λ (x : ExecId). AllOn (λ (note : Note). note.0.exec) x end) (sym c.requires.base.1) c.requires.posts) (All-nil (AllOn (λ (note : Note). note.0.exec) exec)) in
     rw items all

@@ -1,4 +1,5 @@
 use Rattle.std.proofs.Common.{◌≡◌, ◌+◌, ◌≤◌, length}
+use Rattle.base_tests.specs.declared.note.Note.{Note}
 use Rattle.base_tests.specs.Posts.{AllOn, of_tests}
 use Rattle.base_tests.proofs.tests.a_living_posters_messages_run_in_the_next_round.Given as goal
 
@@ -7,5 +8,5 @@ invariant-loop-id g l = record {
   queue : l.poster.queue ≡ l.base.queue.queue;
   number : l.poster.number ≡ 0;
   few : length l.poster.sent + 20 ≤ l.id;
-  posts : AllOn of_tests l.poster;
+  posts : AllOn (λ (note : Note). note.0.exec) of_tests l.poster;
 }
