@@ -1,49 +1,65 @@
--- The seat that makes the passes.
-use Rattle.std.proofs.Common.{◌≡◌, ℕ, ◌+◌, ◌-◌, List, [], refl, sym, ap, ◌∙◌, subst, arith}
-use Rattle.atomic_table.specs.Table.{Me}
-use Rattle.prio_pool.specs.declared.row.Deed.{Deed}
-use Rattle.prio_pool.specs.declared.row.Role.TheVariants.{Worker}
-use Rattle.prio_pool.specs.declared.row.View.{View}
-use Rattle.prio_pool.specs.Tasks.{Queued}
-use Rattle.prio_pool.specs.History.{IsLawful, taken_by}
-use Rattle.prio_pool.specs.Rule.{adder_made, new_adder, worker_made, new_worker, worker_of, one_less, one_part}
-use Rattle.prio_pool.specs.Passes.{IsAdder, IsEnd}
-use Rattle.prio_pool.specs.Making.{IsMaker}
+-- New passes.
+use Rattle.std.proofs.Common.{◌≡◌, ℕ, suc, ◌+◌, ◌<◌, List, [], ◌∷◌, length, map, refl, sym, ap, ◌∙◌, subst}
+use Rattle.std.specs.List.{All, sum_by, range_with_len}
+use Rattle.std.specs.declared.alloc.Global.{Global}
+use Rattle.crossbeam_queue.specs.SegTies.{SegId}
+use Rattle.pool_model.specs.declared.task.Entry.{Entry}
+use Rattle.pool_model.specs.Passes.{adds_of, add_with, pushed_by}
+use Rattle.pool_model.specs.Seen.{PassSeen}
+use Rattle.pool_model.specs.Tasks.{Task, Add, upwards, numbered}
+use Rattle.prio_pool.proofs.Lists.{All-cons, All-none}
+use Rattle.task_queue.specs.Seen.{AdderSeen, TakerSeen}
+use Rattle.prio_pool.specs.declared.make.Counts.{Counts}
+use Rattle.prio_pool.specs.Adders.{AreAdds}
+use Rattle.prio_pool.specs.Made.{new_adders, new_adder, new_takers, new_taker, nothing_on}
 
-module _ {J : Type 0} (queues adders workers parts : ℕ) (me later : Me (Queued J) View) (m : IsMaker queues adders workers parts me) where
-  pub adder_is_made : later ≡ (one_less adder_made me.0, me.1) → IsMaker queues (adders + 1) workers (parts - 1) later
-  adder_is_made is = subst (IsMaker queues (adders + 1) workers (parts - 1)) (sym is) record {
-    empty = m.empty;
-    parts_are = ap (λ n. n - 1) m.parts_are;
-    queues_are = m.queues_are;
-    role = ap adder_made m.role;
-    turn = m.turn;
-    seen = m.seen;
-    adds = m.adds;
-    taken = m.taken;
-  }
+pub adder_queues : (c : Counts) (qs : List (SegId Global)) → map (λ (a : AdderSeen). a.queue) (new_adders c qs) ≡ qs
+adder_queues c [] = refl
+adder_queues c (q ∷ qs) = ap (λ (l : List (SegId Global)). q ∷ l) (adder_queues c qs)
 
-  pub worker_is_made : later ≡ (one_less worker_made me.0, me.1) → IsMaker queues adders (workers + 1) (parts - 1) later
-  worker_is_made is = subst (IsMaker queues adders (workers + 1) (parts - 1)) (sym is) record {
-    empty = m.empty;
-    parts_are = ap (λ n. n - 1) m.parts_are;
-    queues_are = m.queues_are;
-    role = ap worker_made m.role;
-    turn = m.turn;
-    seen = m.seen;
-    adds = m.adds;
-    taken = m.taken;
-  }
+pub adder_pushed : (c : Counts) (qs : List (SegId Global)) → map (λ (a : AdderSeen). a.pushed) (new_adders c qs) ≡ nothing_on qs
+adder_pushed c [] = refl
+adder_pushed c (q ∷ qs) = ap (λ (l : List (List Entry)). [] ∷ l) (adder_pushed c qs)
 
-  pub is_adder : (other : Me (Queued J) View) → other ≡ (one_part new_adder me.0, []) → IsAdder adders 0 other.0
-  is_adder other is = subst (λ (x : Me (Queued J) View). IsAdder adders 0 x.0) (sym is) record { parts = refl; role = ap new_adder m.role; turn = refl; adds = refl; count_is = refl; few = omega arith; taken = refl }
+pub adder_each : (c : Counts) (qs : List (SegId Global)) → All (λ (a : AdderSeen). (a.passes ≡ c.passes) × (a.number ≡ c.adders)) (new_adders c qs)
+adder_each c [] = All-none (λ (a : AdderSeen). (a.passes ≡ c.passes) × (a.number ≡ c.adders))
+adder_each c (q ∷ qs) = All-cons (λ (a : AdderSeen). (a.passes ≡ c.passes) × (a.number ≡ c.adders)) (new_adder c q) (new_adders c qs) (refl, refl) (adder_each c qs)
 
-  pub is_end : (other : Me (Queued J) View) → other ≡ (one_part new_worker me.0, []) → IsEnd [] other
-  is_end other is =
-      let role : new_worker me.0.role ≡ Worker workers = ap new_worker m.role in
-      subst (IsEnd []) (sym is) record {
-        empty = refl;
-        worker = record { parts = refl; role = role ∙ ap Worker (sym (ap worker_of role)); turn = refl; adds = refl; runs = tt };
-        lawful = subst (λ (h : List Deed). IsLawful me.0.queues h) (sym m.seen) tt;
-        took = ap (taken_by (worker_of (new_worker me.0.role))) (sym m.seen);
-      }
+pub adder_count : (c : Counts) (qs : List (SegId Global)) → length (new_adders c qs) ≡ length qs
+adder_count c [] = refl
+adder_count c (q ∷ qs) = ap suc (adder_count c qs)
+
+nothing_up : (first : ℕ) (qs : List (SegId Global)) → upwards first (nothing_on qs) ≡ []
+nothing_up first [] = refl
+nothing_up first (q ∷ qs) = nothing_up (first + 1) qs
+
+pub no_adds : (p : PassSeen) (qs : List (SegId Global)) → p.pushed ≡ nothing_on qs → AreAdds 0 p
+no_adds p qs pushed =
+    let none : pushed_by p ≡ [] = ap (upwards 0) pushed ∙ nothing_up 0 qs in
+    let adds : adds_of p ≡ [] = ap (λ (l : List Task). map (add_with l) (range_with_len 0 (length l))) none in
+    record {
+      numbers = subst (All (λ (t : Task). t.ticket.adder ≡ p.number)) (sym none) (All-none (λ (t : Task). t.ticket.adder ≡ p.number));
+      below = subst (All (λ (t : Task). t.ticket.index < 0)) (sym none) (All-none (λ (t : Task). t.ticket.index < 0));
+      count_is = sym (ap length none);
+      all = record { sums = λ h. ap (λ (l : List Add). sum_by h (numbered p.number 0 l)) adds ∙ ap (sum_by h) (sym none) };
+    }
+
+pub taker_queues : (c : Counts) (qs : List (SegId Global)) → map (λ (a : TakerSeen). a.queue) (new_takers c qs) ≡ qs
+taker_queues c [] = refl
+taker_queues c (q ∷ qs) = ap (λ (l : List (SegId Global)). q ∷ l) (taker_queues c qs)
+
+pub taker_popped : (c : Counts) (qs : List (SegId Global)) → map (λ (a : TakerSeen). a.popped) (new_takers c qs) ≡ nothing_on qs
+taker_popped c [] = refl
+taker_popped c (q ∷ qs) = ap (λ (l : List (List Entry)). [] ∷ l) (taker_popped c qs)
+
+pub taker_each : (c : Counts) (qs : List (SegId Global)) → All (λ (a : TakerSeen). (a.passes ≡ c.passes) × (a.number ≡ c.takers)) (new_takers c qs)
+taker_each c [] = All-none (λ (a : TakerSeen). (a.passes ≡ c.passes) × (a.number ≡ c.takers))
+taker_each c (q ∷ qs) = All-cons (λ (a : TakerSeen). (a.passes ≡ c.passes) × (a.number ≡ c.takers)) (new_taker c q) (new_takers c qs) (refl, refl) (taker_each c qs)
+
+pub taker_count : (c : Counts) (qs : List (SegId Global)) → length (new_takers c qs) ≡ length qs
+taker_count c [] = refl
+taker_count c (q ∷ qs) = ap suc (taker_count c qs)
+
+pub nothing_all : (P : List Entry → Type 0) (qs : List (SegId Global)) → P [] → All P (nothing_on qs)
+nothing_all P [] p = All-none P
+nothing_all P (q ∷ qs) p = All-cons P [] (nothing_on qs) p (nothing_all P qs p)

@@ -1,19 +1,38 @@
--- What is said of the ends of workers and helpers.
-use Rattle.std.specs.Prelude.{ℕ}
-use Rattle.prio_pool.specs.History.{IsLawful, ending_of, taken_by}
-use Rattle.prio_pool.specs.Record.{AreRunsOf, Ascend, tickets_in}
-use Rattle.prio_pool.specs.Seen.{EndSeen}
-use Rattle.prio_pool.specs.Turned.{MayEnd}
+-- What one help did.
+use Rattle.std.specs.Prelude.{◌≡◌, ℕ, ◌<◌, [], ◌∷◌, ◌++◌, Option, length}
+use Rattle.fan_base.specs.declared.number.JobId.{JobId}
+use Rattle.fan_base.specs.declared.number.Mark.{Mark}
+use Rattle.pool_model.specs.declared.task.Ending.{Ending}
+use Rattle.pool_model.specs.declared.task.Entry.{Entry}
+use Rattle.pool_model.specs.Records.{Record}
+use Rattle.pool_model.specs.Seen.{EndSeen, steps_by}
+use Rattle.pool_model.specs.Steps.{Turn, ran, idle, steps_of}
+use Rattle.prio_pool.specs.declared.pool.Helped.{Helped}
+use Rattle.prio_pool.specs.declared.pool.Helped.TheVariants.{Ran, Empty}
 
--- the history that was seen is lawful, and the records are of the runs of the tasks that it has under this number, in that order
-pub record IsFaithful (e : EndSeen) : Type 0 where
-  pub lawful : IsLawful e.pool.queues e.seen
-  pub runs : AreRunsOf (taken_by e.number e.seen) e.records
+-- the steps of this turn stand behind the others
+abbrev pub TookTurn : EndSeen → EndSeen → Turn → Type 0
+TookTurn old new turn = steps_by new ≡ steps_by old ++ steps_of (length old.pool.queues) turn
 
--- a join had begun and no task waited in any queue, or a stop had begun
-pub record HadToEnd (e : EndSeen) : Type 0 where
-  pub ended : MayEnd (ending_of e.seen) e.seen
+-- one task ran, of the highest queue that wasn't found empty, and its record stands behind the others
+pub record RanOneMore {W : Type 0} (runs : JobId → W → Mark → W → Type 0) (old : EndSeen) (w : W) (new : EndSeen) (v : W) : Type 0 where
+  pub entry : Record
+  pub list : new.records ≡ old.records ++ entry ∷ []
+  pub led : runs entry.job w entry.mark v
+  pub found : Option Ending
+  pub queue : ℕ
+  pub task : Entry
+  pub within : queue < length old.pool.queues
+  pub turn : TookTurn old new (ran found queue task)
 
--- in each queue the tickets of each adder ascend
-pub record TicketsAscend (e : EndSeen) : Type 0 where
-  pub ascend : (q : ℕ) → Ascend (tickets_in q e.records)
+-- nothing changed, and each queue was found empty behind the look with which the call began
+pub record FoundEmpty {W : Type 0} (old : EndSeen) (w : W) (new : EndSeen) (v : W) : Type 0 where
+  pub list : new.records ≡ old.records
+  pub popped : new.popped ≡ old.popped
+  pub world : v ≡ w
+  pub found : Option Ending
+  pub turn : TookTurn old new (idle found)
+
+abbrev pub HelpDid : {W : Type 0} → (JobId → W → Mark → W → Type 0) → Helped → EndSeen → W → EndSeen → W → Type 0
+HelpDid runs Ran old w new v = RanOneMore runs old w new v
+HelpDid runs Empty old w new v = FoundEmpty old w new v

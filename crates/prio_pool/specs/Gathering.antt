@@ -1,61 +1,112 @@
--- Seats that are put together at the end of a pool.
-use Rattle.std.specs.Prelude.{◌≡◌, ℕ, ◌+◌, ◌<◌, ◌≤◌, List, [], ◌∷◌, ◌++◌}
-use Rattle.atomic_table.specs.Table.{Me}
+-- The passes of all queues, put together queue by queue.
+use Rattle.std.specs.Prelude.{◌≡◌, ℕ, zero, suc, ◌+◌, List, [], ◌∷◌, ◌++◌, Option, Some, None, ◌≢◌, length, map, slice_get, slice_set}
+use Rattle.std.specs.declared.alloc.Global.{Global}
+use Rattle.atomic_table.specs.Seated.{TableId}
+use Rattle.crossbeam_queue.specs.SegTies.{SegId}
+use Rattle.pool_model.specs.declared.task.Ending.{Ending}
 use Rattle.job_trait.specs.declared.job.Head.{Head}
-use Rattle.prio_pool.specs.declared.row.Row.{Row}
-use Rattle.prio_pool.specs.declared.row.Deed.{Deed}
-use Rattle.prio_pool.specs.declared.row.Turn.TheVariants.{Away}
-use Rattle.prio_pool.specs.declared.row.View.{View}
-use Rattle.prio_pool.specs.Tasks.{Queued}
-use Rattle.prio_pool.specs.Lanes.{weigh_all}
-use Rattle.prio_pool.specs.History.{accepted_of, Since, AllSince, weigh}
-use Rattle.prio_pool.specs.Record.{Record, AreRunsOf}
-use Rattle.prio_pool.specs.Seen.{PassSeen, EndSeen, numbered}
-use Rattle.prio_pool.specs.Rule.{Stands}
+use Rattle.pool_model.specs.Seen.{PassSeen, EndSeen, at_queue}
+use Rattle.prio_pool.specs.declared.placed.Placed.{Placed}
+use Rattle.prio_pool.specs.Adders.{entry_of}
+use Rattle.task_queue.specs.declared.rule.Queued.{Queued}
+use Rattle.task_queue.specs.Settled.{Settled}
+use Rattle.task_queue.specs.Seen.{AdderSeen, TakerSeen, GatheredSeen}
+use Rattle.task_queue.specs.Views.{share}
 
--- added up over the tasks of all these passes
-abbrev pub passes_weight : (Row → ℕ) → List PassSeen → ℕ
-passes_weight h [] = 0
-passes_weight h (p ∷ ps) = weigh h (numbered p.number 0 p.adds) + passes_weight h ps
+-- what one queue's gathered pass is, after these adders and takers were put together, of so many passes in all
+abbrev pub gathered_at : ℕ → List PassSeen → List EndSeen → ℕ → SegId Global → GatheredSeen
+gathered_at whole passes ends k queue = record {
+  queue = queue;
+  passes = whole;
+  here = length passes + length ends;
+  added = map (λ p. share p.number (at_queue p.pushed k)) passes;
+  taken = map (λ e. share e.number (at_queue e.popped k)) ends;
+}
 
--- the records of all these ends, one end after another
-abbrev pub records_of : List EndSeen → List Record
-records_of [] = []
-records_of (e ∷ es) = e.records ++ records_of es
+-- those of these queues, whose numbers begin with k
+abbrev pub gathered_from : ℕ → List PassSeen → List EndSeen → ℕ → List (SegId Global) → List GatheredSeen
+gathered_from whole passes ends k [] = []
+gathered_from whole passes ends k (q ∷ qs) = gathered_at whole passes ends k q ∷ gathered_from whole passes ends (k + 1) qs
 
--- the histories that these ends saw last
-abbrev pub seens_of : List EndSeen → List (List Deed)
-seens_of [] = []
-seens_of (e ∷ es) = e.seen ∷ seens_of es
+-- an adder, or a taker, is put to a gathered pass
+abbrev pub and_adder : GatheredSeen → AdderSeen → GatheredSeen
+and_adder g a = record { queue = g.queue; passes = g.passes; here = g.here + 1; added = g.added ++ share a.number a.pushed ∷ []; taken = g.taken }
 
--- a seat away from the lock has so many parts, knows all tasks of these passes, and these are the records of what it took
-pub record IsGathered {J : Type 0} (parts : ℕ) (passes : List PassSeen) (records : List Record) (me : Me (Queued J) View) : Type 0 where
-  pub empty : me.1 ≡ []
-  pub turn : me.0.turn ≡ Away
-  pub parts_are : me.0.parts ≡ parts
-  pub adds : (h : Row → ℕ) → weigh h me.0.adds ≡ passes_weight h passes
-  pub rows : List Row
-  pub runs : AreRunsOf rows records
-  pub taken : (h : Row → ℕ) → weigh h rows ≡ weigh h me.0.taken
+abbrev pub and_taker : GatheredSeen → TakerSeen → GatheredSeen
+and_taker g t = record { queue = g.queue; passes = g.passes; here = g.here + 1; added = g.added; taken = g.taken ++ share t.number t.popped ∷ [] }
 
--- some seats were gathered, and these are the records of what they took
-abbrev pub HasGathered : {J : Type 0} → List Record → Me (Queued J) View → Type 0
-HasGathered records me = (parts : ℕ) × (passes : List PassSeen) × (0 < parts) × IsGathered parts passes records me
+-- one of these to each of those, as far as both go
+abbrev pub each_with : {G X : Type 0} → (G → X → G) → List G → List X → List G
+each_with f [] xs = []
+each_with f (g ∷ gs) [] = g ∷ gs
+each_with f (g ∷ gs) (x ∷ xs) = f g x ∷ each_with f gs xs
 
--- what was gathered before has so many parts more, and these records
-abbrev pub GathersMore : {J : Type 0} → ℕ → List Record → Me (Queued J) View → List Record → Me (Queued J) View → Type 0
-GathersMore more records me new later = (parts : ℕ) (passes : List PassSeen) → 0 < parts → IsGathered parts passes records me → IsGathered (parts + more) passes new later
+abbrev pub and_adders : List GatheredSeen → List AdderSeen → List GatheredSeen
+and_adders gs adders = each_with and_adder gs adders
 
--- the same with one pass more
-abbrev pub GathersPass : {J : Type 0} → PassSeen → Me (Queued J) View → Me (Queued J) View → Type 0
-GathersPass pass me later = (parts : ℕ) (passes : List PassSeen) → 0 < parts → IsGathered parts passes [] me → IsGathered (parts + 1) (pass ∷ passes) [] later
+abbrev pub and_takers : List GatheredSeen → List TakerSeen → List GatheredSeen
+and_takers gs takers = each_with and_taker gs takers
 
--- the state of a pool that has ended: what the seat's parts added is what they took and what waits
-pub record IsLeft {J : Type 0} (head : J → Head) (queues : ℕ) (v : View) (q : Queued J) : Type 0 where
-  pub past : List Deed
-  pub few : weigh (λ _. 1) v.adds ≤ 4611686018427387904
-  pub stands : Stands head queues past q
-  pub balanced : (h : Row → ℕ) → weigh h v.adds ≡ weigh h v.taken + weigh_all head h q.lanes
-  pub seen : Since v.seen past
-  pub heard : AllSince v.heard past
-  pub accepted : (h : Row → ℕ) → weigh h v.adds ≡ weigh h (accepted_of past)
+-- the same but for the first k
+abbrev pub behind_with : {G X : Type 0} → (G → X → G) → ℕ → List G → List X → List G
+behind_with f zero gs xs = each_with f gs xs
+behind_with f (suc k) [] xs = []
+behind_with f (suc k) (g ∷ gs) xs = g ∷ behind_with f k gs xs
+
+-- the gathered pass with this number is of this queue
+pub record HasGathered (gathered : List GatheredSeen) (number : ℕ) (queue : SegId Global) : Type 0 where
+  pub one : GatheredSeen
+  pub at : slice_get gathered number ≡ Some one
+  pub of_queue : one.queue ≡ queue
+
+-- it has become this of what it was
+pub record ChangedAt (f : GatheredSeen → GatheredSeen) (old : List GatheredSeen) (number : ℕ) (new : List GatheredSeen) : Type 0 where
+  pub one : GatheredSeen
+  pub at : slice_get old number ≡ Some one
+  pub new_is : new ≡ slice_set old number (f one)
+
+-- the first of all passes of a queue
+abbrev pub only_adder : AdderSeen → GatheredSeen
+only_adder a = record { queue = a.queue; passes = a.passes; here = 1; added = share a.number a.pushed ∷ []; taken = [] }
+
+-- these passes were put together, and then one adder's, or one worker's or helper's, more
+abbrev pub OneAdderMore : ℕ → List (SegId Global) → List GatheredSeen → PassSeen → List GatheredSeen → Type 0
+OneAdderMore whole queues old p new = (passes : List PassSeen) (ends : List EndSeen) → old ≡ gathered_from whole passes ends 0 queues → new ≡ gathered_from whole (passes ++ p ∷ []) ends 0 queues
+
+abbrev pub OneEndMore : ℕ → List (SegId Global) → List GatheredSeen → EndSeen → List GatheredSeen → Type 0
+OneEndMore whole queues old e new = (passes : List PassSeen) (ends : List EndSeen) → old ≡ gathered_from whole passes ends 0 queues → new ≡ gathered_from whole passes (ends ++ e ∷ []) 0 queues
+
+-- some passes of so many were put together
+pub record AreTogether (whole : ℕ) (queues : List (SegId Global)) (gathered : List GatheredSeen) : Type 0 where
+  pub passes : List PassSeen
+  pub ends : List EndSeen
+  pub is : gathered ≡ gathered_from whole passes ends 0 queues
+
+-- these adders' passes more
+abbrev pub AddersMore : ℕ → List (SegId Global) → List GatheredSeen → List PassSeen → List GatheredSeen → Type 0
+AddersMore whole queues old more new = (passes : List PassSeen) (ends : List EndSeen) → old ≡ gathered_from whole passes ends 0 queues → new ≡ gathered_from whole (passes ++ more) ends 0 queues
+
+-- these ends more
+abbrev pub EndsMore : ℕ → List (SegId Global) → List GatheredSeen → List EndSeen → List GatheredSeen → Type 0
+EndsMore whole queues old more new = (passes : List PassSeen) (ends : List EndSeen) → old ≡ gathered_from whole passes ends 0 queues → new ≡ gathered_from whole passes (ends ++ more) 0 queues
+
+-- the end is of this pool
+pub record IsOf (whole : ℕ) (queues : List (SegId Global)) (mark : TableId) (e : EndSeen) : Type 0 where
+  pub queues_are : e.pool.queues ≡ queues
+  pub passes_are : e.pool.passes ≡ whole
+  pub mark_is : e.pool.mark ≡ mark
+
+-- where it found an end begun, it is this one
+pub record FoundAs (found : Option Ending) (e : EndSeen) : Type 0 where
+  pub same : e.found ≢ None → e.found ≡ found
+
+-- each queue was settled, and this is what was left of it
+abbrev pub AllSettled : {J : Type 0} → (J → Head) → List GatheredSeen → List (List (Queued (Placed J))) → Type 0
+AllSettled head [] [] = Unit {0}
+AllSettled head [] (r ∷ rests) = ⊥
+AllSettled head (g ∷ gs) [] = ⊥
+AllSettled head (g ∷ gs) (r ∷ rests) = Settled g (map (entry_of head) r) × AllSettled head gs rests
+
+-- all passes of each queue are here
+abbrev pub IsWhole : GatheredSeen → Type 0
+IsWhole g = g.here ≡ g.passes

@@ -2,8 +2,9 @@
 use Rattle.std.specs.Prelude.{◌≡◌}
 use Rattle.fan_base.specs.declared.refusal.Refused.{Refused}
 use Rattle.fan_base.specs.declared.refusal.Refused.TheVariants.{Memory}
-use Rattle.prio_pool.specs.declared.lane.Task.{Task}
+use Rattle.prio_pool.specs.declared.placed.Placed.{Placed}
+use Rattle.task_queue.specs.declared.rule.Queued.{Queued}
 
 -- the job of the task is refused
-abbrev pub GivesJob : {J : Type 0} → Refused (Task J) → Refused J → Type 0
-GivesJob (Memory task) r = r ≡ Memory task.job
+abbrev pub GivesJob : {J : Type 0} → Refused (Queued (Placed J)) → Refused J → Type 0
+GivesJob (Memory task) r = r ≡ Memory task.job.job

@@ -1,66 +1,35 @@
--- What a seat stands for in a pass.
-use Rattle.std.specs.Prelude.{◌≡◌, ℕ, ◌≤◌, List, [], ◌∷◌, map, length}
-use Rattle.atomic_table.specs.Table.{Me}
-use Rattle.prio_pool.specs.declared.row.Role.TheVariants.{Adder, Ender, Worker}
-use Rattle.prio_pool.specs.declared.row.Turn.TheVariants.{Away}
-use Rattle.prio_pool.specs.declared.row.Deed.{Deed}
-use Rattle.prio_pool.specs.declared.row.View.{View}
-use Rattle.prio_pool.specs.Tasks.{Queued}
-use Rattle.prio_pool.specs.History.{IsLawful, Since, taken_by}
-use Rattle.prio_pool.specs.Rule.{worker_of}
-use Rattle.prio_pool.specs.Record.{Record, AreRunsOf}
-use Rattle.prio_pool.specs.Seen.{Add, add_of, numbered}
+-- The passes and ends of a pool.
+use Rattle.std.specs.Prelude.{◌≡◌, List, [], ◌∷◌, None, All}
+use Rattle.pool_model.specs.declared.task.Entry.{Entry}
+use Rattle.pool_model.specs.Records.{Record}
+use Rattle.pool_model.specs.Seen.{PassSeen, EndSeen}
+use Rattle.prio_pool.specs.declared.passes.PoolPass.TheInside.{Inside}
+use Rattle.prio_pool.specs.Takers.{TakersSeen}
+use Rattle.task_queue.specs.Marks.{OpenSeen}
 
--- a badge has one view, and what is seen of it
-abbrev pub queues_in : List View → ℕ
-queues_in [] = 0
-queues_in (v ∷ vs) = v.queues
+-- nothing was popped yet
+pub record TookNothing (t : TakersSeen) : Type 0 where
+  pub none : All (λ (entries : List Entry). entries ≡ []) t.popped
+  pub looks : t.looks ≡ []
+  pub found : t.found ≡ None
 
-abbrev pub adds_in : List View → List Add
-adds_in [] = []
-adds_in (v ∷ vs) = map add_of v.adds
+abbrev pub end_seen : TakersSeen → List Record → EndSeen
+end_seen t records = record { pool = t.pool; number = t.number; records = records; popped = t.popped; looks = t.looks; found = t.found }
 
-abbrev pub seen_in : List View → List Deed
-seen_in [] = []
-seen_in (v ∷ vs) = v.seen
+abbrev pub no_pass : OpenSeen → PassSeen
+no_pass o = record { pool = record { queues = []; passes = 0; mark = o.mark }; number = 0; pushed = [] }
 
--- the view of an adder with this number, which added so many tasks
-pub record IsAdder (number count : ℕ) (v : View) : Type 0 where
-  pub parts : v.parts ≡ 1
-  pub role : v.role ≡ Adder number
-  pub turn : v.turn ≡ Away
-  pub adds : v.adds ≡ numbered number 0 (map add_of v.adds)
-  pub count_is : count ≡ length v.adds
-  pub few : length v.adds ≤ 4294967295
-  pub taken : v.taken ≡ []
+abbrev pub first_pass : OpenSeen → List PassSeen → PassSeen
+first_pass o [] = no_pass o
+first_pass o (p ∷ ps) = p
 
--- the view of an adder with this number, which added so many tasks, and has set the mark of an end
-pub record IsEnder (number count : ℕ) (v : View) : Type 0 where
-  pub parts : v.parts ≡ 1
-  pub role : v.role ≡ Ender number
-  pub turn : v.turn ≡ Away
-  pub adds : v.adds ≡ numbered number 0 (map add_of v.adds)
-  pub count_is : count ≡ length v.adds
-  pub taken : v.taken ≡ []
+module _ {J : Type 0} where
+  abbrev pub pass_seen : Inside J → PassSeen
+  pass_seen p = first_pass p.seat p.adders
 
--- the view of a worker with this number, whose records are of the runs of the tasks that it took
-pub record IsWorker (number : ℕ) (records : List Record) (v : View) : Type 0 where
-  pub parts : v.parts ≡ 1
-  pub role : v.role ≡ Worker number
-  pub turn : v.turn ≡ Away
-  pub adds : v.adds ≡ []
-  pub runs : AreRunsOf v.taken records
-
--- a worker's seat away from the lock, which took what the lawful history that it saw has under its number
-pub record IsEnd {J : Type 0} (records : List Record) (me : Me (Queued J) View) : Type 0 where
-  pub empty : me.1 ≡ []
-  pub worker : IsWorker (worker_of me.0.role) records me.0
-  pub lawful : IsLawful me.0.queues me.0.seen
-  pub took : me.0.taken ≡ taken_by (worker_of me.0.role) me.0.seen
-
--- the pool was seen again, after all that had been seen of it
-pub record GoesOn (old new : List Deed) : Type 0 where
-  pub deed : Deed
-  pub past : List Deed
-  pub now : new ≡ deed ∷ past
-  pub since : Since old past
+  -- one adder, and one part of the mark of its pool
+  pub record IsPass (p : Inside J) : Type 0 where
+    pub pass : PassSeen
+    pub one : p.adders ≡ pass ∷ []
+    pub mark : p.seat.mark ≡ pass.pool.mark
+    pub part : p.seat.parts ≡ 1

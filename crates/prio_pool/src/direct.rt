@@ -1,6 +1,6 @@
 // A run of a job that never was in a pool.
 ghost use Rattle.std.specs.Prelude.{◌≡◌};
-ghost use Rattle.prio_pool.specs.RunBack.{RanDirect};
+ghost use Rattle.prio_pool.specs.Running.{RanDirect};
 
 use fan_base::{ExecId, JobId, Mark};
 use job_trait::Job;
@@ -17,7 +17,7 @@ pub struct DirectRecord {
 }
 
 impl Model for DirectRecord {
-    ghost use Rattle.prio_pool.specs.RunBack.{DirectSeen};
+    ghost use Rattle.prio_pool.specs.Running.{DirectSeen};
 
     ghost Value = { DirectSeen };
 

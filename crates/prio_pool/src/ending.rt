@@ -1,23 +1,26 @@
 // The end of a pool.
-ghost use Rattle.std.specs.Prelude.{◌≡◌, ℕ, ◌<◌, ◌≤◌, [], ◌∷◌, ◌++◌, false, true};
-ghost use Rattle.prio_pool.specs.History.{weigh};
-ghost use Rattle.prio_pool.specs.Lanes.{lane_at, weigh_all};
-ghost use Rattle.prio_pool.specs.Passed.{AreAllPasses, AreAllEnds};
-ghost use Rattle.prio_pool.specs.Returning.{AllRan, AllRanOrBack, RanTheRest, Drained, adds_total};
-ghost use Rattle.prio_pool.specs.Gathering.{IsGathered, IsLeft, records_of};
-ghost use Rattle.prio_pool.specs.Ended.{WasEnded, JoinedHistory, StoppedHistory};
+ghost use Rattle.std.specs.Prelude.{◌≡◌, ◌≢◌, ◌+◌, ◌≤◌, [], ◌++◌, length, false, true, None};
+ghost use Rattle.pool_model.specs.Accounts.{AllRun, AllRunOrReturned};
+ghost use Rattle.pool_model.specs.Endings.{Joined, Stopped, records_of};
+ghost use Rattle.pool_model.specs.Passes.{AreAllPasses, AreAllEnds, adds_total};
+ghost use Rattle.prio_pool.specs.Ended.{CameTo, CameBack};
+ghost use Rattle.prio_pool.specs.Returning.{back_from};
+ghost use Rattle.prio_pool.specs.Running.{Drained};
 
-use crate::gather::{finish, gather_helpers, gather_passes, gather_workers};
-use crate::lanes::Lanes;
-use crate::passes::{HelperEnd, Marker, PoolPass, WorkerEnd};
-use crate::pool::{Joining, Pool, Stopping};
+use crate::adders::Adders;
+use crate::begin::{Joining, Stopping};
+use crate::passes::{HelperEnd, WorkerEnd};
+use crate::pool::Pool;
 use crate::record::{RunRecord, append};
 use crate::returned::{Returned, Runs};
 use crate::run::run_task;
+use crate::settle::{Rest, settle_all};
+use crate::together::{put_helpers, put_passes, put_workers};
 use job_trait::{Headed, Job};
 use std::alloc::Global;
 use std::collections::LinkedList;
 use std::sync::Wait;
+use task_queue::Watch;
 
 /// What a pool leaves: how many tasks it accepted, the records of those that ran, and those that are handed back.
 #[derive(Drop)]
@@ -30,127 +33,190 @@ pub struct PoolEnd<J> {
     pub returned: Returned<J>,
 }
 
-// Runs all tasks that wait, from the highest queue to the lowest.
-fn drain<J: Job<W>, W, R: Wait>(
-    rt: &R,
-    alloc: Global,
-    lanes: &mut Lanes<J>,
-    world: &mut W,
-) -> LinkedList<RunRecord>
-    requires { weigh_all J.head (λ _. 1) lanes.old.lanes ≤ 4611686018427387904 }
-    ensures ran { Drained J.head J.runs lanes.old.lanes result world.old world.new }
-    ensures empty { (q : ℕ) → lane_at lanes.new.lanes q ≡ [] }
-{
-    let mut records = LinkedList::new(alloc);
-    while let Some(task) = lanes.take_highest() {
-        let made = run_task(rt, task, world);
-        append(&mut records, made);
-    }
-    records
-}
-
 impl<J: Headed> Pool<J> {
-    // Puts all seats together: the records of the ends, and the queues as they are.
-    fn end(
+    // Puts all passes and ends together, and settles each queue: how many tasks were added, the records of the ends, and what is
+    // left of each queue.
+    pub(crate) fn end<R: Wait>(
         self,
-        passes: Vec<PoolPass>,
-        marker: Marker,
+        rt: &R,
+        mut passes: LinkedList<Adders<J>>,
+        mut begun: Watch,
         ends: Vec<WorkerEnd<J>>,
         helped: Vec<HelperEnd<J>>,
-    ) -> (LinkedList<RunRecord>, Lanes<J>)
-        requires passes { AreAllPasses self.id self.adders (passes.items ++ marker.pass ∷ []) }
+    ) -> (u64, LinkedList<RunRecord>, Vec<Rest<J>>)
+        requires passes { AreAllPasses self.id self.adders passes }
+        requires begun { (begun.mark ≡ self.id.mark) × (begun.found ≢ None) }
         requires ends { AreAllEnds self.id self.workers ends.items }
         requires helped { AreAllEnds self.id self.helpers helped.items }
-        ensures records { result.0 ≡ records_of ends.items ++ records_of helped.items }
-        ensures left { WasEnded J.head self.id.queues marker.seen (passes.items ++ marker.pass ∷ []) ends.items helped.items result.0 result.1.lanes }
+        ensures accepted { result.0 ≡ adds_total passes }
+        ensures records { result.1 ≡ records_of ends.items ++ records_of helped.items }
+        ensures came { CameTo J.head self.id.passes self.id.queues begun.found passes (ends.items ++ helped.items) result.2.items }
+        ensures few { length result.2.items ≤ 256 }
+        ensures most { result.0 ≤ 281474976710656 }
     {
         let Pool {
-            table,
+            queues,
+            mark,
             alloc,
             exec: _,
-            queues: _,
-            adders: _,
-            workers: _,
-            helpers: _,
-            wakers: _,
+            adders,
+            workers,
+            helpers,
+            sleepers: _,
             keep: _,
         } = self;
-        let mut seat = gather_passes(&table.shared, passes, marker);
+        let whole = adders + workers + helpers;
+        let Some(first) = passes.pop_front() else {
+            unreachable!()
+        };
+        first.told();
+        let own = first.count();
+        let (mut gathered, rests) = first.gather(&queues);
+        let others = put_passes(&queues, &mut gathered, passes, whole);
         let mut records = LinkedList::new(alloc);
-        gather_helpers(&table.shared, &mut seat, &mut records, helped);
-        gather_workers(&table.shared, &mut seat, &mut records, ends);
-        let lanes = finish(table, seat);
-        (records, lanes)
+        put_workers(
+            &queues,
+            &mark,
+            whole,
+            &mut gathered,
+            &mut begun,
+            ends,
+            &mut records,
+        );
+        put_helpers(
+            &queues,
+            &mark,
+            whole,
+            &mut gathered,
+            &mut begun,
+            helped,
+            &mut records,
+        );
+        let rests = settle_all(rt, queues, gathered, rests);
+        (own + others, records, rests)
     }
 
-    /// Ends a pool that is joined: puts the records of all ends together, and runs with this world each task that still
-    /// waits, from the highest queue to the lowest. It takes no memory of its own.
+    // The same, with what is handed back.
+    fn finish<R: Wait>(
+        self,
+        rt: &R,
+        passes: LinkedList<Adders<J>>,
+        begun: Watch,
+        ends: Vec<WorkerEnd<J>>,
+        helped: Vec<HelperEnd<J>>,
+    ) -> (u64, LinkedList<RunRecord>, Returned<J>)
+        requires passes { AreAllPasses self.id self.adders passes }
+        requires begun { (begun.mark ≡ self.id.mark) × (begun.found ≢ None) }
+        requires ends { AreAllEnds self.id self.workers ends.items }
+        requires helped { AreAllEnds self.id self.helpers helped.items }
+        ensures accepted { result.0 ≡ adds_total passes }
+        ensures records { result.1 ≡ records_of ends.items ++ records_of helped.items }
+        ensures came { CameBack J.head self.id.passes self.id.queues begun.found passes (ends.items ++ helped.items) result.2 }
+        ensures most { length result.1 + length result.2 ≤ 281474976710656 }
+    {
+        let (accepted, records, rests) = self.end(rt, passes, begun, ends, helped);
+        let returned = hand_back(rests, accepted, records.len());
+        (accepted, records, returned)
+    }
+
+    /// Ends a pool that is joined: puts the records of all ends together, and runs with this world each task that still waits,
+    /// from the highest queue to the lowest, each in order of acceptance. It takes no memory of its own.
     pub fn join<W, R: Wait>(
         self,
         rt: &R,
-        joining: Joining,
+        joining: Joining<J>,
         ends: Vec<WorkerEnd<J>>,
         helped: Vec<HelperEnd<J>>,
         world: &mut W,
     ) -> PoolEnd<J>
     where
         J: Job<W>,
+        requires pool { joining.pool ≡ self.id }
         requires joining { AreAllPasses self.id self.adders joining.passes }
         requires ends { AreAllEnds self.id self.workers ends.items }
         requires helped { AreAllEnds self.id self.helpers helped.items }
         ensures accepted { result.accepted ≡ adds_total joining.passes }
-        ensures all { AllRan joining.passes result.ran.records }
-        ensures ran { RanTheRest J.runs ends.items helped.items result.ran.records world.old world.new }
-        ensures history { JoinedHistory self.id.queues joining ends.items helped.items result.ran.records }
+        ensures all { AllRun joining.passes result.ran.records }
+        ensures ended { Joined J.runs (length self.id.queues) joining.passes ends.items helped.items result.ran.records world.old world.new }
         ensures joined { (result.ran.stopped ≡ false) × (result.returned ≡ []) }
     {
         let alloc = self.alloc;
         let Joining {
             passes,
-            marker,
+            begun,
             joined: _,
+            pool: _,
         } = joining;
-        let (mut records, mut lanes) = self.end(passes, marker, ends, helped);
-        let more = drain(rt, alloc, &mut lanes, world);
+        let (accepted, mut records, mut returned) = self.finish(rt, passes, begun, ends, helped);
+        let more = drain(rt, alloc, &mut returned, world);
         append(&mut records, more);
         PoolEnd {
-            accepted: records.len() as u64,
+            accepted,
             ran: Runs::new(records, false),
-            returned: Returned::new(lanes),
+            returned,
         }
     }
 
-    /// Ends a pool that is stopped: puts the records of all ends together, and hands back each task that still waits.
-    /// It takes no memory of its own.
+    /// Ends a pool that is stopped: puts the records of all ends together, and hands back each task that still waits. It takes
+    /// no memory of its own.
     pub fn stop<R: Wait>(
         self,
         rt: &R,
-        stopping: Stopping,
+        stopping: Stopping<J>,
         ends: Vec<WorkerEnd<J>>,
         helped: Vec<HelperEnd<J>>,
     ) -> PoolEnd<J>
+        requires pool { stopping.pool ≡ self.id }
         requires stopping { AreAllPasses self.id self.adders stopping.passes }
         requires ends { AreAllEnds self.id self.workers ends.items }
         requires helped { AreAllEnds self.id self.helpers helped.items }
         ensures accepted { result.accepted ≡ adds_total stopping.passes }
-        ensures all { AllRanOrBack J.head stopping.passes result.ran.records result.returned }
-        ensures ran { result.ran.records ≡ records_of ends.items ++ records_of helped.items }
-        ensures history { StoppedHistory J.head self.id.queues stopping ends.items helped.items result.returned }
+        ensures all { AllRunOrReturned J.head stopping.passes result.ran.records result.returned }
+        ensures ended { Stopped J.head (length self.id.queues) stopping.passes ends.items helped.items result.ran.records result.returned }
         ensures stopped { result.ran.stopped ≡ true }
     {
-        let _ = rt;
         let Stopping {
             passes,
-            marker,
+            begun,
             joined: _,
+            pool: _,
         } = stopping;
-        let (records, lanes) = self.end(passes, marker, ends, helped);
-        let ran = Runs::new(records, true);
-        let returned = Returned::new(lanes);
+        let (accepted, records, returned) = self.finish(rt, passes, begun, ends, helped);
         PoolEnd {
-            accepted: (ran.len() + returned.len()) as u64,
-            ran,
+            accepted,
+            ran: Runs::new(records, true),
             returned,
         }
     }
+}
+
+// What is handed back of what was left in the queues, where so many tasks were added and so many have a record.
+fn hand_back<J>(rests: Vec<Rest<J>>, accepted: u64, records: usize) -> Returned<J>
+    requires count { records + length (back_from 0 rests.items) ≡ accepted }
+    requires few { length rests.items ≤ 256 }
+    ensures { result ≡ back_from 0 rests.items }
+{
+    Returned::new(rests, (accepted - records as u64) as usize)
+}
+
+// Runs all tasks that are left, in order, and gives their records.
+#[tactic(auto, using(crate::proofs::Draining::drained_all))]
+fn drain<J: Job<W>, W, R: Wait>(
+    rt: &R,
+    alloc: Global,
+    returned: &mut Returned<J>,
+    world: &mut W,
+) -> LinkedList<RunRecord>
+    requires few { length returned.old ≤ 281474976710656 }
+    ensures drained { Drained J.head J.runs returned.old result world.old world.new }
+    ensures as_many { length result ≡ length returned.old }
+    ensures empty { returned.new ≡ [] }
+{
+    let mut records = LinkedList::new(alloc);
+    while let Some(next) = returned.take() {
+        let (queue, task) = next;
+        let made = run_task(rt, queue, task, world);
+        append(&mut records, made);
+    }
+    records
 }

@@ -1,19 +1,37 @@
-// Laws of the passes and of the history of a pool. Each body is empty: the contract is the law.
-ghost use Rattle.std.specs.Prelude.{ℕ, List};
-ghost use Rattle.prio_pool.specs.Seen.{PoolId, PassSeen};
-ghost use Rattle.prio_pool.specs.declared.row.Deed.{Deed};
-ghost use Rattle.prio_pool.specs.History.{IsLawful, Since};
-ghost use Rattle.prio_pool.specs.Queues.{IsQueueInOrder};
-ghost use Rattle.prio_pool.specs.Passed.{AreAllPasses, AreNumbered};
+// Laws of a pool's passes and of its end. Their bodies do nothing that is seen: the contract is the law.
+ghost use Rattle.std.specs.Prelude.{◌≡◌, ◌≢◌, ℕ, [], None, All};
+ghost use Rattle.pool_model.specs.Passes.{adds_of};
+ghost use Rattle.pool_model.specs.Seen.{PoolId};
+ghost use Rattle.prio_pool.specs.Made.{new_passes, new_workers, new_ends};
 
-/// The passes of a pool's adders, in the order in which a new pool gives them, are all of them, whatever they have added.
-pub fn passes_in_order_are_all()
-    ensures { (pool : PoolId) (adders : ℕ) (passes : List PassSeen) → AreNumbered pool adders passes → AreAllPasses pool adders passes }
-{}
+use crate::passes::{PoolPass, WorkerEnd};
+use crate::pool::Pool;
+use crate::takers::Takers;
+use job_trait::Headed;
 
-/// Each queue of a lawful history by itself: tasks leave it in the order in which they came, each once. And each
-/// beginning of a lawful history is lawful, so this holds at every moment of it.
-pub fn each_queue_is_in_order()
-    ensures queues { (count : ℕ) (past : List Deed) → IsLawful count past → (q : ℕ) → IsQueueInOrder q past }
-    ensures before { (count : ℕ) (seen past : List Deed) → Since seen past → IsLawful count past → IsLawful count seen }
+/// A worker that found an end begun meets no adder's pass of its pool any more: only [`Pool::begin_join`] and
+/// [`Pool::begin_stop`] set the mark, and they spend all of these. So no call of this can be made.
+pub fn no_adder_is_left<J: Headed>(pool: &Pool<J>, end: WorkerEnd<J>, pass: PoolPass<J>)
+    requires end { end.pool ≡ pool.now.id }
+    requires found { end.found ≢ None }
+    requires pass { pass.pool ≡ pool.now.id }
+    ensures { ⊥ }
+{
+    let WorkerEnd { takers, records: _ } = end;
+    let Takers {
+        takers: _,
+        looks: _,
+        watch,
+        number: _,
+        passes: _,
+    } = takers;
+    let PoolPass { adders: _, seat } = pass;
+    pool.mark.no_part_is_left(watch, seat);
+}
+
+/// The passes of a new pool are of this pool, and those of its adders have added nothing.
+pub fn new_passes_are_unused()
+    ensures passes { (pool : PoolId) (first n : ℕ) → All (λ p. (p.pool ≡ pool) × (adds_of p ≡ [])) (new_passes pool first n) }
+    ensures workers { (pool : PoolId) (first n : ℕ) → All (λ w. w.pool ≡ pool) (new_workers pool first n) }
+    ensures helpers { (pool : PoolId) (first n : ℕ) → All (λ e. e.pool ≡ pool) (new_ends pool first n) }
 {}

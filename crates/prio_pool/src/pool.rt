@@ -1,61 +1,56 @@
 // The pool: its adders, workers and helpers.
-ghost use Rattle.std.specs.Prelude.{◌≡◌, ◌≢◌, ◌+◌, ◌<◌, ◌≤◌, ℕ, List, [], ◌∷◌, ◌++◌, length, IfOk, IfErr};
+ghost use Rattle.std.specs.Prelude.{◌≡◌, ◌≢◌, ◌+◌, ◌<◌, ◌≤◌, ℕ, List, [], ◌∷◌, ◌++◌, length, None, slice_set, IfOk, IfErr, OnOk};
 ghost use Rattle.fan_base.specs.declared.refusal.Refused.TheVariants.{Memory as GivenBack};
 ghost use Rattle.job_trait.specs.Runs.{Leads};
-ghost use Rattle.prio_pool.specs.Priority.{queue_of};
-ghost use Rattle.prio_pool.specs.Record.{ran_of};
-ghost use Rattle.prio_pool.specs.Passes.{GoesOn};
-ghost use Rattle.prio_pool.specs.Ends.{IsFaithful, HadToEnd, TicketsAscend};
-ghost use Rattle.prio_pool.specs.History.{HeedsStop};
-ghost use Rattle.prio_pool.specs.Helps.{HelpDid};
-ghost use Rattle.prio_pool.specs.declared.row.Ending.TheVariants.{Open, Joins, Stops};
-ghost use Rattle.prio_pool.specs.declared.row.Deed.TheVariants.{Begins};
-ghost use Rattle.prio_pool.specs.declared.row.Deed.{Deed};
-ghost use Rattle.prio_pool.specs.Passed.{AreAllPasses, HasBegun};
+ghost use Rattle.pool_model.specs.Passes.{adds_of};
+ghost use Rattle.pool_model.specs.Records.{ran_of};
+ghost use Rattle.pool_model.specs.Seen.{at_queue, steps_by};
+ghost use Rattle.pool_model.specs.Steps.{Worked};
+ghost use Rattle.pool_model.specs.Endings.{RanWhatItTook};
+ghost use Rattle.prio_pool.specs.Ends.{HelpDid};
 ghost use Rattle.prio_pool.specs.Given.{GivesJob};
+ghost use Rattle.prio_pool.specs.Priority.{queue_of};
 
-use crate::lane::Task;
-use crate::lanes::Lanes;
-use crate::passes::{HelperPass, Marker, PoolPass, WorkerEnd, WorkerPass};
+use crate::passes::{HelperPass, PoolPass, WorkerEnd, WorkerPass};
+use crate::placed::Placed;
 use crate::priority::queue_for;
 use crate::record::{Place, RunRecord};
-use crate::row::{Ending, Plan, Ticket, View};
-use crate::rule::PoolRule;
+use crate::sleepers::{Rest, Sleepers};
 use crate::turn::{Turned, turn};
-use atomic_table::Table;
-use crossbeam_utils::sync::Unparker;
 use fan_base::{ExecId, Gate, Mark, Refused};
 use job_trait::{Headed, Job};
-use keep_alive::{Joined, KeepAlive, KeepOwner};
+use keep_alive::KeepAlive;
+use pool_model::{Ending, Ticket};
 use std::alloc::Global;
 use std::collections::LinkedList;
 use std::marker::Model;
 use std::snapshot::Snapshot;
 use std::sync::Wait;
+use task_queue::{EndMark, Queued, TaskQueue};
 
-/// A pool of workers over queues of different priorities. Contracts see which pool it is, the count of its
-/// keep-alives, its executor, and how many passes of each kind it has. It is spent by [`Pool::join`] or [`Pool::stop`].
+/// A pool of workers over queues of different priorities. Contracts see which pool it is, the count of its keep-alives, its
+/// executor, and how many passes of each kind it has. It is spent by [`Pool::join`] or [`Pool::stop`].
 pub struct Pool<J: Headed> {
-    pub(crate) table: Table<Lanes<J>, View, Plan, PoolRule<J>, Global>,
+    pub(crate) queues: Vec<TaskQueue<Placed<J>>>,
+    pub(crate) mark: EndMark,
     pub(crate) alloc: Global,
     pub(crate) exec: ExecId,
-    pub(crate) queues: u32,
     pub(crate) adders: u32,
     pub(crate) workers: u32,
     pub(crate) helpers: u32,
-    pub(crate) wakers: Vec<Unparker>,
+    pub(crate) sleepers: Sleepers,
     pub(crate) keep: Snapshot<KeepAlive>,
 }
 
 impl<J: Headed> Model for Pool<J> {
-    ghost use Rattle.std.specs.Prelude.{◌≡◌, ◌+◌, ◌<◌, ◌≤◌};
-    ghost use Rattle.prio_pool.specs.Seen.{PoolSeen};
+    ghost use Rattle.std.specs.Prelude.{◌≡◌, ◌+◌, ◌<◌, ◌≤◌, length};
+    ghost use Rattle.pool_model.specs.Seen.{PoolSeen};
 
     ghost Value = { PoolSeen };
 
-    ghost view = { λ p. record { id = record { table = p.table.shared.table_id; queues = p.queues }; count = p.keep.value.count; exec = p.exec; adders = p.adders; workers = p.workers; helpers = p.helpers } };
+    ghost view = { λ p. record { id = record { queues = p.queues.items; passes = p.adders + p.workers + p.helpers; mark = p.mark.mark }; count = p.keep.value.count; exec = p.exec; adders = p.adders; workers = p.workers; helpers = p.helpers } };
 
-    ghost invariant = { λ p. (p.table.shared.table_id.words ≡ 2) × (p.table.shared.table_id.slots ≡ 1) × (p.table.shared.key.queues ≡ p.queues) × (p.table.shared.key.passes ≡ p.adders + p.workers + p.helpers) × (0 < p.queues) × (p.queues ≤ 256) × (0 < p.adders) };
+    ghost invariant = { λ p. (0 < length p.queues.items) × (length p.queues.items ≤ 256) × (p.mark.adders ≡ p.adders) × (0 < p.adders) × (p.adders ≤ 64) × (p.workers ≤ 64) × (p.helpers ≤ 64) };
 }
 
 /// What a help did.
@@ -63,85 +58,45 @@ impl<J: Headed> Model for Pool<J> {
 pub enum Helped {
     /// It ran one task.
     Ran,
-    /// No task was in any queue.
+    /// Each queue was found empty.
     Empty,
 }
 
-/// A pool that is to be joined. It keeps the passes of all adders, so that no task can be added. Contracts see these, which
-/// pool it is, the count of its keep-alives, and the history with the mark.
-pub struct Joining {
-    pub(crate) passes: Vec<PoolPass>,
-    pub(crate) marker: Marker,
-    pub(crate) joined: Joined,
-}
-
-impl Model for Joining {
-    ghost use Rattle.std.specs.Prelude.{◌++◌, ◌∷◌, []};
-    ghost use Rattle.prio_pool.specs.Seen.{EndingSeen};
-
-    ghost Value = { EndingSeen };
-
-    ghost view = { λ j. record { pool = j.marker.pass.pool; count = j.joined.count; passes = j.passes.items ++ j.marker.pass ∷ []; seen = j.marker.seen } };
-}
-
-/// A pool that is to be stopped. It keeps the passes of all adders, so that no task can be added. Contracts see the same of it.
-pub struct Stopping {
-    pub(crate) passes: Vec<PoolPass>,
-    pub(crate) marker: Marker,
-    pub(crate) joined: Joined,
-}
-
-impl Model for Stopping {
-    ghost use Rattle.std.specs.Prelude.{◌++◌, ◌∷◌, []};
-    ghost use Rattle.prio_pool.specs.Seen.{EndingSeen};
-
-    ghost Value = { EndingSeen };
-
-    ghost view = { λ j. record { pool = j.marker.pass.pool; count = j.joined.count; passes = j.passes.items ++ j.marker.pass ∷ []; seen = j.marker.seen } };
-}
-
 impl<J: Headed> Pool<J> {
-    // Wakes the workers that sleep.
-    fn wake(&self) {
-        for waker in &self.wakers {
-            waker.unpark();
-        }
-    }
-
     /// Adds a task, whose job chose this pool's executor, to the queue of this priority. Where there is no memory for it,
-    /// the job is given back.
+    /// the job is given back. The push on the queue is the acceptance.
     pub fn add<R: Wait>(
         &self,
         rt: &R,
         keep: &KeepAlive,
-        pass: &mut PoolPass,
+        pass: &mut PoolPass<J>,
         priority: i8,
         job: J,
     ) -> Result<Ticket, Refused<J>>
         requires keep { keep.now.count ≡ self.now.count }
         requires pass { pass.old.pool ≡ self.now.id }
         requires exec { (J.head job).exec ≡ self.now.exec }
-        requires room { length pass.old.adds < 4294967295 }
-        ensures ticket { IfOk result (λ t. t ≡ record { adder = pass.old.number; index = length pass.old.adds }) }
-        ensures added { IfOk result (λ _. pass.new ≡ record { pool = pass.old.pool; number = pass.old.number; adds = pass.old.adds ++ record { queue = queue_of self.now.id.queues priority; head = J.head job } ∷ [] }) }
+        requires room { length (adds_of pass.old) < 4294967295 }
+        ensures ticket { IfOk result (λ t. t ≡ record { adder = pass.old.number; index = length (adds_of pass.old) }) }
+        ensures pushed { IfOk result (λ t. let queue = queue_of (length self.now.id.queues) priority in pass.new ≡ record pass.old { pushed = slice_set pass.old.pushed queue (at_queue pass.old.pushed queue ++ record { ticket = t; head = J.head job } ∷ []) }) }
+        ensures added { OnOk result (adds_of pass.new ≡ adds_of pass.old ++ record { queue = queue_of (length self.now.id.queues) priority; head = J.head job } ∷ []) }
         ensures refused { IfErr result (λ r. (r ≡ GivenBack job) × (pass.new ≡ pass.old)) }
     {
         let _ = keep;
-        let queue = queue_for(self.queues, priority);
+        let queue = queue_for(self.queues.len() as u32, priority);
         let ticket = pass.next_ticket();
         let blank = RunRecord::new(ticket, queue, job.exec(), job.id(), Mark::Memory);
         let Ok(place) = Place::new(self.alloc, blank) else {
             return Err(Refused::Memory(job));
         };
-        let task = Task {
+        let task = Queued {
             ticket,
-            queue,
-            job,
-            place,
+            job: Placed { job, place },
         };
-        match pass.add_task(rt, &self.table.shared, task) {
+        let number = queue as usize;
+        match pass.add_task(rt, &self.queues[number], number, task) {
             Ok(()) => {
-                self.wake();
+                self.sleepers.wake_one();
                 Ok(ticket)
             }
             Err(refused) => Err(refused_job(refused)),
@@ -149,8 +104,8 @@ impl<J: Headed> Pool<J> {
     }
 
     /// Works for the pool: takes the first task of the highest queue that has one, runs it between the two calls of the
-    /// gate, and goes on, until the pool is stopped, or is joined and no task waits. It sleeps while no task waits.
-    #[tactic(auto, using(crate::proofs::Ascending::tickets_ascend))]
+    /// gate, and goes on, until the pool is stopped, or is joined and each queue is found empty. It sleeps while it finds no
+    /// task.
     pub fn work<W, G: Gate, R: Wait>(
         &self,
         rt: &R,
@@ -163,37 +118,37 @@ impl<J: Headed> Pool<J> {
         requires { pass.pool ≡ self.now.id }
         ensures pool { (result.pool ≡ pass.pool) × (result.number ≡ pass.number) }
         ensures ran { Leads J.runs world.old (ran_of result.records) world.new }
-        ensures faithful { IsFaithful result }
-        ensures ended { HadToEnd result }
-        ensures ascend { TicketsAscend result }
-        ensures heeds { HeedsStop result.number result.seen }
+        ensures ran_taken { RanWhatItTook result }
+        ensures worked { Worked (length self.now.id.queues) (steps_by result) }
+        ensures found { result.found ≢ None }
     {
-        let WorkerPass { mut seat, parker } = pass;
+        let WorkerPass { mut takers, parker } = pass;
         let mut records = LinkedList::new(self.alloc);
+        let mut rest = Rest::new(takers.number);
         for _ in rt.forever() {
             match turn(
                 rt,
-                &self.table.shared,
-                &mut seat,
+                (&self.queues, &self.mark, &self.sleepers),
+                &mut takers,
                 &mut records,
                 true,
+                &mut rest,
                 world,
                 gate,
             ) {
                 Turned::Ran => {}
                 Turned::Idle(ending) => match ending {
-                    Ending::Open => parker.park(rt),
-                    Ending::Joins => return WorkerEnd { seat, records },
-                    Ending::Stops => return WorkerEnd { seat, records },
+                    None => rest.go_on(rt, &self.sleepers, &parker),
+                    Some(Ending::Joins) => return WorkerEnd { takers, records },
+                    Some(Ending::Stops) => unreachable!(),
                 },
-                Turned::Stopped => return WorkerEnd { seat, records },
+                Turned::Stopped => return WorkerEnd { takers, records },
             }
         }
         unreachable!()
     }
 
     /// Takes the first task of the highest queue that has one, and runs it between the two calls of the gate.
-    #[tactic(auto, using(crate::proofs::Ascending::tickets_ascend))]
     pub fn help<W, G: Gate, R: Wait>(
         &self,
         rt: &R,
@@ -206,17 +161,15 @@ impl<J: Headed> Pool<J> {
         requires { pass.old.pool ≡ self.now.id }
         ensures pool { (pass.new.pool ≡ pass.old.pool) × (pass.new.number ≡ pass.old.number) }
         ensures helped { HelpDid J.runs result pass.old world.old pass.new world.new }
-        ensures goes_on { GoesOn pass.old.seen pass.new.seen }
-        ensures faithful { IsFaithful pass.new }
-        ensures ascend { TicketsAscend pass.new }
+        ensures ran_taken { RanWhatItTook pass.new }
     {
-        let table = &self.table.shared;
         match turn(
             rt,
-            table,
-            &mut pass.seat,
+            (&self.queues, &self.mark, &self.sleepers),
+            &mut pass.takers,
             &mut pass.records,
             false,
+            &mut Rest::new(0),
             world,
             gate,
         ) {
@@ -225,86 +178,16 @@ impl<J: Headed> Pool<J> {
             Turned::Stopped => unreachable!(),
         }
     }
-
-    // Waits for the keep-alives, and marks the pool as ending.
-    fn begin<R: Wait>(
-        &self,
-        rt: &R,
-        owner: KeepOwner,
-        passes: &mut Vec<PoolPass>,
-        ending: Ending,
-    ) -> (Marker, Joined)
-        requires owner { owner.count ≡ self.now.count }
-        requires passes { AreAllPasses self.now.id self.now.adders passes.old.items }
-        requires real { ending ≢ Open }
-        ensures passes { passes.old.items ≡ passes.new.items ++ result.0.pass ∷ [] }
-        ensures pool { result.0.pass.pool ≡ self.now.id }
-        ensures mark { (past : List Deed) × (result.0.seen ≡ Begins ending ∷ past) }
-        ensures count { result.1.count ≡ self.now.count }
-    {
-        let table = &self.table.shared;
-        let joined = owner.join(rt);
-        let Some(last) = passes.pop() else {
-            unreachable!()
-        };
-        let marker = last.begin(rt, table, &joined, ending);
-        self.wake();
-        (marker, joined)
-    }
-
-    /// Waits until each keep-alive of the pool is released, and begins to join it: its workers end once no task waits. A
-    /// keep-alive that is never released keeps it waiting.
-    pub fn begin_join<R: Wait>(
-        &self,
-        rt: &R,
-        owner: KeepOwner,
-        mut passes: Vec<PoolPass>,
-    ) -> Joining
-        requires owner { owner.count ≡ self.now.count }
-        requires passes { AreAllPasses self.now.id self.now.adders passes.items }
-        ensures begun { HasBegun Joins self.now passes.items result }
-    {
-        let (marker, joined) = self.begin(rt, owner, &mut passes, Ending::Joins);
-        Joining {
-            passes,
-            marker,
-            joined,
-        }
-    }
-
-    /// Waits until each keep-alive of the pool is released, and begins to stop it: its workers take no further task. A
-    /// keep-alive that is never released keeps it waiting.
-    pub fn begin_stop<R: Wait>(
-        &self,
-        rt: &R,
-        owner: KeepOwner,
-        mut passes: Vec<PoolPass>,
-    ) -> Stopping
-        requires owner { owner.count ≡ self.now.count }
-        requires passes { AreAllPasses self.now.id self.now.adders passes.items }
-        ensures begun { HasBegun Stops self.now passes.items result }
-    {
-        let (marker, joined) = self.begin(rt, owner, &mut passes, Ending::Stops);
-        Stopping {
-            passes,
-            marker,
-            joined,
-        }
-    }
 }
 
 // The job of a task that was refused.
-fn refused_job<J>(refused: Refused<Task<J>>) -> Refused<J>
+fn refused_job<J>(refused: Refused<Queued<Placed<J>>>) -> Refused<J>
     ensures { GivesJob refused result }
 {
     match refused {
         Refused::Memory(task) => {
-            let Task {
-                ticket: _,
-                queue: _,
-                job,
-                place,
-            } = task;
+            let Queued { ticket: _, job } = task;
+            let Placed { job, place } = job;
             place.give_up();
             Refused::Memory(job)
         }

@@ -1,8 +1,8 @@
 // The record of a run.
 ghost use Rattle.std.specs.Prelude.{◌≡◌, ◌+◌, ◌^◌, ◌<◌, [], ◌∷◌, ◌++◌, length, IfOk};
 
-use crate::row::Ticket;
 use fan_base::{ExecId, JobId, Mark, Memory};
+use pool_model::Ticket;
 use std::alloc::{AllocError, Global};
 use std::collections::LinkedList;
 use std::marker::Model;
@@ -18,7 +18,7 @@ pub struct RunRecord {
 }
 
 impl Model for RunRecord {
-    ghost use Rattle.prio_pool.specs.Record.{Record};
+    ghost use Rattle.pool_model.specs.Records.{Record};
 
     ghost Value = { Record };
 
@@ -82,7 +82,7 @@ pub struct Place {
 
 impl Model for Place {
     ghost use Rattle.std.specs.Prelude.{◌≡◌, List, length};
-    ghost use Rattle.prio_pool.specs.Record.{Record};
+    ghost use Rattle.pool_model.specs.Records.{Record};
 
     ghost Value = { List Record };
 

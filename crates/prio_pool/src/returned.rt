@@ -1,19 +1,20 @@
 // What a pool leaves: the records of its runs, and the tasks that are handed back.
-ghost use Rattle.std.specs.Prelude.{◌≡◌, ℕ, ◌+◌, ◌≤◌, [], ◌∷◌, ◌++◌, length, map, MatchOption};
-ghost use Rattle.prio_pool.specs.RunBack.{RunsBack};
-ghost use Rattle.prio_pool.specs.Returning.{Back, all_tasks, back_of};
+ghost use Rattle.std.specs.Prelude.{◌≡◌, ℕ, ◌<◌, ◌≤◌, [], ◌∷◌, length, MatchOption};
+ghost use Rattle.prio_pool.specs.Returning.{back_from, back_of, FirstTaken, NextTaken};
+ghost use Rattle.prio_pool.specs.Running.{RunsBack};
 
-use crate::lane::Task;
-use crate::lanes::Lanes;
+use crate::placed::Placed;
 use crate::record::RunRecord;
-use crate::row::Ticket;
 use crate::run::run_task;
+use crate::settle::Rest;
 use job_trait::Job;
+use pool_model::Ticket;
 use std::collections::LinkedList;
 use std::marker::Model;
 use std::sync::Wait;
+use task_queue::Queued;
 
-/// The records of the runs of a pool, and whether it was stopped.
+/// The records of the runs of a pool, and whether it was stopped. Only [`crate::Pool::join`] and [`crate::Pool::stop`] make one.
 #[derive(Drop)]
 pub struct Runs {
     records: LinkedList<RunRecord>,
@@ -21,7 +22,7 @@ pub struct Runs {
 }
 
 impl Model for Runs {
-    ghost use Rattle.prio_pool.specs.Ran.{RunsSeen};
+    ghost use Rattle.pool_model.specs.Seen.{RunsSeen};
 
     ghost Value = { RunsSeen };
 
@@ -42,7 +43,7 @@ impl Runs {
         self.records.len()
     }
 
-    /// The next record.
+    /// The next record. None comes exactly where none is left.
     pub fn pop(&mut self) -> Option<RunRecord>
         ensures next { MatchOption result (self.old.records ≡ []) (λ r. self.old.records ≡ r ∷ self.new.records) }
         ensures same { self.new.stopped ≡ self.old.stopped }
@@ -59,69 +60,98 @@ impl Runs {
     }
 }
 
-/// The tasks that are handed back, from the highest queue to the lowest, each in order of acceptance.
+/// The tasks that are handed back, from the highest queue to the lowest, each in order of acceptance. Contracts see of each its
+/// ticket, its queue and its job.
 #[derive(Drop)]
 pub struct Returned<J> {
-    lanes: Lanes<J>,
+    rests: Vec<Rest<J>>,
+    count: usize,
 }
 
 impl<J> Model for Returned<J> {
-    ghost use Rattle.std.specs.Prelude.{List, map, length, ◌≤◌};
-    ghost use Rattle.prio_pool.specs.Returning.{Back, all_tasks, back_of};
+    ghost use Rattle.std.specs.Prelude.{◌≡◌, ◌≤◌, List, length};
+    ghost use Rattle.pool_model.specs.Seen.{Returned};
+    ghost use Rattle.prio_pool.specs.Returning.{back_from};
 
-    ghost Value = { List (Back J) };
+    ghost Value = { List (Returned J) };
 
-    ghost view = { λ r. map back_of (all_tasks r.lanes.lanes) };
+    ghost view = { λ r. back_from 0 r.rests.items };
 
-    ghost invariant = { λ r. length (all_tasks r.lanes.lanes) ≤ 4611686018427387904 };
+    ghost invariant = { λ r. (r.count ≡ length (back_from 0 r.rests.items)) × (length r.rests.items ≤ 256) };
 }
 
 impl<J> Returned<J> {
-    pub(crate) fn new(lanes: Lanes<J>) -> Returned<J>
-        requires { length (all_tasks lanes.lanes) ≤ 4611686018427387904 }
-        ensures { result ≡ map back_of (all_tasks lanes.lanes) }
+    pub(crate) fn new(rests: Vec<Rest<J>>, count: usize) -> Returned<J>
+        requires { (count ≡ length (back_from 0 rests.items)) × (length rests.items ≤ 256) }
+        ensures { result ≡ back_from 0 rests.items }
     {
-        Returned { lanes }
+        Returned { rests, count }
     }
 
     /// How many tasks are left.
     pub fn len(&self) -> usize
         ensures { result ≡ length self.now }
     {
-        self.lanes.len()
+        self.count
     }
 
-    /// The next task: its ticket and its job.
+    // The next task, with its queue.
+    pub(crate) fn take(&mut self) -> Option<(u32, Queued<Placed<J>>)>
+        ensures { MatchOption result ((self.old ≡ []) × (self.new ≡ [])) (λ t. self.old ≡ back_of t.0 t.1 ∷ self.new) }
+    {
+        let taken = take_next(&mut self.rests)?;
+        self.count -= 1;
+        Some(taken)
+    }
+
+    /// The next task: its ticket and its job. None comes exactly where none is left.
     pub fn pop(&mut self) -> Option<(Ticket, J)>
         ensures { MatchOption result ((self.old ≡ []) × (self.new ≡ [])) (λ t. (queue : ℕ) × (self.old ≡ record { ticket = t.0; queue = queue; job = t.1 } ∷ self.new)) }
     {
-        let task = self.lanes.take_highest()?;
-        let Task {
+        let (_, task) = self.take()?;
+        let Queued {
             ticket,
-            queue: _,
-            job,
-            place,
+            job: placed,
         } = task;
+        let Placed { job, place } = placed;
         place.give_up();
         Some((ticket, job))
     }
 
-    /// Runs the next task, and makes its record.
+    /// Runs the next task, and makes its record. None comes exactly where none is left.
     pub fn run_next<W, R: Wait>(&mut self, rt: &R, world: &mut W) -> Option<RunRecord>
     where
         J: Job<W>,
         ensures { RunsBack J.head J.runs result self.old world.old self.new world.new }
     {
-        let task = self.lanes.take_highest()?;
-        let mut made = run_task(rt, task, world);
+        let (queue, task) = self.take()?;
+        let mut made = run_task(rt, queue, task, world);
         made.pop_front()
     }
+}
 
-    /// Ends the list where no task is left. It is for jobs that may not be dropped.
-    pub fn close(self)
-        requires { self ≡ [] }
-    {
-        let Returned { lanes } = self;
-        lanes.close();
+// Takes the first task of the highest queue that has one.
+fn take_next<J>(rests: &mut Vec<Rest<J>>) -> Option<(u32, Queued<Placed<J>>)>
+    requires { length rests.old.items ≤ 256 }
+    ensures { NextTaken rests.old.items result rests.new.items }
+{
+    while rests.len() > 0 {
+        let number = rests.len() - 1;
+        if let Some(task) = take_first(rests, number) {
+            return Some((number as u32, task));
+        }
+        let _ = rests.pop();
     }
+    None
+}
+
+// Takes the first task of what waits in this queue.
+fn take_first<J>(rests: &mut Vec<Rest<J>>, number: usize) -> Option<Queued<Placed<J>>>
+    requires { number < length rests.old.items }
+    ensures { FirstTaken rests.old.items number result rests.new.items }
+{
+    let Some(parcel) = rests[number].pop_front() else {
+        return None;
+    };
+    Some(parcel.open())
 }

@@ -1,28 +1,28 @@
 // A run of a task, with the record that it makes.
-ghost use Rattle.prio_pool.specs.Lanes.{row_of};
-ghost use Rattle.prio_pool.specs.Running.{RanOnce};
+ghost use Rattle.prio_pool.specs.Running.{RanOnce, task_in};
 
-use crate::lane::Task;
+use crate::placed::Placed;
 use crate::record::RunRecord;
 use fan_base::Gate;
 use job_trait::Job;
 use std::collections::LinkedList;
 use std::sync::Wait;
+use task_queue::Queued;
 
-/// Runs the task, and makes its record. It takes no memory of its own.
+/// Runs the task, which stood in this queue, and makes its record. It takes no memory of its own.
 pub fn run_task<J: Job<W>, W, R: Wait>(
     rt: &R,
-    task: Task<J>,
+    queue: u32,
+    task: Queued<Placed<J>>,
     world: &mut W,
 ) -> LinkedList<RunRecord>
-    ensures { RanOnce J.runs (row_of J.head task) world.old world.new result }
+    ensures { RanOnce J.runs (task_in J.head queue task) world.old world.new result }
 {
-    let Task {
+    let Queued {
         ticket,
-        queue,
-        job,
-        place,
+        job: placed,
     } = task;
+    let Placed { job, place } = placed;
     let id = job.id();
     let exec = job.exec();
     let mark = job.run(rt, world);
@@ -32,15 +32,16 @@ pub fn run_task<J: Job<W>, W, R: Wait>(
 /// The same between the two calls of a gate.
 pub fn run_at_gate<J: Job<W>, W, G: Gate, R: Wait>(
     rt: &R,
-    task: Task<J>,
+    queue: u32,
+    task: Queued<Placed<J>>,
     world: &mut W,
     gate: &G,
 ) -> LinkedList<RunRecord>
-    ensures { RanOnce J.runs (row_of J.head task) world.old world.new result }
+    ensures { RanOnce J.runs (task_in J.head queue task) world.old world.new result }
 {
-    let id = task.job.id();
+    let id = task.job.job.id();
     gate.before(id);
-    let made = run_task(rt, task, world);
+    let made = run_task(rt, queue, task, world);
     gate.after(id);
     made
 }

@@ -1,57 +1,66 @@
 // One turn of a worker or helper.
-ghost use Rattle.std.specs.Prelude.{◌≡◌, true};
-ghost use Rattle.prio_pool.specs.Rule.{worker_of};
-ghost use Rattle.prio_pool.specs.Passing.{IsAt};
-ghost use Rattle.prio_pool.specs.Passes.{IsEnd, GoesOn};
-ghost use Rattle.prio_pool.specs.History.{HeedsStop};
+ghost use Rattle.std.specs.Prelude.{◌≡◌, ◌≤◌, ◌+◌, length};
+ghost use Rattle.prio_pool.specs.Takers.{HasTaken, RanTaken};
 ghost use Rattle.prio_pool.specs.Turned.{TurnDid};
 
-use crate::lanes::Taken;
-use crate::lock;
-use crate::lock::{Seat, Table};
+use crate::placed::Placed;
 use crate::record::{RunRecord, append};
-use crate::row::Ending;
 use crate::run::run_at_gate;
+use crate::sleepers::{Rest, Sleepers};
+use crate::takers::Takers;
 use fan_base::Gate;
 use job_trait::Job;
+use pool_model::Ending;
 use std::collections::LinkedList;
 use std::sync::Wait;
+use task_queue::{EndMark, TaskQueue};
 
 /// What a turn did.
 pub enum Turned {
     /// One task ran.
     Ran,
-    /// No task was in any queue, and this end had begun.
-    Idle(Ending),
+    /// Each queue was found empty, and this end had begun.
+    Idle(Option<Ending>),
     /// The pool was stopped.
     Stopped,
 }
 
-/// Takes the first task of the highest queue that has one, and runs it.
+/// Looks at the mark, takes the first task of the highest queue that has one, and runs it.
 pub fn turn<J: Job<W>, W, G: Gate, R: Wait>(
     rt: &R,
-    table: &Table<J>,
-    seat: &mut Seat<J>,
+    pool: (&Vec<TaskQueue<Placed<J>>>, &EndMark, &Sleepers),
+    takers: &mut Takers<J>,
     records: &mut LinkedList<RunRecord>,
     heeds_stop: bool,
+    rest: &mut Rest,
     world: &mut W,
     gate: &G,
 ) -> Turned
-    requires at { IsAt table.now seat.old }
-    requires end { IsEnd records.old seat.old.me }
-    ensures same { (seat.new.table_id ≡ seat.old.table_id) × (seat.new.me.0.queues ≡ seat.old.me.0.queues) × (worker_of seat.new.me.0.role ≡ worker_of seat.old.me.0.role) }
-    ensures end { IsEnd records.new seat.new.me }
-    ensures goes_on { GoesOn seat.old.me.0.seen seat.new.me.0.seen }
-    ensures heeds { heeds_stop ≡ true → HeedsStop (worker_of seat.old.me.0.role) seat.old.me.0.seen → HeedsStop (worker_of seat.old.me.0.role) seat.new.me.0.seen }
-    ensures turned { TurnDid J.runs heeds_stop result records.old world.old records.new world.new seat.new.me.0.seen }
+    requires queues { takers.old.pool.queues ≡ pool.0.now.items }
+    requires mark { takers.old.pool.mark ≡ pool.1.now.mark }
+    requires few { length pool.0.now.items ≤ 256 }
+    requires records { RanTaken takers.old records.old }
+    ensures same { (takers.new.pool ≡ takers.old.pool) × (takers.new.number ≡ takers.old.number) }
+    ensures looked { takers.new.looked_so_often ≡ takers.old.looked_so_often + 1 }
+    ensures taken { HasTaken takers.new }
+    ensures records { RanTaken takers.new records.new }
+    ensures turned { TurnDid J.runs heeds_stop result takers.old records.old world.old takers.new records.new world.new }
 {
-    match lock::take(rt, table, seat, heeds_stop) {
-        Taken::Found(task) => {
-            let made = run_at_gate(rt, task, world, gate);
+    let (queues, mark, sleepers) = pool;
+    let found = takers.look(mark);
+    if heeds_stop && found == Some(Ending::Stops) {
+        takers.told();
+        return Turned::Stopped;
+    }
+    let next = takers.next(rt, queues);
+    takers.told();
+    match next {
+        Some((queue, task)) => {
+            rest.end(sleepers);
+            let made = run_at_gate(rt, queue, task, world, gate);
             append(records, made);
             Turned::Ran
         }
-        Taken::Nothing(ending) => Turned::Idle(ending),
-        Taken::Stopped => Turned::Stopped,
+        None => Turned::Idle(found),
     }
 }

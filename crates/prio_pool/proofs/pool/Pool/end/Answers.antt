@@ -1,63 +1,140 @@
-use Rattle.std.proofs.Common.{◌≡◌, ◌<◌, ◌+◌, List, [], ◌∷◌, ◌++◌, length, sym, ap, ◌∙◌, subst, arith, length-append}
-use Rattle.prio_pool.specs.declared.row.Deed.{Deed}
-use Rattle.prio_pool.specs.History.{IsLawful, Since, waiting_in}
-use Rattle.prio_pool.specs.Record.{Record}
-use Rattle.prio_pool.specs.Seen.{PoolId, PoolSeen, PassSeen}
-use Rattle.prio_pool.specs.Gathering.{IsGathered, seens_of}
-use Rattle.prio_pool.proofs.Gathers.{still_gathered, goes_on, all_front, all_saw}
-use Rattle.prio_pool.proofs.Endings.{rest_waits}
+use Rattle.std.proofs.Common.{◌≡◌, ℕ, ◌+◌, List, [], ◌∷◌, ◌++◌, length, length-append, map, ap, sym, subst, ◌∙◌, arith}
+use Rattle.std.specs.List.{All}
+use Rattle.std.specs.declared.alloc.Global.{Global}
+use Rattle.std.proofs.lemmas.List.Elements.{All-append}
+use Rattle.crossbeam_queue.specs.SegTies.{SegId}
+use Rattle.pool_model.specs.Endings.{RanWhatItTook}
+use Rattle.pool_model.specs.Passes.{HasNoGap}
+use Rattle.pool_model.specs.Seen.{PoolId, PoolSeen, PassSeen, EndSeen}
+use Rattle.task_queue.specs.Marks.{WatchSeen}
+use Rattle.task_queue.specs.Seen.{GatheredSeen}
+use Rattle.prio_pool.specs.Ended.{CameTo}
+use Rattle.prio_pool.specs.Gathering.{gathered_from, IsWhole, FoundAs, AllSettled}
+use Rattle.prio_pool.proofs.Accounting.{all_whole}
+use Rattle.prio_pool.proofs.Finishing.{few_rests}
+use Rattle.prio_pool.proofs.Lists.{All-cons, All-head, All-tail, All-into}
+use Rattle.prio_pool.proofs.Merging.{queues_of}
+use Rattle.prio_pool.proofs.pool.Pool.end.Given as given
 use Rattle.prio_pool.proofs.pool.Pool.end.Goals as goal
 
-pub gather_workers-requires-clause-gathered : goal.gather_workers-requires-clause-gathered
-gather_workers-requires-clause-gathered g c =
-    let passes = c.args.passes.items ++ c.args.marker.pass ∷ [] in
-    let n = length c.args.passes.items + 1 in
-    let some : 0 < n = omega arith in
-    let first = subst (λ (l : List Record). IsGathered n passes l c.gather_passes-seat.result.me) (sym c.new-records.ensures) c.gather_passes-seat.ensures.gathered in
-    still_gathered (length c.args.helped.items) c.new-records.result c.gather_passes-seat.result.me c.gather_helpers.new.records c.gather_helpers.new.seat.me (n, passes, some, first) c.gather_helpers.ensures.gathered
+pub put_passes-others-requires-clause-of : goal.put_passes-others-requires-clause-of
+put_passes-others-requires-clause-of g c =
+    let qs : List (SegId Global) = c.self.inside.queues.items in
+    let whole = c.self.inside.adders + c.self.inside.workers + c.self.inside.helpers in
+    let id = ap (λ (s : PoolSeen). s.id) c.self.view_is in
+    let first : PassSeen = c.in-Some.first in
+    let others : List PassSeen = c.pop_front.new.self in
+    let all = subst (All (λ (p : PassSeen). p.pool ≡ c.args.self.id)) c.in-Some.ensures.items c.requires.passes.of_pool in
+    All-into (λ (p : PassSeen). p.pool ≡ c.args.self.id) (λ (p : PassSeen). (p.pool.queues ≡ qs) × (p.pool.passes ≡ whole)) others
+    (λ p e. (ap (λ (x : PoolId). x.queues) (e ∙ sym id), ap (λ (x : PoolId). x.passes) (e ∙ sym id)))
+    (All-tail (λ (p : PassSeen). p.pool ≡ c.args.self.id) first others all)
 
-pub finish-lanes-requires-clause-away : goal.finish-lanes-requires-clause-away
-finish-lanes-requires-clause-away g c =
-    let passes = c.args.passes.items ++ c.args.marker.pass ∷ [] in
-    let n = length c.args.passes.items + 1 in
-    let some : 0 < n = omega arith in
-    let first = subst (λ (l : List Record). IsGathered n passes l c.gather_passes-seat.result.me) (sym c.new-records.ensures) c.gather_passes-seat.ensures.gathered in
-    let all = goes_on (length c.args.helped.items) (length c.args.ends.items) c.new-records.result c.gather_passes-seat.result.me c.gather_helpers.new.records c.gather_helpers.new.seat.me c.gather_workers.new.records c.gather_workers.new.seat.me c.gather_helpers.ensures.gathered c.gather_workers.ensures.gathered n passes some first in
-    all.turn
+pub settle_all-rests-requires-clause-queues : goal.settle_all-rests-requires-clause-queues
+settle_all-rests-requires-clause-queues g c =
+    let qs : List (SegId Global) = c.self.inside.queues.items in
+    let whole = c.self.inside.adders + c.self.inside.workers + c.self.inside.helpers in
+    let id = ap (λ (s : PoolSeen). s.id) c.self.view_is in
+    let first : PassSeen = c.in-Some.first in
+    let others : List PassSeen = c.pop_front.new.self in
+    let ends : List EndSeen = c.args.ends.items in
+    let helped : List EndSeen = c.args.helped.items in
+    let all = subst (All (λ (p : PassSeen). p.pool ≡ c.args.self.id)) c.in-Some.ensures.items c.requires.passes.of_pool in
+    let own = All-head (λ (p : PassSeen). p.pool ≡ c.args.self.id) first others all ∙ sym id in
+    let g0 = c.gather-gathered.ensures.gathered ∙ ap (λ (x : PoolId). gathered_from x.passes (first ∷ []) [] 0 qs) own in
+    let g1 = c.put_passes-others.ensures.gathered (first ∷ []) [] g0 in
+    let g2 = c.put_workers.ensures.gathered (first ∷ others) [] g1 in
+    let g3 = c.put_helpers.ensures.gathered (first ∷ others) ends g2 in
+    ap (map (λ (x : GatheredSeen). x.queue)) g3 ∙ queues_of whole (first ∷ others) (ends ++ helped) 0 qs
 
-pub finish-lanes-requires-clause-all : goal.finish-lanes-requires-clause-all
-finish-lanes-requires-clause-all g c =
-    let passes = c.args.passes.items ++ c.args.marker.pass ∷ [] in
-    let n = length c.args.passes.items + 1 in
-    let some : 0 < n = omega arith in
-    let first = subst (λ (l : List Record). IsGathered n passes l c.gather_passes-seat.result.me) (sym c.new-records.ensures) c.gather_passes-seat.ensures.gathered in
-    let all = goes_on (length c.args.helped.items) (length c.args.ends.items) c.new-records.result c.gather_passes-seat.result.me c.gather_helpers.new.records c.gather_helpers.new.seat.me c.gather_workers.new.records c.gather_workers.new.seat.me c.gather_helpers.ensures.gathered c.gather_workers.ensures.gathered n passes some first in
-    let view = c.self.view_is in
-    omega (arith, all.parts_are, c.self.invariant.3, c.requires.passes.count, length-append c.args.passes.items (c.args.marker.pass ∷ []), c.requires.ends.count_is, c.requires.helped.count_is, ap (λ (p : PoolSeen). p.adders) view, ap (λ (p : PoolSeen). p.workers) view, ap (λ (p : PoolSeen). p.helpers) view)
+pub settle_all-rests-requires-clause-whole : goal.settle_all-rests-requires-clause-whole
+settle_all-rests-requires-clause-whole g c =
+    let qs : List (SegId Global) = c.self.inside.queues.items in
+    let whole = c.self.inside.adders + c.self.inside.workers + c.self.inside.helpers in
+    let id = ap (λ (s : PoolSeen). s.id) c.self.view_is in
+    let first : PassSeen = c.in-Some.first in
+    let others : List PassSeen = c.pop_front.new.self in
+    let ends : List EndSeen = c.args.ends.items in
+    let helped : List EndSeen = c.args.helped.items in
+    let all = subst (All (λ (p : PassSeen). p.pool ≡ c.args.self.id)) c.in-Some.ensures.items c.requires.passes.of_pool in
+    let own = All-head (λ (p : PassSeen). p.pool ≡ c.args.self.id) first others all ∙ sym id in
+    let g0 = c.gather-gathered.ensures.gathered ∙ ap (λ (x : PoolId). gathered_from x.passes (first ∷ []) [] 0 qs) own in
+    let g1 = c.put_passes-others.ensures.gathered (first ∷ []) [] g0 in
+    let g2 = c.put_workers.ensures.gathered (first ∷ others) [] g1 in
+    let g3 = c.put_helpers.ensures.gathered (first ∷ others) ends g2 in
+    let count : length (first ∷ others) + length (ends ++ helped) ≡ whole =
+    omega (
+      arith,
+      ap length c.in-Some.ensures.items,
+      length-append ends helped,
+      c.requires.passes.count,
+      c.requires.ends.count_is,
+      c.requires.helped.count_is,
+      ap (λ (s : PoolSeen). s.adders) c.self.view_is,
+      ap (λ (s : PoolSeen). s.workers) c.self.view_is,
+      ap (λ (s : PoolSeen). s.helpers) c.self.view_is,
+    ) in
+    subst (All IsWhole) (sym g3) (all_whole whole (first ∷ others) (ends ++ helped) 0 qs count)
 
-pub returns-clause-left : goal.returns-clause-left
-returns-clause-left g c =
-    let passes = c.args.passes.items ++ c.args.marker.pass ∷ [] in
-    let n = length c.args.passes.items + 1 in
-    let some : 0 < n = omega arith in
-    let first = subst (λ (l : List Record). IsGathered n passes l c.gather_passes-seat.result.me) (sym c.new-records.ensures) c.gather_passes-seat.ensures.gathered in
-    let all = goes_on (length c.args.helped.items) (length c.args.ends.items) c.new-records.result c.gather_passes-seat.result.me c.gather_helpers.new.records c.gather_helpers.new.seat.me c.gather_workers.new.records c.gather_workers.new.seat.me c.gather_helpers.ensures.gathered c.gather_workers.ensures.gathered n passes some first in
-    let left = c.finish-lanes.ensures in
-    let queues = c.self.invariant.2 ∙ ap (λ (p : PoolSeen). p.id.queues) c.self.view_is in
+pub returns-clause-came : goal.returns-clause-came
+returns-clause-came g c =
+    let qs : List (SegId Global) = c.self.inside.queues.items in
+    let whole = c.self.inside.adders + c.self.inside.workers + c.self.inside.helpers in
+    let id = ap (λ (s : PoolSeen). s.id) c.self.view_is in
+    let first : PassSeen = c.in-Some.first in
+    let others : List PassSeen = c.pop_front.new.self in
+    let ends : List EndSeen = c.args.ends.items in
+    let helped : List EndSeen = c.args.helped.items in
+    let items : c.args.passes ≡ first ∷ others = c.in-Some.ensures.items in
+    let all = subst (All (λ (p : PassSeen). p.pool ≡ c.args.self.id)) items c.requires.passes.of_pool in
+    let own = All-head (λ (p : PassSeen). p.pool ≡ c.args.self.id) first others all ∙ sym id in
+    let g0 = c.gather-gathered.ensures.gathered ∙ ap (λ (x : PoolId). gathered_from x.passes (first ∷ []) [] 0 qs) own in
+    let g1 = c.put_passes-others.ensures.gathered (first ∷ []) [] g0 in
+    let g2 = c.put_workers.ensures.gathered (first ∷ others) [] g1 in
+    let g3 = c.put_helpers.ensures.gathered (first ∷ others) ends g2 in
+    let told = c.told.ensures in
+    let many = λ (p : PassSeen). length p.pushed ≡ length qs in
+    let popped = λ (e : EndSeen). length e.popped ≡ length qs in
+    let found = ap (λ (w : WatchSeen). w.found) c.put_workers.ensures.begun in
+    let rests = c.settle_all-rests.result.items in
+    let came : CameTo g.J.Headed.head whole qs c.args.begun.found c.args.passes (ends ++ helped) rests =
     record {
-      rows = all.rows;
-      runs = all.runs;
-      few = omega (arith, left.few, all.adds (λ _. 1));
-      all = λ h. omega (arith, left.balanced h, all.adds h, all.taken h);
-      past = left.past;
-      lawful = subst (λ m. IsLawful m left.past) queues left.stands.lawful;
-      marked = subst (λ (l : List Deed). Since l left.past) (c.gather_workers.ensures.seen ∙ (c.gather_helpers.ensures.seen ∙ c.gather_passes-seat.ensures.seen)) left.seen;
-      saw = all_saw c.args.ends.items c.args.helped.items c.gather_passes-seat.result.me.0.heard c.gather_workers.new.seat.me.0.heard left.past
-          (c.gather_workers.ensures.heard ∙ ap (λ (l : List (List Deed)). seens_of c.args.ends.items ++ l) c.gather_helpers.ensures.heard) left.heard;
-      accepted = λ h. omega (arith, left.accepted h, all.adds h);
-      rest = rest_waits g.J.Headed.head left.past c.finish-lanes.result.lanes c.args.self.id.queues 0 (left.stands.count ∙ queues) (λ j. left.stands.lanes j ∙ ap (λ m. waiting_in m left.past) (omega arith));
-    }
+      gaps = subst (All HasNoGap) (sym items) (All-cons HasNoGap first others told.gap c.put_passes-others.ensures.gaps);
+      pushed = subst (All many) (sym items) (All-cons many first others (told.as_many ∙ ap (λ (x : PoolId). length x.queues) own) c.put_passes-others.ensures.pushed);
+      ran = All-append RanWhatItTook ends helped c.put_workers.ensures.ran c.put_helpers.ensures.ran;
+      popped = All-append popped ends helped c.put_workers.ensures.popped c.put_helpers.ensures.popped;
+      found = All-append (FoundAs c.args.begun.found) ends helped c.put_workers.ensures.found (subst (λ f. All (FoundAs f) helped) found c.put_helpers.ensures.found);
+      settled = subst (λ (l : List GatheredSeen). AllSettled g.J.Headed.head l rests) (g3 ∙ ap (λ (l : List PassSeen). gathered_from whole l (ends ++ helped) 0 qs) (sym items)) c.settle_all-rests.ensures;
+    } in
+    subst (λ (x : PoolId). CameTo g.J.Headed.head x.passes x.queues c.args.begun.found c.args.passes (ends ++ helped) rests) id came
 
-pub gather_passes-seat-requires-clause-passes : goal.gather_passes-seat-requires-clause-passes
-gather_passes-seat-requires-clause-passes g c k d l =
-    ap (λ (i : PoolId). i.table) (all_front (λ (p : PassSeen). p.pool ≡ c.args.self.id) c.args.passes.items (c.args.marker.pass ∷ []) c.requires.passes.of_pool k d l) ∙ sym (ap (λ (p : PoolSeen). p.id.table) c.self.view_is)
+pub returns-clause-few : goal.returns-clause-few
+returns-clause-few g c =
+    let qs : List (SegId Global) = c.self.inside.queues.items in
+    let whole = c.self.inside.adders + c.self.inside.workers + c.self.inside.helpers in
+    let id = ap (λ (s : PoolSeen). s.id) c.self.view_is in
+    let first : PassSeen = c.in-Some.first in
+    let others : List PassSeen = c.pop_front.new.self in
+    let ends : List EndSeen = c.args.ends.items in
+    let helped : List EndSeen = c.args.helped.items in
+    let items : c.args.passes ≡ first ∷ others = c.in-Some.ensures.items in
+    let all = subst (All (λ (p : PassSeen). p.pool ≡ c.args.self.id)) items c.requires.passes.of_pool in
+    let own = All-head (λ (p : PassSeen). p.pool ≡ c.args.self.id) first others all ∙ sym id in
+    let g0 = c.gather-gathered.ensures.gathered ∙ ap (λ (x : PoolId). gathered_from x.passes (first ∷ []) [] 0 qs) own in
+    let g1 = c.put_passes-others.ensures.gathered (first ∷ []) [] g0 in
+    let g2 = c.put_workers.ensures.gathered (first ∷ others) [] g1 in
+    let g3 = c.put_helpers.ensures.gathered (first ∷ others) ends g2 in
+    let told = c.told.ensures in
+    let many = λ (p : PassSeen). length p.pushed ≡ length qs in
+    let popped = λ (e : EndSeen). length e.popped ≡ length qs in
+    let found = ap (λ (w : WatchSeen). w.found) c.put_workers.ensures.begun in
+    let rests = c.settle_all-rests.result.items in
+    let came : CameTo g.J.Headed.head whole qs c.args.begun.found c.args.passes (ends ++ helped) rests =
+    record {
+      gaps = subst (All HasNoGap) (sym items) (All-cons HasNoGap first others told.gap c.put_passes-others.ensures.gaps);
+      pushed = subst (All many) (sym items) (All-cons many first others (told.as_many ∙ ap (λ (x : PoolId). length x.queues) own) c.put_passes-others.ensures.pushed);
+      ran = All-append RanWhatItTook ends helped c.put_workers.ensures.ran c.put_helpers.ensures.ran;
+      popped = All-append popped ends helped c.put_workers.ensures.popped c.put_helpers.ensures.popped;
+      found = All-append (FoundAs c.args.begun.found) ends helped c.put_workers.ensures.found (subst (λ f. All (FoundAs f) helped) found c.put_helpers.ensures.found);
+      settled = subst (λ (l : List GatheredSeen). AllSettled g.J.Headed.head l rests) (g3 ∙ ap (λ (l : List PassSeen). gathered_from whole l (ends ++ helped) 0 qs) (sym items)) c.settle_all-rests.ensures;
+    } in
+    omega (arith, few_rests g.J.Headed.head whole qs c.args.passes ends helped rests c.args.begun.found came, c.self.invariant.1)

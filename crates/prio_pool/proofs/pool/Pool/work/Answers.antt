@@ -1,33 +1,67 @@
-use Rattle.std.proofs.Common.{rules, [], ◌∷◌, refl, sym, ap, ◌∙◌, subst, List}
+use Rattle.std.proofs.Common.{rules, ◌≡◌, ℕ, ◌<◌, List, [], ◌∷◌, ◌++◌, length, Some, refl, sym, ap, subst, ◌∙◌}
+use Rattle.std.proofs.lemmas.List.{map-append}
 use Rattle.job_trait.specs.Runs.{Ran, Leads}
-use Rattle.prio_pool.proofs.Heeding.{heeds_new}
+use Rattle.pool_model.specs.declared.task.Ending.TheVariants.{Joins}
+use Rattle.pool_model.specs.Records.{Record, ran_of}
+use Rattle.pool_model.specs.Seen.{PoolId, WorkerSeen}
+use Rattle.pool_model.specs.Steps.{Turn, ran, idle, steps_in, steps_of}
+use Rattle.prio_pool.specs.Takers.{TakersSeen}
+use Rattle.prio_pool.specs.Turned.{WorkedSoFar}
 use Rattle.prio_pool.proofs.Leading.{leads_more}
-use Rattle.prio_pool.specs.History.{HeedsStop}
-use Rattle.prio_pool.specs.Record.{ran_of}
-use Rattle.prio_pool.proofs.Records.{ran_of-append}
+use Rattle.prio_pool.proofs.Recording.{so_far_more, worked_all}
 use Rattle.prio_pool.proofs.pool.Pool.work.Goals as goal
 
 pub loop-preserved-in-Ran : goal.loop-preserved-in-Ran
 loop-preserved-in-Ran g c =
     let i = c.loop.invariant in
     let t = c.in-Ran.ensures in
-    let entry = t.turned.0 in
-    let list = ap ran_of t.turned.1 ∙ ran_of-append c.loop.records (entry ∷ []) in
+    let d = t.turned in
+    let old : TakersSeen = c.loop.takers in
+    let new : TakersSeen = c.turn.new.takers in
+    let n = length c.pass.inside.takers.pool.queues in
+    let as_many : length old.pool.queues ≡ n = ap (λ (p : PoolId). length p.queues) i.pool in
+    let list = ap ran_of d.list ∙ map-append (λ (r : Record). (r.job, r.mark)) c.loop.records (d.entry ∷ []) in
+    let turn : Turn = ran d.found d.queue d.task in
     record {
-      table = t.same.0 ∙ i.table;
-      queues = t.same.1 ∙ i.queues;
-      number = t.same.2 ∙ i.number;
-      end = t.end;
-      heeds = subst (λ n. HeedsStop n c.turn.new.seat.me.0.seen) (sym t.same.2) (t.heeds refl i.heeds);
-      ran = subst (λ (l : List Ran). Leads g.J.Job.runs c.args.world.now l c.turn.new.world) (sym list) (leads_more g.J.Job.runs c.args.world.now c.loop.world c.turn.new.world (ran_of c.loop.records) entry.job entry.mark i.ran t.turned.2);
+      pool = t.same.0 ∙ i.pool;
+      number = t.same.1 ∙ i.number;
+      records = t.records;
+      ran = subst (λ (l : List Ran). Leads g.J.Job.runs c.args.world.now l c.turn.new.world) (sym list) (leads_more g.J.Job.runs c.args.world.now c.loop.world c.turn.new.world (ran_of c.loop.records) d.entry.job d.entry.mark i.ran d.led);
+      worked = so_far_more n (steps_in old.looks) (steps_in new.looks) turn i.worked
+          (subst (λ (m : ℕ). d.queue < m) as_many d.within, d.heeded refl)
+          (subst (λ (m : ℕ). steps_in new.looks ≡ steps_in old.looks ++ steps_of m turn) as_many d.turn);
     }
 
-pub loop-init : goal.loop-init
-loop-init g c = record {
-  table = refl;
-  queues = refl;
-  number = refl;
-  end = search rules;
-  heeds = heeds_new c.pass.inside.seat.me c.pass.invariant.1 c.pass.invariant.0;
-  ran = search rules;
-}
+pub loop-preserved : goal.loop-preserved
+loop-preserved g c =
+    let i = c.loop.invariant in
+    let t = c.in-Idle.ensures in
+    let d = t.turned in
+    let old : TakersSeen = c.loop.takers in
+    let new : TakersSeen = c.turn.new.takers in
+    let n = length c.pass.inside.takers.pool.queues in
+    let as_many : length old.pool.queues ≡ n = ap (λ (p : PoolId). length p.queues) i.pool in
+    let turn : Turn = idle c.in-Idle.ending in
+    record {
+      pool = t.same.0 ∙ i.pool;
+      number = t.same.1 ∙ i.number;
+      records = t.records;
+      ran = subst (λ (l : List Record). Leads g.J.Job.runs c.args.world.now (ran_of l) c.turn.new.world) (sym d.list) (subst (Leads g.J.Job.runs c.args.world.now (ran_of c.loop.records)) (sym d.world) i.ran);
+      worked = so_far_more n (steps_in old.looks) (steps_in new.looks) turn i.worked c.in-None-ending.is
+          (subst (λ (m : ℕ). steps_in new.looks ≡ steps_in old.looks ++ steps_of m turn) as_many d.turn);
+    }
+
+pub returns-in-Some-Joins-clause-worked : goal.returns-in-Some-Joins-clause-worked
+returns-in-Some-Joins-clause-worked g c =
+    let i = c.loop.invariant in
+    let d = c.in-Idle.ensures.turned in
+    let old : TakersSeen = c.loop.takers in
+    let new : TakersSeen = c.turn.new.takers in
+    let own : c.pass.inside.takers.pool ≡ c.args.self.now.id = ap (λ (w : WorkerSeen). w.pool) c.pass.view_is ∙ c.requires in
+    let m = length c.args.self.now.id.queues in
+    let as_many : length old.pool.queues ≡ m = ap (λ (p : PoolId). length p.queues) (i.pool ∙ own) in
+    let worked = subst (λ (k : ℕ). WorkedSoFar k (steps_in old.looks)) (ap (λ (p : PoolId). length p.queues) own) i.worked in
+    let turn : Turn = idle c.in-Idle.ending in
+    let ends : c.in-Idle.ending ≡ Some Joins = search rules in
+    worked_all m (steps_in old.looks) (steps_in new.looks) turn worked ends
+    (subst (λ (k : ℕ). steps_in new.looks ≡ steps_in old.looks ++ steps_of k turn) as_many d.turn)

@@ -1,17 +1,16 @@
-use Rattle.std.proofs.Common.{◌≡◌}
+use Rattle.std.proofs.Common.{◌≡◌, length}
 use Rattle.job_trait.specs.Runs.{Leads}
-use Rattle.prio_pool.specs.Record.{ran_of}
-use Rattle.prio_pool.specs.Rule.{worker_of}
-use Rattle.prio_pool.specs.History.{HeedsStop}
-use Rattle.prio_pool.specs.Passes.{IsEnd}
+use Rattle.pool_model.specs.Records.{ran_of}
+use Rattle.pool_model.specs.Steps.{steps_in}
+use Rattle.prio_pool.specs.Takers.{RanTaken}
+use Rattle.prio_pool.specs.Turned.{WorkedSoFar}
 use Rattle.prio_pool.proofs.pool.Pool.work.Given as goal
 
 abbrev pub invariant-loop : goal.invariant-loop
 invariant-loop g l = record {
-  table : l.seat.table_id ≡ l.initial.seat.table_id;
-  queues : l.seat.me.0.queues ≡ l.initial.seat.me.0.queues;
-  number : worker_of l.seat.me.0.role ≡ worker_of l.initial.seat.me.0.role;
-  end : IsEnd l.records l.seat.me;
-  heeds : HeedsStop (worker_of l.seat.me.0.role) l.seat.me.0.seen;
+  pool : l.takers.pool ≡ l.initial.takers.pool;
+  number : l.takers.number ≡ l.initial.takers.number;
+  records : RanTaken l.takers l.records;
   ran : Leads g.J.Job.runs l.initial.world (ran_of l.records) l.world;
+  worked : WorkedSoFar (length l.initial.takers.pool.queues) (steps_in l.takers.looks);
 }

@@ -1,22 +1,8 @@
-use Rattle.std.proofs.Common.{map, sym, ap, ◌∙◌}
-use Rattle.prio_pool.specs.Tasks.{Queued}
-use Rattle.prio_pool.specs.Returning.{all_tasks, back_of}
-use Rattle.prio_pool.proofs.Endings.{takes_back, none_back, no_more_tasks, runs_none, runs_one, only_one}
+use Rattle.prio_pool.proofs.Handing.{run_back}
 use Rattle.prio_pool.proofs.returned.Returned.run_next.Goals as goal
-
-pub returns-in_err-task : goal.returns-in_err-task
-returns-in_err-task g c =
-    let looked = c.in_err-task.ensures.none in
-    let none = none_back c.self.inside.lanes.lanes looked.1 in
-    runs_none g.J.Headed.head g.J.Job.runs c.from_residual.result c.args.self.now (map back_of (all_tasks c.take_highest.new.self.lanes)) c.args.world.now
-    c.from_residual.ensures (sym c.self.view_is ∙ none) (ap (λ (q : Queued g.row.J.Denot). map back_of (all_tasks q.lanes)) looked.0 ∙ none)
-
-pub invariant_of-self-2 : goal.invariant_of-self-2
-invariant_of-self-2 g c = no_more_tasks c.self.inside.lanes c.in_ok-task.task c.take_highest.new.self c.in_ok-task.ensures.first c.self.invariant
 
 pub returns : goal.returns
 returns g c =
     let made = c.run_task-made.ensures in
-    runs_one g.J.Headed.head g.J.Job.runs c.pop_front.result c.in_ok-task.task c.args.self.now (map back_of (all_tasks c.take_highest.new.self.lanes)) c.args.world.now c.run_task-made.new.world
-    (sym c.self.view_is ∙ takes_back c.self.inside.lanes c.in_ok-task.task c.take_highest.new.self c.in_ok-task.ensures.first)
-    made.entry (only_one c.pop_front.result c.run_task-made.result c.pop_front.new.self made.entry made.only c.pop_front.ensures.variant c.pop_front.ensures.items) made.is made.ran
+    run_back g.J.Headed.head g.J.Job.runs c.pop_front.result c.run_task-made.result c.pop_front.new.self _ made.entry c.args.self.now c.take.new.self c.in_ok-queue.queue c.in_ok-queue.task c.args.world.now c.run_task-made.new.world
+    made.only c.pop_front.ensures.items c.pop_front.ensures.cases c.in_ok-queue.ensures made.is made.ran

@@ -1,0 +1,22 @@
+use Rattle.std.proofs.Common.{List, ◌∷◌, set, Some, refl, ap, sym, ◌∙◌}
+use Rattle.prio_pool.proofs.Mixing.{at_index}
+use Rattle.prio_pool.proofs.Taking.{set_same}
+use Rattle.prio_pool.proofs.returned.take_first.Goals as goal
+
+pub returns-in_default : goal.returns-in_default
+returns-in_default g c =
+    let old = c.args.rests.now.items in
+    let k = c.args.number in
+    let r = c.index_mut.result.now in
+    let at = at_index old k r c.requires ∙ ap (λ (x : List _). Some x) (sym c.index_mut.ensures.value) in
+    let e = c.in_default.ensures in
+    (at ∙ ap (λ (x : List _). Some x) e.0, ap (set old k) (e.1 ∙ sym e.0) ∙ set_same old k r at)
+
+pub returns : goal.returns
+returns g c =
+    let old = c.args.rests.now.items in
+    let k = c.args.number in
+    let r = c.index_mut.result.now in
+    let at = at_index old k r c.requires ∙ ap (λ (x : List _). Some x) (sym c.index_mut.ensures.value) in
+    let more = c.pop_front.new.self in
+    (more, at ∙ (ap (λ (x : List _). Some x) c.in-Some.ensures ∙ ap (λ (x : _). Some (x ∷ more)) (sym c.open.ensures)), refl)

@@ -1,0 +1,12 @@
+use Rattle.std.proofs.Common.{◌≡◌, ◌≤◌, length}
+use Rattle.prio_pool.specs.Returning.{back_from}
+use Rattle.prio_pool.proofs.returned.take_next.Given as goal
+
+abbrev pub invariant-loop-rests : goal.invariant-loop-rests
+invariant-loop-rests g l = record {
+  same : back_from 0 l.rests.items ≡ back_from 0 l.initial.rests.items;
+  fewer : length l.rests.items ≤ length l.initial.rests.items;
+}
+
+abbrev pub decreases-loop-rests : goal.decreases-loop-rests
+decreases-loop-rests g l = length l.rests.items

@@ -1,0 +1,32 @@
+use Rattle.std.proofs.Common.{◌≡◌, List, [], ◌∷◌, ◌++◌, length, length-append, map, reverse, ap, sym, subst, ◌∙◌, append_assoc, arith}
+use Rattle.std.specs.List.{All}
+use Rattle.std.specs.declared.alloc.Global.{Global}
+use Rattle.std.proofs.lemmas.List.{map-append, reverse-append}
+use Rattle.crossbeam_queue.specs.SegTies.{SegId}
+use Rattle.task_queue.specs.Seen.{GatheredSeen}
+use Rattle.prio_pool.specs.Gathering.{AllSettled, IsWhole}
+use Rattle.prio_pool.proofs.Gathered.{snoc_same}
+use Rattle.prio_pool.proofs.Lists.{All-front}
+use Rattle.prio_pool.proofs.settle.settle_all.Goals as goal
+
+pub loop-queue-preserved : goal.loop-queue-preserved
+loop-queue-preserved g c =
+    let i = c.loop-queue.invariant in
+    let q : SegId Global = c.in-Some.queue in
+    let one : GatheredSeen = c.in-Some-pop.passes in
+    let qs = c.pop.new.self.items in
+    let gs = c.pop-in-Some.new.self.items in
+    let old = c.loop-queue.rests.items in
+    let queue_items : c.loop-queue.queues.items ≡ qs ++ q ∷ [] = c.in-Some.ensures.items in
+    let items : c.loop-queue.gathered.items ≡ gs ++ one ∷ [] = c.in-Some-pop.ensures.items in
+    let seen = sym (map-append (λ (x : GatheredSeen). x.queue) gs (one ∷ [])) ∙ (ap (map (λ (x : GatheredSeen). x.queue)) (sym items) ∙ (i.queues ∙ queue_items)) in
+    let parts = snoc_same (map (λ (x : GatheredSeen). x.queue) gs) qs one.queue q seen in
+    let turned = ap reverse c.push_reserved.ensures.items ∙ reverse-append old (c.settle.result ∷ []) in
+    record {
+      done = one ∷ i.done;
+      all = sym (append_assoc gs (one ∷ []) i.done) ∙ (ap (λ (l : List GatheredSeen). l ++ i.done) (sym items) ∙ i.all);
+      queues = parts.0;
+      whole = All-front IsWhole gs (one ∷ []) (subst (All IsWhole) items i.whole);
+      settled = subst (AllSettled g.J.Headed.head (one ∷ i.done)) (sym turned) (c.settle.ensures, i.settled);
+      room = omega (arith, i.room, ap length queue_items, length-append qs (q ∷ []), ap length c.push_reserved.ensures.items, length-append old (c.settle.result ∷ []), c.push_reserved.ensures.capacity);
+    }

@@ -1,5 +1,0 @@
-use Rattle.std.proofs.Common.{◌≡◌, length}
-use Rattle.prio_pool.proofs.tests.add_and_begin_stop.Given as goal
-
-abbrev pub invariant-loop-id : goal.invariant-loop-id
-invariant-loop-id g l = (l.pass.pool ≡ l.initial.pass.pool) × (length l.pass.adds ≡ l.id)
