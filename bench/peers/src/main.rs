@@ -1,12 +1,10 @@
-//! What one would take in plain Rust: an unbounded channel of crossbeam, and a wheel of timers with a map of its ids.
+//! What one would take in plain Rust: an unbounded channel of crossbeam.
 
 mod channel;
-mod timers;
 
 fn main() {
     match std::env::args().nth(1).as_deref() {
         Some("messages") => channel::run(),
-        Some("timers") => timers::run(),
-        _ => eprintln!("peers messages | timers"),
+        _ => eprintln!("peers messages"),
     }
 }
