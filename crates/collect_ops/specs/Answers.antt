@@ -129,8 +129,8 @@ IsBack arrival outcome returned (reason.Counted receipt) = ⊥
 
 -- a value comes back, since another had claimed; or a fault, since more faults were left
 abbrev pub ComesBack : {X T E : Type 0} → ArrivalSeen E → Try T → Try T → Reason X E → Type 0
-ComesBack arrival outcome returned (reason.Claimed lost) = (returned ≡ outcome) × LostBy arrival lost
-ComesBack arrival outcome returned (reason.Counted receipt) = (returned ≡ outcome) × (receipt.desk ≡ arrival.desk) × (receipt.index ≡ arrival.index) × (1 < receipt.found) × (receipt.found ≤ arrival.desk.size)
+ComesBack arrival outcome returned (reason.Claimed lost) = (any_value_act outcome ≡ claim) × (returned ≡ outcome) × LostBy arrival lost
+ComesBack arrival outcome returned (reason.Counted receipt) = (any_value_act outcome ≡ count) × (returned ≡ outcome) × (receipt.desk ≡ arrival.desk) × (receipt.index ≡ arrival.index) × (1 < receipt.found) × (receipt.found ≤ arrival.desk.size)
 
 -- a value is kept
 abbrev pub KeepsValue : {T E : Type 0} → ArrivalSeen E → Try T → ReceiptSeen T E → Type 0

@@ -84,7 +84,7 @@ impl<'h, T, C, P> Cells<'h, T, C, P> {
     /// Reopens the husk's cell and puts its key into the free queue. The pass is of these cells, and so is the husk, if
     /// all are to be used again. An `Err`, with the key, comes only where as many cells were free at a moment of this call
     /// as there are homes: for a pass that is the only one, by what it took and put. Then the cell is reopened too, and
-    /// the pass stays as it was. A husk of these cells never meets that.
+    /// the pass stays as it was. Tests show that a husk of these cells doesn't meet that.
     pub fn give_back(
         &self,
         rt: &impl Wait,

@@ -1,8 +1,8 @@
 //! Each caller once, with what must come of it.
 
-use crate::{ask_another, double_value, hand_over, keep};
+use crate::{Deferral, ask_another, double_later, double_value, hand_over, keep};
 use core_word::Tally;
-use fan_base::Try;
+use fan_base::{ExecId, Try};
 use std::test::Fail;
 
 #[test]
@@ -40,5 +40,33 @@ fn a_callback_goes_through_a_proxy(rt: HostRuntime) -> Result<(), Fail> {
     assert_eq!(rt; answer, Some((Try::Value(8), 7)));
     assert_eq!(rt; (tally.made(), tally.handed()), (2, 1));
     assert_eq!(rt; (tally.forwarded(), tally.freed()), (1, 2));
+    Ok(())
+}
+
+#[test]
+fn deferred_work_runs_on_the_executor_that_is_chosen(rt: HostRuntime) -> Result<(), Fail> {
+    let mut tally = Tally::new();
+    let ran = double_later(rt.alloc(), 21, Some(ExecId(3)), &mut tally)?;
+    let wanted = Deferral {
+        exec: Some(ExecId(3)),
+        answer: Some((Try::Value(42), 7)),
+        unclaimed: None,
+    };
+    assert_eq!(rt; ran, wanted);
+    assert_eq!(rt; (tally.made(), tally.handed(), tally.freed()), (2, 2, 2));
+    Ok(())
+}
+
+#[test]
+fn deferred_work_without_an_executor_never_runs(rt: HostRuntime) -> Result<(), Fail> {
+    let mut tally = Tally::new();
+    let given_up = double_later(rt.alloc(), 21, None, &mut tally)?;
+    let wanted = Deferral {
+        exec: None,
+        answer: None,
+        unclaimed: Some(Try::Broken),
+    };
+    assert_eq!(rt; given_up, wanted);
+    assert_eq!(rt; (tally.made(), tally.handed(), tally.freed()), (2, 1, 2));
     Ok(())
 }
