@@ -10,3 +10,4 @@ mod Executors
 mod SameBase
 mod Emptied
 mod Looked
+mod Messages

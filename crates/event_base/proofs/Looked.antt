@@ -1,5 +1,5 @@
 -- What a look at the posters' marks adds to the looks of a receiver.
-use Rattle.std.proofs.Common.{◌≡◌, Bool, true, false, [], ◌∷◌, ◌++◌, sym}
+use Rattle.std.proofs.Common.{Bool, true, false, [], ◌∷◌, ◌++◌, sym}
 use Rattle.std.specs.Bool.{OnTrue, OnFalse}
 use mathlib.Core.List.{IsPrefix}
 use Rattle.notify_queue.specs.Ends.{Receiving, HasEnded, FoundEnded, FoundLive}

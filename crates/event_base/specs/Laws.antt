@@ -1,12 +1,13 @@
 -- Words of the laws of rounds.
-use Rattle.std.specs.Prelude.{◌≡◌, ℕ, ◌+◌, ◌⊎◌, List, [], ◌∷◌, ◌++◌, map}
+use Rattle.std.specs.Prelude.{◌≡◌, ℕ, ◌+◌, ◌⊎◌, false, List, [], ◌∷◌, ◌++◌, map}
 use Rattle.std.specs.List.{flat_map}
 use Rattle.fan_base.specs.declared.number.JobId.{JobId}
 use Rattle.fan_base.specs.declared.number.Mark.{Mark}
 use Rattle.job_trait.specs.declared.job.Head.{Head}
 use Rattle.job_trait.specs.Runs.{Ran, Leads}
+use Rattle.notify_queue.specs.declared.stamp.Stamped.{Stamped}
 use Rattle.event_base.specs.Seen.{AgendaSeen, BaseSeen, settled}
-use Rattle.event_base.specs.Turns.{Turn, Place, LeavesAgenda, TakesBefore, TakesLoop}
+use Rattle.event_base.specs.Turns.{Turn, Place, LeavesAgenda, TakesBefore, TakesLoop, AreTurns, jobs_of}
 use Rattle.event_base.specs.Rounds.{Phases, in_phase, ticked}
 
 module _ {W J : Type 0} (runs : JobId → Place W J → Mark → Place W J → Type 0) where
@@ -78,3 +79,25 @@ pub record KeepsBase {J : Type 0} (ticks : ℕ) (old new : BaseSeen J) : Type 0 
   pub queue : new.queue.queue ≡ old.queue.queue
   pub senders : new.queue.senders ≡ old.queue.senders
   pub tick : new.agenda.wheel.tick ≡ old.agenda.wheel.tick + ticks
+
+-- no callback is held, no loop phase runs, and the mark to end is off
+pub record IsIdle {J : Type 0} (a : AgendaSeen J) : Type 0 where
+  pub before : a.before ≡ []
+  pub loops : a.loops ≡ []
+  pub later : a.later ≡ []
+  pub in_loop : a.in_loop ≡ false
+  pub terminating : a.terminating ≡ false
+
+-- each run leaves the agenda as it was
+abbrev pub LeaveTheAgenda : {W J : Type 0} → (JobId → Place W J → Mark → Place W J → Type 0) → Type 0
+LeaveTheAgenda {W} {J} runs = (id : JobId) (p : Place W J) (mark : Mark) (q : Place W J) → runs id p mark q → q.1 ≡ p.1
+
+module _ {W J : Type 0} (head : J → Head) (runs : JobId → Place W J → Mark → Place W J → Type 0) where
+  -- exactly the messages that were taken ran, once each, in the queue's order, on an agenda that stays as it is
+  pub record RunsMessages (w : W) (old : BaseSeen J) (v : W) (new : BaseSeen J) : Type 0 where
+    pub took : List (Stamped J)
+    pub turns : List (Turn J)
+    pub taken : new.queue.taken ≡ old.queue.taken ++ took
+    pub jobs : jobs_of turns ≡ map (λ (x : Stamped J). x.message) took
+    pub agenda : new.agenda ≡ old.agenda
+    pub ran : AreTurns LeavesAgenda head runs (w, old.agenda) turns (v, old.agenda)

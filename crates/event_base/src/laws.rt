@@ -3,8 +3,9 @@ ghost use Rattle.std.specs.Prelude.{◌≡◌, ℕ, ◌-◌, ◌++◌, [], false
 ghost use Rattle.event_base.specs.declared.round.Round.{Round};
 ghost use Rattle.event_base.specs.declared.round.RoundMemory.{RoundMemory};
 ghost use Rattle.event_base.specs.declared.round.Why.{Why};
+ghost use Rattle.event_base.specs.declared.round.Why.TheVariants.{Closed};
 ghost use Rattle.event_base.specs.Calls.{IsReached};
-ghost use Rattle.event_base.specs.Laws.{IsKeptByRuns, KeepsBase, LeadsUpTo, ran_in};
+ghost use Rattle.event_base.specs.Laws.{IsIdle, IsKeptByRuns, KeepsBase, LeadsUpTo, LeaveTheAgenda, RunsMessages, ran_in};
 ghost use Rattle.event_base.specs.Looping.{IsLoop, IsCutLoop};
 ghost use Rattle.event_base.specs.Rounds.{Phases, IsLoopPhase, IsWholeRound, IsCutRound, HasNotBegun};
 ghost use Rattle.event_base.specs.Seen.{AgendaSeen, BaseSeen};
@@ -76,4 +77,24 @@ pub fn rounds_keep_the_base<W, J: LoopJob<W>>()
     ensures cut_loop { (fault : RoundMemory) (w : W) (old : BaseSeen J) (v : W) (new : BaseSeen J)
         → IsCutLoop J.head J.runs fault w old v new
         → KeepsBase 0 old new }
+{}
+
+/// Where no callback is held at first, the mark to end is off and each run leaves the agenda as it was, a loop runs exactly the messages
+/// that it took, once each, in the queue's order, and it is never told to end.
+pub fn a_loop_of_messages<W, J: LoopJob<W>>()
+    ensures whole_loop { LeaveTheAgenda J.runs
+        → (rounds : ℕ) (why : Why) (w : W) (old : BaseSeen J) (v : W) (new : BaseSeen J)
+        → IsIdle old.agenda
+        → IsLoop J.head J.runs rounds why w old v new
+        → RunsMessages J.head J.runs w old v new }
+    ensures closed { LeaveTheAgenda J.runs
+        → (rounds : ℕ) (why : Why) (w : W) (old : BaseSeen J) (v : W) (new : BaseSeen J)
+        → IsIdle old.agenda
+        → IsLoop J.head J.runs rounds why w old v new
+        → why ≡ Closed }
+    ensures cut_loop { LeaveTheAgenda J.runs
+        → (fault : RoundMemory) (w : W) (old : BaseSeen J) (v : W) (new : BaseSeen J)
+        → IsIdle old.agenda
+        → IsCutLoop J.head J.runs fault w old v new
+        → RunsMessages J.head J.runs w old v new }
 {}

@@ -20,7 +20,7 @@
 //! - `close`: what was posted or scheduled here and neither ran nor was cancelled comes back, once and in order; the note of the queue.
 //! - Each call of the agenda: what it makes of it, or that it changed nothing and gives the job back.
 //! - Laws of rounds: [`related_by_each_turn`], [`a_round_leads`], [`held_after_a_loop_phase`], [`rounds_keep_the_base`],
-//!   [`calls_in_a_row`].
+//!   [`a_loop_of_messages`], [`calls_in_a_row`].
 //!
 //! Nothing is said of waiting: that a sleeping base wakes, or that a loop ends.
 #![tactic(auto)]
@@ -29,8 +29,8 @@ pub use agenda::Agenda;
 pub use base::{BaseEnd, EventBase, Poster};
 pub use job::LoopJob;
 pub use laws::{
-    a_round_leads, calls_in_a_row, held_after_a_loop_phase, related_by_each_turn,
-    rounds_keep_the_base,
+    a_loop_of_messages, a_round_leads, calls_in_a_row, held_after_a_loop_phase,
+    related_by_each_turn, rounds_keep_the_base,
 };
 pub use rest::{BaseRest, QueueNote};
 pub use round::{LoopEnd, Round, RoundMemory, Why};

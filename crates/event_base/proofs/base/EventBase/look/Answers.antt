@@ -1,4 +1,4 @@
-use Rattle.std.proofs.Common.{◌≡◌, refl, sym}
+use Rattle.std.proofs.Common.{refl, sym}
 use Rattle.event_base.proofs.Looked.{looked_on}
 use Rattle.event_base.proofs.base.EventBase.look.Goals as goal
 
