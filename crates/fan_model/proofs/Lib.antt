@@ -1,4 +1,9 @@
 mod Sorts
 mod TaskLaws
 mod PlaceLaws
+mod Lists
+mod AskedLaws
+mod ComingLaws
+mod ComingSteps
+mod HowMany
 mod RowProofs

@@ -5,4 +5,5 @@ pub mod Notes
 pub mod Report
 pub mod Places
 pub mod Laws
+pub mod Comings
 pub mod Rows
