@@ -31,7 +31,8 @@ impl Shards {
         requires many { shards ≤ 64 }
         requires few { length docs.now < 2 ^ 32 }
         requires short { AreShort docs.now }
-        ensures { IfOk result (λ shards. StandForAll shards docs.now) }
+        ensures many { IfOk result (λ all. how_many all ≡ shards) }
+        ensures stand { IfOk result (λ all. StandForAll all docs.now) }
     {
         let mut all = Vec::new(alloc);
         for number in 0..shards {
