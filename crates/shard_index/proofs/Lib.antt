@@ -11,3 +11,4 @@ mod PartLemmas
 mod IndexLemmas
 mod MergeLemmas
 mod MarkLemmas
+pub mod Crossings

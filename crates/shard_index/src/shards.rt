@@ -1,10 +1,11 @@
-ghost use Rattle.std.specs.Prelude.{◌≡◌, ◌<◌, ◌≤◌, ◌^◌, ◌++◌, ◌∷◌, [], All, List, IfOk, OnOk, length, map, take};
+ghost use Rattle.std.specs.Prelude.{◌≡◌, ◌<◌, ◌≤◌, ◌^◌, ◌++◌, ◌∷◌, [], All, List, ℕ, IfOk, OnOk, get_or, length, map, take};
 ghost use Rattle.fan_base.specs.declared.doc.Doc.{Doc};
 ghost use Rattle.query_model.specs.Answers.{answer, each_once, hits_of, top_of, weight_of};
 ghost use Rattle.query_model.specs.Parts.{part_before, weighted_top};
 ghost use Rattle.shard_index.specs.Counting.{counts_of, DifferentWords};
 ghost use Rattle.shard_index.specs.Parts.{by_shard};
-ghost use Rattle.shard_index.specs.Standing.{AreShort, how_many, StandForAll, StandForSome};
+ghost use Rattle.shard_index.specs.Standing.{AreShort, how_many, StandForAll, StandForSome, StandsFor};
+ghost use Rattle.shard_index.specs.declared.shard.Shard.{Shard};
 
 use crate::counts::Counts;
 use crate::laws::{merged_hits_are_the_whole, merged_scores_are_the_whole};
@@ -43,6 +44,15 @@ impl Shards {
             docs: docs.len(),
             shards: all,
         })
+    }
+
+    /// The shards, in the order of their numbers.
+    pub fn as_slice(&self) -> &[Shard]
+        ensures many { length result.now ≡ how_many self.now }
+        ensures each { (docs : List Doc) → StandForAll self.now docs → (number : ℕ) (shard : Shard) → number < how_many self.now
+            → StandsFor (get_or result.now number shard) docs (how_many self.now) number }
+    {
+        self.shards.as_slice()
     }
 
     /// The answer of a query over the first documents.
