@@ -1,0 +1,4 @@
+pub mod PartLemmas
+pub mod MergeLemmas
+pub mod WholeLemmas
+pub mod Crossings

@@ -1,0 +1,10 @@
+use Rattle.std.proofs.Common.{◌+◌, ◌<◌, ◌^◌, arith}
+use Rattle.query_parts.specs.Parts.{mark_in}
+use Rattle.query_parts.proofs.MergeLemmas.{total-fits}
+use Rattle.query_parts.proofs.among.total_of.Goals as goal
+
+pub overflow_add-total : goal.overflow_add-total
+overflow_add-total c =
+    let fits : c.loop-part.total + mark_in c.part-item.result < 2 ^ 64 = total-fits c.args.parts.now c.loop-part.part-index c.loop-part.total c.part-item.result
+    c.loop-part-test.true c.part-item.is c.loop-part.invariant c.requires in
+    omega (arith, fits, c.mark-total.ensures)
