@@ -1,0 +1,4 @@
+pub mod Seen
+pub mod Facts
+pub mod Heads
+pub mod Spending

@@ -1,0 +1,217 @@
+ghost use Rattle.std.specs.Prelude.{◌≡◌};
+ghost use Rattle.fan_parts.specs.Facts.{IsEnd, IsTaskCallback};
+
+use crate::ask::NumberedAsk;
+use crate::part::Part;
+use crate::reply::{PlacedReply, ReplyCallback};
+use crate::run_name::RunName;
+use collect_ops::{AllDesk, Arrival};
+use core_proxy::NoProxy;
+use core_word::{Consumer, Fire, Home, Key, Producer};
+use fan_base::ExecId;
+use std::marker::Model;
+
+/// A reply with its callback, of a reply's core or of an inner core.
+pub type ReplyFire<N> = Fire<PlacedReply<N>, ReplyCallback<N>>;
+
+/// The memory of an inner core, which the reply's core of a `top` is forwarded to.
+pub type InnerHome<N> = Home<PlacedReply<N>, ReplyCallback<N>, NoProxy>;
+
+pub type InnerKey<'i, N> = Key<'i, PlacedReply<N>, ReplyCallback<N>, NoProxy>;
+
+pub type InnerProducer<'i, N> = Producer<'i, PlacedReply<N>, ReplyCallback<N>, NoProxy>;
+
+pub type InnerConsumer<'i, N> = Consumer<'i, PlacedReply<N>, ReplyCallback<N>, NoProxy>;
+
+/// The memory of a reply's core.
+pub type ReplyHome<'i, N> = Home<PlacedReply<N>, ReplyCallback<N>, InnerConsumer<'i, N>>;
+
+pub type ReplyKey<'r, 'i, N> = Key<'r, PlacedReply<N>, ReplyCallback<N>, InnerConsumer<'i, N>>;
+
+pub type ReplyProducer<'r, 'i, N> = Producer<
+    'r,
+    PlacedReply<N>,
+    ReplyCallback<N>,
+    InnerConsumer<'i, N>,
+>;
+
+pub type ReplyConsumer<'r, 'i, N> = Consumer<
+    'r,
+    PlacedReply<N>,
+    ReplyCallback<N>,
+    InnerConsumer<'i, N>,
+>;
+
+/// The desk at which the parts of a query are gathered.
+pub type PartDesk<'r, 'i, N> = AllDesk<Part<N>, End<'r, 'i, N>>;
+
+pub type PartArrival<'d, 'r, 'i, N> = Arrival<'d, PartDesk<'r, 'i, N>>;
+
+/// A part with its callback, of a task's core.
+pub type TaskFire<'d, 'r, 'i, N> = Fire<Part<N>, PartCallback<'d, 'r, 'i, N>>;
+
+/// The memory of a task's core.
+pub type TaskHome<'d, 'r, 'i, N> = Home<Part<N>, PartCallback<'d, 'r, 'i, N>, NoProxy>;
+
+pub type TaskKey<'t, 'd, 'r, 'i, N> = Key<'t, Part<N>, PartCallback<'d, 'r, 'i, N>, NoProxy>;
+
+pub type TaskProducer<'t, 'd, 'r, 'i, N> = Producer<
+    't,
+    Part<N>,
+    PartCallback<'d, 'r, 'i, N>,
+    NoProxy,
+>;
+
+pub type TaskConsumer<'t, 'd, 'r, 'i, N> = Consumer<
+    't,
+    Part<N>,
+    PartCallback<'d, 'r, 'i, N>,
+    NoProxy,
+>;
+
+/// What the last arrival at a query's desk gets: the producer of the reply's core, whose callback is set and whose consumer has left;
+/// the query and the place of its reply; and for `top` the key of the inner core. It must be spent.
+pub struct End<'r, 'i, N: RunName> {
+    reply: ReplyProducer<'r, 'i, N>,
+    ask: NumberedAsk<'i, N>,
+    place: u32,
+    inner: Option<InnerKey<'i, N>>,
+}
+
+impl<'r, 'i, N: RunName> Model for End<'r, 'i, N> {
+    ghost use Rattle.fan_parts.specs.Facts.{IsEnd};
+    ghost use Rattle.fan_parts.specs.Seen.{EndSeen};
+
+    ghost Value = { EndSeen };
+
+    ghost view = { λ e. record { reply = e.reply; ask = e.ask; place = e.place; inner = e.inner } };
+
+    ghost invariant = { λ e. IsEnd N.asked (record { reply = e.reply; ask = e.ask; place = e.place; inner = e.inner }) };
+
+    ghost use Rattle.query_grammar.specs.contracts.expr.Expr as expr;
+    ghost use Rattle.std.specs.Coded.{codes};
+
+    ghost coded = { Prim.hlevel (codes, expr.the_row.coded) };
+}
+
+impl<'r, 'i, N: RunName> End<'r, 'i, N> {
+    /// The end of this query's desk.
+    pub fn new(
+        reply: ReplyProducer<'r, 'i, N>,
+        ask: NumberedAsk<'i, N>,
+        place: u32,
+        inner: Option<InnerKey<'i, N>>,
+    ) -> End<'r, 'i, N>
+        requires { IsEnd N.asked (record { reply = reply; ask = ask; place = place; inner = inner }) }
+        ensures { result ≡ record { reply = reply.entry; ask = ask.entry; place = place; inner = inner.entry } }
+    {
+        End {
+            reply,
+            ask,
+            place,
+            inner,
+        }
+    }
+
+    /// The producer of the reply's core, the query, the place of its reply, and the inner key.
+    pub fn into_parts(
+        self,
+    ) -> (
+        ReplyProducer<'r, 'i, N>,
+        NumberedAsk<'i, N>,
+        u32,
+        Option<InnerKey<'i, N>>,
+    )
+        ensures parts { self.entry ≡ record { reply = result.0; ask = result.1; place = result.2; inner = result.3 } }
+        ensures is_end { IsEnd N.asked self.entry }
+    {
+        let End {
+            reply,
+            ask,
+            place,
+            inner,
+        } = self;
+        (reply, ask, place, inner)
+    }
+}
+
+/// The callback of a task's core: the part is to arrive at its query's desk, on the base with this executor. It must be spent.
+pub struct PartCallback<'d, 'r, 'i, N: RunName> {
+    arrival: PartArrival<'d, 'r, 'i, N>,
+    number: u32,
+    shard: u32,
+    exec: ExecId,
+}
+
+impl<'d, 'r, 'i, N: RunName> Model for PartCallback<'d, 'r, 'i, N> {
+    ghost use Rattle.fan_parts.specs.Facts.{IsTaskCallback};
+    ghost use Rattle.fan_parts.specs.Seen.{CallbackSeen};
+
+    ghost Value = { CallbackSeen };
+
+    ghost view = { λ c. record { arrival = c.arrival; number = c.number; shard = c.shard; exec = c.exec } };
+
+    ghost invariant = { λ c. IsTaskCallback N.asked (record { arrival = c.arrival; number = c.number; shard = c.shard; exec = c.exec }) };
+
+    ghost use Rattle.query_grammar.specs.contracts.expr.Expr as expr;
+    ghost use Rattle.std.specs.Coded.{codes};
+
+    ghost coded = { Prim.hlevel (codes, expr.the_row.coded) };
+}
+
+impl<'d, 'r, 'i, N: RunName> PartCallback<'d, 'r, 'i, N> {
+    /// The callback of the task of this query and this shard.
+    pub fn new(
+        arrival: PartArrival<'d, 'r, 'i, N>,
+        number: u32,
+        shard: u32,
+        exec: ExecId,
+    ) -> PartCallback<'d, 'r, 'i, N>
+        requires { IsTaskCallback N.asked (record { arrival = arrival; number = number; shard = shard; exec = exec }) }
+        ensures { result ≡ record { arrival = arrival.entry; number = number; shard = shard; exec = exec } }
+    {
+        PartCallback {
+            arrival,
+            number,
+            shard,
+            exec,
+        }
+    }
+
+    /// The number of its query.
+    pub fn number(&self) -> u32
+        ensures number { result ≡ self.now.number }
+        ensures is_callback { IsTaskCallback N.asked self.now }
+    {
+        self.number
+    }
+
+    /// Its shard.
+    pub fn shard(&self) -> u32
+        ensures { result ≡ self.now.shard }
+    {
+        self.shard
+    }
+
+    /// The executor of the base on which its query is gathered.
+    pub fn exec(&self) -> ExecId
+        ensures exec { result ≡ self.now.exec }
+        ensures is_callback { IsTaskCallback N.asked self.now }
+    {
+        self.exec
+    }
+
+    /// The arrival that its part is for.
+    pub fn into_arrival(self) -> PartArrival<'d, 'r, 'i, N>
+        ensures arrival { result ≡ self.entry.arrival }
+        ensures is_callback { IsTaskCallback N.asked self.entry }
+    {
+        let PartCallback {
+            arrival,
+            number: _,
+            shard: _,
+            exec: _,
+        } = self;
+        arrival
+    }
+}
