@@ -1,1 +1,2 @@
 mod Fires
+pub mod Crossings

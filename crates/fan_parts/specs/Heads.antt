@@ -1,7 +1,5 @@
 -- The heads of what is posted to the bases of a run.
-use Rattle.std.specs.Prelude.{ℕ, ◌+◌, ◌*◌}
-use Rattle.fan_base.specs.declared.number.ExecId.{ExecId}
-use Rattle.core_word.specs.Seen.{SeenFire}
+use Rattle.std.specs.Prelude.{ℕ, ◌+◌}
 use Rattle.job_trait.specs.declared.job.Head.{Head}
 use Rattle.fan_model.specs.Tasks.{job_of}
 use Rattle.fan_parts.specs.declared.jobs.GatherJob.{GatherJob}

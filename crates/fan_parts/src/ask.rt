@@ -6,6 +6,7 @@ use query_model::Ask;
 use std::marker::{Model, PhantomData};
 
 /// A query of the run's input: its number, what it asks, and how many documents stand before its line.
+#[derive(Drop)]
 pub struct NumberedAsk<'i, N: RunName> {
     number: u32,
     ask: &'i Ask,
@@ -75,16 +76,5 @@ impl<'i, N: RunName> NumberedAsk<'i, N> {
         ensures { result ≡ self.now.before }
     {
         self.before
-    }
-}
-
-impl<'i, N: RunName> Drop for NumberedAsk<'i, N> {
-    fn drop(self) {
-        let Self {
-            number: _,
-            ask: _,
-            before: _,
-            of: _,
-        } = self;
     }
 }

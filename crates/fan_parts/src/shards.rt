@@ -6,6 +6,7 @@ use shard_index::Shard;
 use std::marker::PhantomData;
 
 /// All shards of the run's documents, by number.
+#[derive(Drop)]
 pub struct RunShards<'s, N: RunName> {
     shards: &'s [Shard],
     of: PhantomData<N>,
@@ -20,6 +21,16 @@ impl<'s, N: RunName> RunShards<'s, N> {
     {
         RunShards {
             shards,
+            of: PhantomData,
+        }
+    }
+
+    /// The same once more.
+    pub fn again(&self) -> RunShards<'s, N>
+        ensures { result.shards.now ≡ self.now.shards.now }
+    {
+        RunShards {
+            shards: self.shards,
             of: PhantomData,
         }
     }
