@@ -1,0 +1,15 @@
+use Rattle.run_notes.proofs.Leading.{some_more, back_more}
+use Rattle.run_notes.proofs.ending.run_back.Goals as goal
+
+pub tasks-preserved : goal.tasks-preserved
+tasks-preserved g c =
+    let i = c.tasks.invariant in
+    let e = c.in-Some.ensures in
+    let r = c.in-Some.record in
+    record {
+      led = some_more g.J.Job.runs c.args.world.now c.tasks.world c.run_next.new.world r.job r.mark i.led e.3;
+      so_far = λ kept.
+          let k = c.keep.ensures kept in
+          back_more g.J.Headed.head g.J.Job.runs c.args.returned.now c.tasks.returned c.run_next.new.self c.tasks.records c.keep.new.records
+          c.args.world.now c.tasks.world c.run_next.new.world e.0 r (i.so_far k.0) e.1 e.2 e.3 k.1;
+    }

@@ -1,0 +1,12 @@
+use Rattle.std.proofs.Common.{◌≡◌, false, length}
+use Rattle.run_notes.specs.Accounts.{RanBackSoFar, SomeLed}
+use Rattle.run_notes.proofs.ending.run_back.Given as goal
+
+abbrev pub invariant-tasks : goal.invariant-tasks
+invariant-tasks g l = record {
+  led : SomeLed g.J.Job.runs l.initial.world l.world;
+  so_far : l.missed ≡ false → RanBackSoFar g.J.Headed.head g.J.Job.runs l.initial.returned l.returned l.records l.initial.world l.world;
+}
+
+abbrev pub decreases-tasks : goal.decreases-tasks
+decreases-tasks g l = length l.returned

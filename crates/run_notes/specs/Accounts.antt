@@ -1,0 +1,44 @@
+-- The account of a pool that has ended: what was added is what ran.
+use Rattle.std.specs.Prelude.{◌≡◌, List, ◌++◌, map, All}
+use Rattle.std.specs.List.{flat_map}
+use Rattle.fan_base.specs.declared.number.JobId.{JobId}
+use Rattle.fan_base.specs.declared.number.Mark.{Mark}
+use Rattle.job_trait.specs.declared.job.Head.{Head}
+use Rattle.job_trait.specs.Marks.{IsDone}
+use Rattle.job_trait.specs.Runs.{Ran, Leads}
+use Rattle.pool_model.specs.Passes.{adds_of, adds_total}
+use Rattle.pool_model.specs.Records.{Record, AreRunsOf, ran_of}
+use Rattle.pool_model.specs.Seen.{EndSeen, PassSeen, Returned, task_of}
+use Rattle.fan_model.specs.Report.{IsEachOnce}
+use Rattle.fan_model.specs.Tasks.{Run}
+use Rattle.run_notes.specs.Told.{run_of, run_of_add}
+use Rattle.run_notes.specs.declared.ending.PoolNotes.{PoolNotes}
+
+-- the runs that the adds of these passes ask for
+abbrev pub runs_added : List PassSeen → List Run
+runs_added passes = flat_map (λ p. map run_of_add (adds_of p)) passes
+
+-- each run of these ends was done
+abbrev pub AllDone : List EndSeen → Type 0
+AllDone ends = All (λ e. All (λ r. IsDone r.mark) e.records) ends
+
+-- Each task that these passes added ran once, was done, and has its one record, among those of the pool or those that were handed back.
+pub record AccountsFor (passes : List PassSeen) (notes : PoolNotes) : Type 0 where
+  pub accepted : notes.accepted ≡ adds_total passes
+  pub early : IsEachOnce (runs_added passes) (map run_of notes.ran.records ++ map run_of notes.returned)
+
+-- some runs led from one world to the other
+abbrev pub SomeLed : {W : Type 0} → (JobId → W → Mark → W → Type 0) → W → W → Type 0
+SomeLed runs w v = (list : List Ran) × Leads runs w list v
+
+module _ {J W : Type 0} (head : J → Head) (runs : JobId → W → Mark → W → Type 0) where
+  -- These tasks ran, in order, which led from the world w to the world v, and these are their records.
+  pub record RanBack (tasks : List (Returned J)) (records : List Record) (w v : W) : Type 0 where
+    pub ran : AreRunsOf (map (task_of head) tasks) records
+    pub led : Leads runs w (ran_of records) v
+
+  -- some of them did, and these are left
+  pub record RanBackSoFar (tasks left : List (Returned J)) (records : List Record) (w v : W) : Type 0 where
+    pub done : List (Returned J)
+    pub list : done ++ left ≡ tasks
+    pub back : RanBack done records w v
