@@ -1,0 +1,5 @@
+mod Lists
+mod Numbers
+mod Firings
+mod Rounds
+mod Linked
