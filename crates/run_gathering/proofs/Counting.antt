@@ -1,0 +1,101 @@
+-- How steps of a gathering base add up.
+use Rattle.std.proofs.Common.{◌≡◌, ℕ, zero, suc, ◌+◌, true, List, [], ◌∷◌, ◌++◌, length, refl, sym, ap, ◌∙◌, subst, arith}
+use Rattle.std.proofs.lemmas.List.{append-nil, append_assoc, length-append}
+use Rattle.core_word.specs.Count.{Counts, raised}
+use Rattle.fan_parts.specs.declared.jobs.PrintJob.{PrintJob}
+use Rattle.fan_parts.specs.Seen.{PosterSeen}
+use Rattle.notify_queue.specs.Ends.{with_put}
+use Rattle.run_gathering.specs.Seen.{GatheringSeen}
+use Rattle.run_gathering.specs.Gathering.{raised_times, counted, GathersBy}
+
+raised_join : (a b n : ℕ) → raised_times a (raised_times b n) ≡ raised_times (a + b) n
+raised_join zero b n = let e : b ≡ 0 + b = omega arith in ap (λ (k : ℕ). raised_times k n) e
+raised_join (suc a) b n = let e : suc (a + b) ≡ suc a + b = omega arith in ap raised (raised_join a b n) ∙ ap (λ (k : ℕ). raised_times k n) e
+
+raised_later : (a b n : ℕ) → raised_times a (raised_times b n) ≡ raised_times (b + a) n
+raised_later a b n = let e : a + b ≡ b + a = omega arith in raised_join a b n ∙ ap (λ (k : ℕ). raised_times k n) e
+
+raised_both : (p w p' w' n : ℕ) → raised_times (p + w) (raised_times (p' + w') n) ≡ raised_times ((p' + p) + (w' + w)) n
+raised_both p w p' w' n = let e : (p + w) + (p' + w') ≡ (p' + p) + (w' + w) = omega arith in raised_join (p + w) (p' + w') n ∙ ap (λ (k : ℕ). raised_times k n) e
+
+counts_join : (f w p f' w' p' : ℕ) (c : Counts) → counted f w p (counted f' w' p' c) ≡ counted (f' + f) (w' + w) (p' + p) c
+counts_join f w p f' w' p' c = λ i. record {
+  made = raised_later w w' c.made i;
+  handed = raised_later f f' c.handed i;
+  forwarded = raised_later w w' c.forwarded i;
+  freed = raised_both p w p' w' c.freed i;
+  reopened = c.reopened;
+}
+
+module _ {N : Type 0} where
+  pub nothing : (w : GatheringSeen N) → GathersBy 0 0 [] w w
+  nothing w = record { sent = sym (append-nil w.printer.sender.sent); same = (refl, refl, refl); known = λ e. e; tally = λ e. refl }
+
+  -- one step behind another
+  pub join : (f w f' w' : ℕ) (ps ps' : List (PrintJob N)) (a b c : GatheringSeen N) → GathersBy f w ps a b → GathersBy f' w' ps' b c → GathersBy (f + f') (w + w') (ps ++ ps') a c
+  join f w f' w' ps ps' a b c first second = record {
+    sent = second.sent ∙ (ap (λ (l : List (PrintJob N)). l ++ ps') first.sent ∙ append_assoc a.printer.sender.sent ps ps');
+    same = (second.same.0 ∙ first.same.0, second.same.1 ∙ first.same.1, second.same.2 ∙ first.same.2);
+    known = λ e. first.known (second.known e);
+    tally = λ e. second.tally e ∙ (ap (counted f' w' (length ps')) (first.tally (second.known e))
+        ∙ (counts_join f' w' (length ps') f w (length ps) a.tally
+        ∙ ap (λ (k : ℕ). counted (f + f') (w + w') k a.tally) (sym (length-append ps ps'))));
+  }
+
+  -- only the tally changed
+  pub tallied : (f w : ℕ) (a : GatheringSeen N) → GathersBy f w [] a (record a { tally = counted f w 0 a.tally })
+  tallied f w a = record { sent = sym (append-nil a.printer.sender.sent); same = (refl, refl, refl); known = λ e. e; tally = λ e. refl }
+
+  -- memory was refused
+  pub refusing : (f w : ℕ) (a : GatheringSeen N) (t : Counts) → GathersBy f w [] a (record a { tally = t; refused = true })
+  refusing f w a t = record { sent = sym (append-nil a.printer.sender.sent); same = (refl, refl, refl); known = λ e. absurd cc; tally = λ e. absurd cc }
+
+  -- a core was freed, and its fire posted
+  pub posting : (a : GatheringSeen N) (job : PrintJob N) → GathersBy 0 0 (job ∷ []) a (record {
+    printer = record { sender = with_put a.printer.sender job; exec = a.printer.exec };
+    tally = record a.tally { freed = raised a.tally.freed };
+    refused = a.refused;
+  })
+  posting a job = record { sent = refl; same = (refl, refl, refl); known = λ e. e; tally = λ e. refl }
+
+  -- a fire was posted by a world that is seen as `now`
+  pub posted : (inside now : GatheringSeen N) (printer : PosterSeen (PrintJob N)) (t : Counts) (job : PrintJob N) → inside ≡ now
+      → printer ≡ record { sender = with_put inside.printer.sender job; exec = inside.printer.exec }
+      → t ≡ record inside.tally { freed = raised inside.tally.freed }
+      → (posts : List (PrintJob N)) × GathersBy 0 0 posts now (record { printer = printer; tally = t; refused = inside.refused })
+  posted inside now printer t job is put freed = (
+    job ∷ [],
+    subst (λ (a : GatheringSeen N). GathersBy 0 0 (job ∷ []) a (record { printer = printer; tally = t; refused = inside.refused })) is
+        (subst (λ (q : PosterSeen (PrintJob N)). GathersBy 0 0 (job ∷ []) inside (record { printer = q; tally = t; refused = inside.refused })) (sym put)
+        (subst (λ (u : Counts). GathersBy 0 0 (job ∷ []) inside (record { printer = record { sender = with_put inside.printer.sender job; exec = inside.printer.exec }; tally = u; refused = inside.refused })) (sym freed) (posting inside job))),
+  )
+
+  -- its post was refused
+  pub unposted : (inside now : GatheringSeen N) (printer : PosterSeen (PrintJob N)) (t : Counts) → inside ≡ now → printer ≡ inside.printer
+      → (posts : List (PrintJob N)) × GathersBy 0 0 posts now (record { printer = printer; tally = t; refused = true })
+  unposted inside now printer t is same = (
+    [],
+    subst (λ (a : GatheringSeen N). GathersBy 0 0 [] a (record { printer = printer; tally = t; refused = true })) is
+        (subst (λ (q : PosterSeen (PrintJob N)). GathersBy 0 0 [] inside (record { printer = q; tally = t; refused = true })) (sym same) (refusing 0 0 inside t)),
+  )
+
+  -- a fire of a task was unpacked
+  pub fired : (inside now : GatheringSeen N) (t : Counts) → inside ≡ now → t ≡ record inside.tally { handed = raised inside.tally.handed }
+      → (forwards : ℕ) × (posts : List (PrintJob N)) × GathersBy 1 forwards posts now (record { printer = inside.printer; tally = t; refused = inside.refused })
+  fired inside now t is handed = (
+    0,
+    [],
+    subst (λ (a : GatheringSeen N). GathersBy 1 0 [] a (record { printer = inside.printer; tally = t; refused = inside.refused })) is
+        (subst (λ (u : Counts). GathersBy 1 0 [] inside (record { printer = inside.printer; tally = u; refused = inside.refused })) (sym handed) (tallied 1 0 inside)),
+  )
+
+  -- a reply's core was forwarded, and nothing was posted then
+  pub forwarded : (inside now next : GatheringSeen N) (t : Counts) → inside ≡ now
+      → t ≡ record inside.tally { made = raised inside.tally.made; forwarded = raised inside.tally.forwarded; freed = raised inside.tally.freed }
+      → GathersBy 0 0 [] (record { printer = inside.printer; tally = t; refused = inside.refused }) next
+      → (forwards : ℕ) × (posts : List (PrintJob N)) × GathersBy 0 forwards posts now next
+  forwarded inside now next t is counts second =
+      let mid : GatheringSeen N = record { printer = inside.printer; tally = t; refused = inside.refused } in
+      let first : GathersBy 0 1 [] inside mid =
+      subst (λ (u : Counts). GathersBy 0 1 [] inside (record { printer = inside.printer; tally = u; refused = inside.refused })) (sym counts) (tallied 0 1 inside) in
+      (1, [], subst (λ (a : GatheringSeen N). GathersBy 0 1 [] a next) is (join 0 1 0 0 [] [] inside mid next first second))

@@ -1,0 +1,69 @@
+-- What a gathering base does.
+use Rattle.std.specs.Prelude.{◌≡◌, ◌⊎◌, ℕ, zero, suc, ◌+◌, false, List, ◌++◌, length, nat_lt, if◌then◌else◌}
+use Rattle.fan_base.specs.declared.number.JobId.{JobId}
+use Rattle.fan_base.specs.declared.number.Mark.{Mark}
+use Rattle.job_trait.specs.Marks.{IsDone}
+use Rattle.core_word.specs.Count.{Counts, raised}
+use Rattle.event_base.specs.Calls.{with_in_loop}
+use Rattle.event_base.specs.Seen.{AgendaSeen}
+use Rattle.event_base.specs.Turns.{Place}
+use Rattle.fan_parts.specs.declared.jobs.GatherJob.{GatherJob}
+use Rattle.fan_parts.specs.declared.jobs.GatherJob.TheVariants as gather
+use Rattle.fan_parts.specs.declared.jobs.PrintJob.{PrintJob}
+use Rattle.fan_parts.specs.Heads.{first_scoring}
+use Rattle.run_gathering.specs.Seen.{GatheringSeen}
+
+abbrev pub no_counts : Counts
+no_counts = record { made = 0; handed = 0; forwarded = 0; freed = 0; reopened = 0 }
+
+-- so many times one more, up to the last of u64
+abbrev pub raised_times : ℕ → ℕ → ℕ
+raised_times zero n = n
+raised_times (suc k) n = raised (raised_times k n)
+
+-- The numbers after so many fires of tasks, so many replies' cores that were forwarded to an inner core, and so many posts to the printer's base: each post
+-- is that of a fulfilled core, which was freed, and each forwarded core was freed too.
+abbrev pub counted : ℕ → ℕ → ℕ → Counts → Counts
+counted fires forwards posts counts = record {
+  made = raised_times forwards counts.made;
+  handed = raised_times fires counts.handed;
+  forwarded = raised_times forwards counts.forwarded;
+  freed = raised_times (posts + forwards) counts.freed;
+  reopened = counts.reopened;
+}
+
+-- a run of a job with this id unpacks a fire exactly where it is a task's
+abbrev pub fires_at : JobId → ℕ
+fires_at id = if nat_lt id.0 first_scoring then 1 else 0
+
+module _ {N : Type 0} where
+  -- what was put to the printer's base
+  abbrev pub sent_by : GatheringSeen N → List (PrintJob N)
+  sent_by w = w.printer.sender.sent
+
+  -- So many fires came in, so many replies' cores were forwarded, and these replies were put to the printer's base. Where no memory was refused up to the
+  -- end, none was before, and the tally counts exactly this.
+  pub record GathersBy (fires forwards : ℕ) (posts : List (PrintJob N)) (old new : GatheringSeen N) : Type 0 where
+    pub sent : sent_by new ≡ sent_by old ++ posts
+    pub same : (new.printer.sender.queue ≡ old.printer.sender.queue) × (new.printer.sender.number ≡ old.printer.sender.number) × (new.printer.exec ≡ old.printer.exec)
+    pub known : new.refused ≡ false → old.refused ≡ false
+    pub tally : new.refused ≡ false → new.tally ≡ counted fires forwards (length posts) old.tally
+
+  -- some fires came in, some cores were forwarded, and some replies were posted
+  pub record Gathers (old new : GatheringSeen N) : Type 0 where
+    pub fires : ℕ
+    pub forwards : ℕ
+    pub posts : List (PrintJob N)
+    pub by : GathersBy fires forwards posts old new
+
+  -- nothing was scheduled, or one scoring for the next loop phase
+  abbrev pub Schedules : AgendaSeen (GatherJob N) → AgendaSeen (GatherJob N) → Type 0
+  Schedules old new = (new ≡ old) ⊎ ((scoring : _) × (new ≡ with_in_loop old (gather.Score scoring)))
+
+  -- What a run of the job with this id does.
+  pub record Runs (id : JobId) (before : Place (GatheringSeen N) (GatherJob N)) (m : Mark) (after : Place (GatheringSeen N) (GatherJob N)) : Type 0 where
+    pub forwards : ℕ
+    pub posts : List (PrintJob N)
+    pub by : GathersBy (fires_at id) forwards posts before.0 after.0
+    pub done : after.0.refused ≡ false → IsDone m
+    pub agenda : Schedules before.1 after.1

@@ -1,0 +1,4 @@
+pub mod Seen
+pub mod Gathering
+pub mod Merging
+pub mod Stages

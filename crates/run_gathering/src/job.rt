@@ -1,0 +1,138 @@
+ghost use Rattle.std.specs.Prelude.{◌≡◌, ℕ, List, [], length};
+ghost use Rattle.event_base.specs.Calls.{IsReached};
+ghost use Rattle.fan_parts.specs.declared.jobs.PrintJob.{PrintJob};
+ghost use Rattle.fan_parts.specs.Heads.{gather_head};
+ghost use Rattle.run_gathering.specs.Gathering.{GathersBy, Schedules};
+
+use crate::merge::{Gathered, gather_parts};
+use crate::world::Gathering;
+use collect_ops::{Arrived, Listed};
+use event_base::{Agenda, LoopJob, calls_in_a_row};
+use fan_base::{Fault, Mark, Refused, Try};
+use fan_parts::{
+    End, GatherJob, Part, PlacedReply, RunName, Scoring, TaskFire, forward_awaited,
+    spend_gather_job,
+};
+use std::sync::Wait;
+
+type GatherAgenda<'d, 'r, 'i, N> = Agenda<GatherJob<'d, 'r, 'i, N>>;
+
+impl<'s, 'd, 'r: 'd, 'i: 'r, N: RunName> LoopJob<Gathering<'s, N>> for GatherJob<'d, 'r, 'i, N> {
+    ghost use Rattle.run_gathering.specs.Gathering.{Runs};
+
+    ghost runs = { Runs };
+
+    /// A fire's part arrives at its desk; a scoring is made. The mark is `Memory` from the first refusal on, whichever job met it.
+    fn run<R: Wait>(
+        self,
+        rt: &R,
+        world: &mut Gathering<'s, N>,
+        agenda: &mut GatherAgenda<'d, 'r, 'i, N>,
+    ) -> Mark {
+        match self {
+            GatherJob::Task(fire) => take_part(rt, world, agenda, fire),
+            GatherJob::Score(scoring) => score(rt, world, scoring),
+        }
+        if world.refused {
+            Mark::Memory
+        } else {
+            Mark::Done(0)
+        }
+    }
+}
+
+/// The part of a fire arrives at its desk.
+fn take_part<'d, 'r: 'd, 'i: 'r, N: RunName, R: Wait>(
+    rt: &R,
+    world: &mut Gathering<'_, N>,
+    agenda: &mut GatherAgenda<'d, 'r, 'i, N>,
+    fire: TaskFire<'d, 'r, 'i, N>,
+)
+    ensures did { (forwards : ℕ) × (posts : List (PrintJob N)) × GathersBy 1 forwards posts world.old world.new }
+    ensures agenda { Schedules agenda.old agenda.new }
+    ensures calls { IsReached gather_head agenda.old agenda.new }
+{
+    calls_in_a_row::<GatherJob<'d, 'r, 'i, N>>();
+    let (_no, outcome, callback) = fire.unpack(&mut world.tally);
+    match callback.into_arrival().arrive(outcome) {
+        Arrived::Complete(parts, end, _done) => complete(rt, world, agenda, parts, end),
+        Arrived::Back(_, _) => unreachable!(),
+        Arrived::More(_receipt) => {}
+    }
+}
+
+/// A desk is complete: its parts are merged, and its reply's core is fulfilled, or forwarded to an inner core.
+fn complete<'d, 'r: 'd, 'i: 'r, N: RunName, R: Wait>(
+    rt: &R,
+    world: &mut Gathering<'_, N>,
+    agenda: &mut GatherAgenda<'d, 'r, 'i, N>,
+    parts: Listed<Try<Part<N>>>,
+    end: End<'r, 'i, N>,
+)
+    requires { length parts ≡ N.asked.shards }
+    ensures did { (forwards : ℕ) × (posts : List (PrintJob N)) × GathersBy 0 forwards posts world.old world.new }
+    ensures agenda { Schedules agenda.old agenda.new }
+    ensures calls { IsReached gather_head agenda.old agenda.new }
+{
+    calls_in_a_row::<GatherJob<'d, 'r, 'i, N>>();
+    let (reply, ask, place, inner) = end.into_parts();
+    match gather_parts(world.alloc, &ask, place, parts) {
+        Ok(Gathered::Reply(answer)) => world.fulfil(rt, reply, Try::Value(answer)),
+        Ok(Gathered::Ranking(ranking)) => {
+            let Some(key) = inner else { unreachable!() };
+            let inner = forward_awaited(rt, reply, key, u64::from(place), &mut world.tally);
+            let scoring = Scoring::new(inner, ask, place, ranking, agenda.exec());
+            schedule(world, agenda, scoring);
+        }
+        Err(fault) => {
+            let outcome = refusal(world, fault);
+            world.fulfil(rt, reply, outcome);
+        }
+    }
+}
+
+/// Notes want of memory, and gives the fault as an outcome.
+fn refusal<N: RunName>(world: &mut Gathering<'_, N>, fault: Fault) -> Try<PlacedReply<N>>
+    ensures { GathersBy 0 0 [] world.old world.new }
+{
+    match fault {
+        Fault::Memory => {
+            world.refused = true;
+            Try::Memory
+        }
+        Fault::Broken => Try::Broken,
+        Fault::Cancelled(number) => Try::Cancelled(number),
+    }
+}
+
+/// Has a scoring run in the next loop phase. Where there is no memory for that, it is spent.
+fn schedule<'d, 'r: 'd, 'i: 'r, N: RunName>(
+    world: &mut Gathering<'_, N>,
+    agenda: &mut GatherAgenda<'d, 'r, 'i, N>,
+    scoring: Scoring<'i, N>,
+)
+    requires { scoring.exec ≡ agenda.old.exec }
+    ensures did { GathersBy 0 0 [] world.old world.new }
+    ensures agenda { Schedules agenda.old agenda.new }
+    ensures calls { IsReached gather_head agenda.old agenda.new }
+{
+    match agenda.run_in_loop(GatherJob::Score(scoring)) {
+        Ok(()) => {}
+        Err(Refused::Memory(job)) => {
+            world.refused = true;
+            spend_gather_job(job, &mut world.tally);
+        }
+    }
+}
+
+/// The shards are scored, and the inner core is fulfilled.
+fn score<N: RunName, R: Wait>(rt: &R, world: &mut Gathering<'_, N>, scoring: Scoring<'_, N>)
+    ensures { (posts : List (PrintJob N)) × GathersBy 0 0 posts world.old world.new }
+{
+    let (inner, ask, place, ranking) = scoring.into_parts();
+    let outcome = match ranking.answer(world.alloc, world.shards.all(), ask.before()) {
+        Ok(reply) => Try::Value(PlacedReply::new(place, ask.number(), reply)),
+        Err(_) => refusal(world, Fault::Memory),
+    };
+    world.fulfil(rt, inner, outcome);
+}

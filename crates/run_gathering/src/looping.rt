@@ -1,0 +1,137 @@
+ghost use Rattle.std.specs.Prelude.{◌≡◌, false};
+ghost use Rattle.notify_queue.specs.Ends.{AreAllEnds, IsDry};
+ghost use Rattle.event_base.specs.Closing.{AreOn};
+ghost use Rattle.event_base.specs.Looping.{HoldsNoCallback};
+ghost use Rattle.fan_model.specs.Tasks.{printer_exec};
+ghost use Rattle.fan_parts.specs.Heads.{gather_head};
+ghost use Rattle.run_gathering.specs.Gathering.{Gathers};
+ghost use Rattle.run_gathering.specs.Stages.{CameTo, IsSameBase};
+
+use crate::world::{ByGathering, Gathering};
+use core_word::Tally;
+use event_base::{
+    BaseEnd, EventBase, LoopEnd, QueueNote, Why, related_by_each_turn, rounds_keep_the_base,
+};
+use fan_parts::{BasePoster, GatherJob, PrintJob, RunName, RunShards, spend_gather_job};
+use notify_queue::SenderEnd;
+use std::alloc::Global;
+use std::sync::Wait;
+
+type GatherBase<'d, 'r, 'i, N> = EventBase<GatherJob<'d, 'r, 'i, N>>;
+
+/// A gathering base that has run. It must be spent by [`close_gathering`].
+pub struct GatherStage<'d, 'r, 'i, N: RunName> {
+    pub base: GatherBase<'d, 'r, 'i, N>,
+    /// The end of its poster to the printer's base.
+    pub printer: SenderEnd<PrintJob<N>>,
+    pub tally: Tally,
+    /// Whether memory was refused.
+    pub refused: bool,
+}
+
+/// The end of a gathering base.
+pub struct GatherEnd<N: RunName> {
+    pub queue: QueueNote,
+    pub printer: SenderEnd<PrintJob<N>>,
+    pub tally: Tally,
+    pub refused: bool,
+}
+
+/// Runs a gathering base until all its posters have ended and nothing is left, or until a round finds no memory, and ends its poster to
+/// the printer's base. It may wait.
+pub fn gather<'s, 'd, 'r: 'd, 'i: 'r, N: RunName, R: Wait>(
+    rt: &R,
+    alloc: Global,
+    base: GatherBase<'d, 'r, 'i, N>,
+    printer: BasePoster<PrintJob<N>>,
+    shards: RunShards<'s, N>,
+) -> GatherStage<'d, 'r, 'i, N>
+    requires { printer.exec ≡ printer_exec N.asked.bases }
+    ensures base { IsSameBase base.entry result.base }
+    ensures did { CameTo printer.sender result.printer result.tally result.refused }
+    ensures closed { result.refused ≡ false → IsDry result.base.queue × HoldsNoCallback result.base.agenda }
+{
+    let mut base = base;
+    let mut world = Gathering::new(alloc, shards, printer);
+    until_closed(rt, &mut base, &mut world);
+    let (printer, tally, refused) = world.into_parts();
+    GatherStage {
+        base,
+        printer: printer.end(rt),
+        tally,
+        refused,
+    }
+}
+
+/// Runs it until it is closed, or a round finds no memory.
+fn until_closed<'s, 'd, 'r: 'd, 'i: 'r, N: RunName, R: Wait>(
+    rt: &R,
+    base: &mut GatherBase<'d, 'r, 'i, N>,
+    world: &mut Gathering<'s, N>,
+)
+    ensures did { Gathers world.old world.new }
+    ensures base { IsSameBase base.old base.new }
+    ensures closed { world.new.refused ≡ false → IsDry base.new.queue × HoldsNoCallback base.new.agenda }
+{
+    for _ in rt.forever() {
+        match loop_once_more(rt, base, world) {
+            Some(Why::Closed) => return,
+            Some(Why::Terminated) => {}
+            None => {
+                world.refused = true;
+                return;
+            }
+        }
+    }
+    unreachable!()
+}
+
+/// One loop of the base.
+fn loop_once_more<'s, 'd, 'r: 'd, 'i: 'r, N: RunName, R: Wait>(
+    rt: &R,
+    base: &mut GatherBase<'d, 'r, 'i, N>,
+    world: &mut Gathering<'s, N>,
+) -> Option<Why>
+    ensures did { Gathers world.old world.new }
+    ensures base { IsSameBase base.old base.new }
+    ensures closed { result ≡ Some Why.Closed → IsDry base.new.queue × HoldsNoCallback base.new.agenda }
+{
+    related_by_each_turn::<Gathering<'s, N>, GatherJob<'d, 'r, 'i, N>, ByGathering<N>>();
+    rounds_keep_the_base::<Gathering<'s, N>, GatherJob<'d, 'r, 'i, N>>();
+    match base.loop_until_closed(rt, world) {
+        Ok(LoopEnd { rounds: _, why }) => Some(why),
+        Err(_) => None,
+    }
+}
+
+/// Ends a gathering base, with the ends of all its posters, and spends what it holds still.
+pub fn close_gathering<'d, 'r: 'd, 'i: 'r, N: RunName, R: Wait>(
+    rt: &R,
+    stage: GatherStage<'d, 'r, 'i, N>,
+    ends: Vec<SenderEnd<GatherJob<'d, 'r, 'i, N>>>,
+) -> GatherEnd<N>
+    requires ends { AreAllEnds stage.base.queue ends.items }
+    requires posts { AreOn gather_head stage.base.agenda.exec ends.items }
+    ensures exec { result.queue.exec ≡ stage.entry.base.agenda.exec }
+    ensures note { IsDry stage.entry.base.queue → (result.queue.put ≡ result.queue.taken) × (result.queue.left ≡ 0) }
+    ensures printer { result.printer ≡ stage.entry.printer }
+    ensures refused { result.refused ≡ stage.entry.refused }
+{
+    let GatherStage {
+        base,
+        printer,
+        mut tally,
+        refused,
+    } = stage;
+    let BaseEnd { queue, mut rest } = base.close(rt, ends);
+    while let Some(job) = rest.pop() {
+        spend_gather_job(job, &mut tally);
+    }
+    rest.end();
+    GatherEnd {
+        queue,
+        printer,
+        tally,
+        refused,
+    }
+}
