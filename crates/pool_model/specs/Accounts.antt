@@ -5,8 +5,8 @@ use Rattle.job_trait.specs.declared.job.Head.{Head}
 use Rattle.pool_model.specs.declared.task.Ticket.{Ticket}
 use Rattle.pool_model.specs.Tasks.{Task, add_of}
 use Rattle.pool_model.specs.Records.{Record, IsRunOf, AreRunsOf}
-use Rattle.pool_model.specs.Seen.{PassSeen, Returned, task_of}
-use Rattle.pool_model.specs.Passes.{adds_of, adds_total, tasks_of}
+use Rattle.pool_model.specs.Seen.{PoolId, PassSeen, Returned, task_of}
+use Rattle.pool_model.specs.Passes.{AreAllPasses, adds_of, adds_total, tasks_of}
 use Rattle.pool_model.specs.Orders.{IsSameInAnyOrder}
 
 -- The account of a pool that was joined: the records are of the runs of some tasks, in order, which in any order are all that the passes added.
@@ -61,3 +61,11 @@ pub record RanOrReturnedOnce {J : Type 0} (head : J → Head) (passes : List Pas
   pub once : (k : ℕ) (pass : PassSeen) (index : ℕ) → slice_get passes k ≡ Some pass → index < length (adds_of pass)
       → records_with pass.number index records + returned_with pass.number index returned ≡ 1
   pub many : length records + length returned ≡ adds_total passes
+
+-- of all passes of the pool the account of a join by sums is one by tickets
+abbrev pub JoinAccounts : PoolId → ℕ → List PassSeen → List Record → Type 0
+JoinAccounts pool adders passes records = AreAllPasses pool adders passes → AllRun passes records → RanOnce passes records
+
+-- and so is that of a stop
+abbrev pub StopAccounts : {J : Type 0} → (J → Head) → PoolId → ℕ → List PassSeen → List Record → List (Returned J) → Type 0
+StopAccounts head pool adders passes records returned = AreAllPasses pool adders passes → AllRunOrReturned head passes records returned → RanOrReturnedOnce head passes records returned

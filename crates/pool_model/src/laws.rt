@@ -1,13 +1,12 @@
 // Laws of passes, histories and accounts. Each body is empty: the contract is the law.
-ghost use Rattle.std.specs.Prelude.{◌≡◌, ◌≢◌, ℕ, ◌<◌, List, Some, slice_get, take};
-ghost use Rattle.pool_model.specs.declared.task.Entry.{Entry};
+ghost use Rattle.std.specs.Prelude.{ℕ, List, take};
 ghost use Rattle.pool_model.specs.History.{Event, PoolHistory, accepts, outs};
 ghost use Rattle.pool_model.specs.Records.{Record};
 ghost use Rattle.pool_model.specs.Seen.{PoolId, PassSeen, Returned};
 ghost use Rattle.pool_model.specs.Passes.{AreAllPasses, AreNumbered};
 ghost use Rattle.pool_model.specs.Steps.{Step, Worked, TakesFromTheHighest};
-ghost use Rattle.pool_model.specs.Accounts.{AllRun, AllRunOrReturned, RanOnce, RanOrReturnedOnce};
-ghost use Rattle.pool_model.specs.Tickets.{Ascend, tickets_of};
+ghost use Rattle.pool_model.specs.Accounts.{JoinAccounts, StopAccounts};
+ghost use Rattle.pool_model.specs.Tickets.{Ascend, TicketsDiffer, tickets_of};
 
 use job_trait::Headed;
 
@@ -19,20 +18,20 @@ pub fn histories_are_lawful_throughout()
 /// In a lawful history no two tasks that were accepted, and no two that left, have one ticket, and in what left the indexes of
 /// each adder ascend.
 pub fn tasks_leave_once()
-    ensures accepted { (history : List Event) → PoolHistory history → (i j : ℕ) (a b : Entry) → i < j → slice_get (accepts history) i ≡ Some a → slice_get (accepts history) j ≡ Some b → a.ticket ≢ b.ticket }
-    ensures left { (history : List Event) → PoolHistory history → (i j : ℕ) (a b : Entry) → i < j → slice_get (outs history) i ≡ Some a → slice_get (outs history) j ≡ Some b → a.ticket ≢ b.ticket }
+    ensures accepted { (history : List Event) → PoolHistory history → TicketsDiffer (accepts history) }
+    ensures left { (history : List Event) → PoolHistory history → TicketsDiffer (outs history) }
     ensures ascend { (history : List Event) → PoolHistory history → Ascend (tickets_of (outs history)) }
 {}
 
 /// The account of a join by sums is one by tickets: each record is of the run of an add, each ticket has one record, and
 /// there are as many records as adds.
 pub fn join_accounts_for_each()
-    ensures { (pool : PoolId) (adders : ℕ) (passes : List PassSeen) (records : List Record) → AreAllPasses pool adders passes → AllRun passes records → RanOnce passes records }
+    ensures { (pool : PoolId) (adders : ℕ) (passes : List PassSeen) (records : List Record) → JoinAccounts pool adders passes records }
 {}
 
 /// The same of a stop: each ticket has one record or is handed back once.
 pub fn stop_accounts_for_each<J: Headed>()
-    ensures { (pool : PoolId) (adders : ℕ) (passes : List PassSeen) (records : List Record) (returned : List (Returned J)) → AreAllPasses pool adders passes → AllRunOrReturned J.head passes records returned → RanOrReturnedOnce J.head passes records returned }
+    ensures { (pool : PoolId) (adders : ℕ) (passes : List PassSeen) (records : List Record) (returned : List (Returned J)) → StopAccounts J.head pool adders passes records returned }
 {}
 
 /// The passes of a pool's adders, in the order in which a new pool gives them, are all of them, whatever they have added.

@@ -8,10 +8,10 @@ use Rattle.crossbeam_queue.specs.SegTies.{SegId}
 use Rattle.job_trait.specs.declared.job.Head.{Head}
 use Rattle.pool_model.specs.declared.task.Entry.{Entry}
 use Rattle.pool_model.specs.Endings.{IsHistoryOf, RanWhatItTook, records_of}
-use Rattle.pool_model.specs.History.{Event, accepts, outs, accepted_by, taken_by}
+use Rattle.pool_model.specs.History.{Event, outs, accepted_by, taken_by}
 use Rattle.pool_model.specs.Orders.{IsSameInAnyOrder}
-use Rattle.pool_model.specs.Passes.{HasNoGap, adds_of, pushed_by, tasks_of}
-use Rattle.pool_model.specs.Records.{Record, AreRunsOf}
+use Rattle.pool_model.specs.Passes.{HasNoGap, adds_of, tasks_of}
+use Rattle.pool_model.specs.Records.{AreRunsOf}
 use Rattle.pool_model.specs.Seen.{PassSeen, EndSeen, at_queue, steps_by, task_of}
 use Rattle.pool_model.specs.Steps.{tasks_taken}
 use Rattle.pool_model.specs.Tasks.{Task, in_queue, upwards, downwards, numbered}

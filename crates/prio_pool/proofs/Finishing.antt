@@ -1,6 +1,6 @@
 -- What a pool that has ended says to its caller.
-use Rattle.std.proofs.Common.{◌≡◌, ℕ, suc, ◌+◌, ◌<◌, ◌≤◌, List, [], ◌∷◌, ◌++◌, length, length-append, map, Option, Some, refl, sym, ap, ◌∙◌, subst, append-nil, arith}
-use Rattle.std.specs.List.{All, flat_map, sum_by}
+use Rattle.std.proofs.Common.{◌≡◌, ℕ, suc, ◌+◌, List, [], ◌∷◌, ◌++◌, length, length-append, map, Option, Some, refl, sym, ap, ◌∙◌, subst, arith}
+use Rattle.std.specs.List.{flat_map, sum_by}
 use Rattle.std.specs.declared.alloc.Global.{Global}
 use Rattle.std.proofs.lemmas.Grind.{flat_map-append}
 use Rattle.std.proofs.lemmas.List.{length-map}
@@ -9,16 +9,14 @@ use Rattle.crossbeam_queue.specs.SegTies.{SegId}
 use Rattle.fan_base.specs.declared.number.JobId.{JobId}
 use Rattle.fan_base.specs.declared.number.Mark.{Mark}
 use Rattle.job_trait.specs.declared.job.Head.{Head}
-use Rattle.job_trait.specs.Runs.{Leads}
 use Rattle.pool_model.specs.declared.task.Ending.{Ending}
 use Rattle.pool_model.specs.declared.task.Ending.TheVariants.{Joins, Stops}
-use Rattle.pool_model.specs.declared.task.Entry.{Entry}
 use Rattle.pool_model.specs.Accounts.{AllRun, AllRunOrReturned}
-use Rattle.pool_model.specs.Endings.{AreOfEnded, FoundNoOther, HaveHistories, IsHistoryOf, Joined, RanWhatItTook, Stopped, records_of}
+use Rattle.pool_model.specs.Endings.{AreOfEnded, FoundNoOther, HaveHistories, IsHistoryOf, Joined, Stopped, records_of}
 use Rattle.pool_model.specs.History.{Event}
 use Rattle.pool_model.specs.Orders.{IsSameInAnyOrder}
 use Rattle.pool_model.specs.Passes.{adds_of, adds_total, tasks_of}
-use Rattle.pool_model.specs.Records.{Record, AreRunsOf, ran_of}
+use Rattle.pool_model.specs.Records.{Record, AreRunsOf}
 use Rattle.pool_model.specs.Seen.{PassSeen, EndSeen, Returned, at_queue, steps_by, task_of}
 use Rattle.pool_model.specs.Steps.{tasks_taken}
 use Rattle.pool_model.specs.Tasks.{Task, Add, downwards, numbered}

@@ -6,9 +6,9 @@ use Rattle.std.proofs.lemmas.List.{map-append}
 use Rattle.crossbeam_queue.specs.SegTies.{SegId}
 use Rattle.pool_model.specs.Seen.{PassSeen, EndSeen, at_queue}
 use Rattle.task_queue.specs.declared.view.Share.{Share}
-use Rattle.task_queue.specs.Seen.{AdderSeen, TakerSeen, GatheredSeen}
+use Rattle.task_queue.specs.Seen.{AdderSeen, TakerSeen, GatheredSeen, and_adder, and_taker}
 use Rattle.task_queue.specs.Views.{share}
-use Rattle.prio_pool.specs.Gathering.{gathered_at, gathered_from, and_adder, and_adders, and_taker, and_takers, only_adder}
+use Rattle.prio_pool.specs.Gathering.{gathered_at, gathered_from, and_adders, and_takers, only_adder}
 use Rattle.prio_pool.proofs.Lists.{All-head, All-tail}
 
 module _ (whole : ℕ) (passes : List PassSeen) (ends : List EndSeen) where

@@ -1,12 +1,14 @@
 -- The passes of a new pool are of it, and its adders' have added nothing.
-use Rattle.std.proofs.Common.{◌≡◌, ℕ, zero, suc, ◌+◌, List, [], ◌∷◌, length, map, refl, ap}
+use Rattle.std.proofs.Common.{◌≡◌, ℕ, zero, suc, ◌+◌, ◌<◌, List, [], ◌∷◌, length, map, refl, ap, ◌∙◌, arith}
+use Rattle.std.specs.Prelude.{slice_index_or}
 use Rattle.std.specs.List.{All, range_with_len}
 use Rattle.std.specs.declared.alloc.Global.{Global}
 use Rattle.crossbeam_queue.specs.SegTies.{SegId}
-use Rattle.pool_model.specs.Passes.{adds_of, add_with}
+use Rattle.pool_model.specs.Passes.{AreNumbered, adds_of, add_with}
 use Rattle.pool_model.specs.Seen.{PoolId, PassSeen, WorkerSeen, EndSeen}
 use Rattle.pool_model.specs.Tasks.{Task, upwards}
 use Rattle.prio_pool.specs.Made.{new_pass, new_passes, new_workers, new_end, new_ends, nothing_on}
+use Rattle.prio_pool.proofs.Listing.{count_passes}
 use Rattle.prio_pool.proofs.Lists.{All-cons, All-none}
 
 nothing_up : (first : ℕ) (qs : List (SegId Global)) → upwards first (nothing_on qs) ≡ []
@@ -27,3 +29,22 @@ own_workers pool first (suc n) = All-cons (λ (w : WorkerSeen). w.pool ≡ pool)
 pub own_helpers : (pool : PoolId) (first n : ℕ) → All (λ e. e.pool ≡ pool) (new_ends pool first n)
 own_helpers pool first zero = All-none (λ (e : EndSeen). e.pool ≡ pool)
 own_helpers pool first (suc n) = All-cons (λ (e : EndSeen). e.pool ≡ pool) (new_end pool first) (new_ends pool (first + 1) n) refl (own_helpers pool (first + 1) n)
+
+at_number : (pool : PoolId) (first n k : ℕ) (d : PassSeen) → k < length (new_passes pool first n) → ((slice_index_or (new_passes pool first n) k d).pool ≡ pool) × ((slice_index_or (new_passes pool first n) k d).number ≡ first + k)
+at_number pool first zero k d l = absurd (omega (arith, l))
+at_number pool first (suc n) zero d l =
+    let same : first ≡ first + 0 = omega arith in
+    (refl, same)
+at_number pool first (suc n) (suc k) d l =
+    let next = at_number pool (first + 1) n k d (omega (arith, l)) in
+    let same : first + 1 + k ≡ first + suc k = omega arith in
+    (next.0, next.1 ∙ same)
+
+from_start : (k : ℕ) → 0 + k ≡ k
+from_start k = omega arith
+
+pub numbered_passes : (pool : PoolId) (adders : ℕ) → AreNumbered pool adders (new_passes pool 0 adders)
+numbered_passes pool adders = record {
+  count = count_passes pool 0 adders;
+  each = λ k d l. let at = at_number pool 0 adders k d l in (at.0, at.1 ∙ from_start k);
+}

@@ -7,8 +7,8 @@ use Rattle.pool_model.specs.declared.task.Entry.{Entry}
 use Rattle.pool_model.specs.declared.task.Ticket.{Ticket}
 use Rattle.pool_model.specs.Orders.{IsSameInAnyOrder}
 use Rattle.pool_model.specs.Passes.{adds_of, pushed_by}
-use Rattle.pool_model.specs.Seen.{PassSeen}
-use Rattle.pool_model.specs.Tasks.{numbered}
+use Rattle.pool_model.specs.Seen.{PassSeen, at_queue}
+use Rattle.pool_model.specs.Tasks.{Add, numbered}
 use Rattle.prio_pool.specs.declared.adders.Adders.TheInside.{Inside}
 use Rattle.prio_pool.specs.declared.placed.Placed.{Placed}
 use Rattle.task_queue.specs.declared.rule.Queued.{Queued}
@@ -17,6 +17,14 @@ use Rattle.task_queue.specs.Seen.{AdderSeen}
 -- what the queue sees of a task
 abbrev pub entry_of : {J : Type 0} → (J → Head) → Queued (Placed J) → Entry
 entry_of head task = record { ticket = task.ticket; head = head task.job.job }
+
+-- the pass after a push of this task on this queue
+abbrev pub and_pushed : PassSeen → ℕ → Entry → PassSeen
+and_pushed p queue e = record p { pushed = slice_set p.pushed queue (at_queue p.pushed queue ++ e ∷ []) }
+
+-- an add of a job with this head to this queue
+abbrev pub add_on : ℕ → Head → Add
+add_on queue head = record { queue = queue; head = head }
 
 -- the pass with this number is of this queue and may push under this ticket
 pub record MayPush (queue : SegId Global) (adders : List AdderSeen) (number : ℕ) (ticket : Ticket) : Type 0 where

@@ -10,7 +10,7 @@ use Rattle.prio_pool.specs.declared.placed.Placed.{Placed}
 use Rattle.prio_pool.specs.Adders.{entry_of}
 use Rattle.task_queue.specs.declared.rule.Queued.{Queued}
 use Rattle.task_queue.specs.Settled.{Settled}
-use Rattle.task_queue.specs.Seen.{AdderSeen, TakerSeen, GatheredSeen}
+use Rattle.task_queue.specs.Seen.{AdderSeen, TakerSeen, GatheredSeen, and_adder, and_taker}
 use Rattle.task_queue.specs.Views.{share}
 
 -- what one queue's gathered pass is, after these adders and takers were put together, of so many passes in all
@@ -27,13 +27,6 @@ gathered_at whole passes ends k queue = record {
 abbrev pub gathered_from : ℕ → List PassSeen → List EndSeen → ℕ → List (SegId Global) → List GatheredSeen
 gathered_from whole passes ends k [] = []
 gathered_from whole passes ends k (q ∷ qs) = gathered_at whole passes ends k q ∷ gathered_from whole passes ends (k + 1) qs
-
--- an adder, or a taker, is put to a gathered pass
-abbrev pub and_adder : GatheredSeen → AdderSeen → GatheredSeen
-and_adder g a = record { queue = g.queue; passes = g.passes; here = g.here + 1; added = g.added ++ share a.number a.pushed ∷ []; taken = g.taken }
-
-abbrev pub and_taker : GatheredSeen → TakerSeen → GatheredSeen
-and_taker g t = record { queue = g.queue; passes = g.passes; here = g.here + 1; added = g.added; taken = g.taken ++ share t.number t.popped ∷ [] }
 
 -- one of these to each of those, as far as both go
 abbrev pub each_with : {G X : Type 0} → (G → X → G) → List G → List X → List G

@@ -31,6 +31,14 @@ one_adder c = record { passes = c.passes; left = c.left - 1; adders = c.adders +
 abbrev pub one_taker : Counts → Counts
 one_taker c = record { passes = c.passes; left = c.left - 1; adders = c.adders; takers = c.takers + 1 }
 
+-- after so many takers more
+abbrev pub with_takers : Counts → ℕ → Counts
+with_takers c count = record { passes = c.passes; left = c.left - count; adders = c.adders; takers = c.takers + count }
+
+-- the pool over these queues with so many passes and this mark
+abbrev pub id_over : Queues → ℕ → TableId → PoolId
+id_over queues passes mark = record { queues = queues; passes = passes; mark = mark }
+
 -- the next adder's and taker's pass of a queue, which have done nothing
 abbrev pub new_adder : Counts → SegId Global → AdderSeen
 new_adder c queue = record { queue = queue; passes = c.passes; number = c.adders; pushed = [] }

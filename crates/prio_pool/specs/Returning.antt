@@ -1,11 +1,16 @@
 -- Tasks that are handed back, from the highest queue to the lowest.
 use Rattle.std.specs.Prelude.{◌≡◌, ℕ, ◌+◌, ◌≤◌, List, [], ◌∷◌, ◌++◌, Option, Some, None, length, map, slice_get, slice_set}
+use Rattle.pool_model.specs.declared.task.Ticket.{Ticket}
 use Rattle.pool_model.specs.Seen.{Returned}
 use Rattle.prio_pool.specs.declared.placed.Placed.{Placed}
 use Rattle.task_queue.specs.declared.rule.Queued.{Queued}
 
 abbrev pub back_of : {J : Type 0} → ℕ → Queued (Placed J) → Returned J
 back_of queue task = record { ticket = task.ticket; queue = queue; job = task.job.job }
+
+-- the first of these tasks has this ticket and this job, and the others are these
+abbrev pub HasFirst : {J : Type 0} → List (Returned J) → Ticket → J → List (Returned J) → Type 0
+HasFirst old ticket job new = (queue : ℕ) × (old ≡ record { ticket = ticket; queue = queue; job = job } ∷ new)
 
 -- those that wait in these queues, whose numbers begin with k
 abbrev pub back_from : {J : Type 0} → ℕ → List (List (Queued (Placed J))) → List (Returned J)

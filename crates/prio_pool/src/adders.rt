@@ -1,10 +1,9 @@
 // The passes of one adder on each queue.
-ghost use Rattle.std.specs.Prelude.{◌≡◌, ◌+◌, ◌<◌, ◌≤◌, List, [], ◌∷◌, ◌++◌, length, map, slice_index_or, slice_set, vec_capacity, OnOk, IfErr};
+ghost use Rattle.std.specs.Prelude.{◌≡◌, ◌+◌, ◌<◌, ◌≤◌, List, [], ◌∷◌, ◌++◌, length, map, slice_index_or, vec_capacity, OnOk, IfErr};
 ghost use Rattle.fan_base.specs.declared.refusal.Refused.TheVariants.{Memory as GivenBack};
 ghost use Rattle.pool_model.specs.Passes.{HasNoGap, adds_of};
-ghost use Rattle.pool_model.specs.Seen.{at_queue};
 ghost use Rattle.prio_pool.specs.Gathering.{OneAdderMore, gathered_from};
-ghost use Rattle.prio_pool.specs.Adders.{MayPush, PushedAt, entry_of};
+ghost use Rattle.prio_pool.specs.Adders.{MayPush, PushedAt, add_on, and_pushed, entry_of};
 
 use crate::gather::{gather_adders, put_adders};
 use crate::make::Queues;
@@ -87,8 +86,8 @@ impl<J: Headed> Adders<J> {
         requires queue { slice_index_or self.old.pool.queues number queue.now ≡ queue.now }
         requires ticket { task.ticket ≡ record { adder = self.old.number; index = length (adds_of self.old) } }
         requires room { length (adds_of self.old) < 4294967295 }
-        ensures ok { OnOk result (self.new ≡ record self.old { pushed = slice_set self.old.pushed number (at_queue self.old.pushed number ++ entry_of J.head task ∷ []) }) }
-        ensures added { OnOk result (adds_of self.new ≡ adds_of self.old ++ record { queue = number; head = J.head task.job.job } ∷ []) }
+        ensures ok { OnOk result (self.new ≡ and_pushed self.old number (entry_of J.head task)) }
+        ensures added { OnOk result (adds_of self.new ≡ adds_of self.old ++ add_on number (J.head task.job.job) ∷ []) }
         ensures refused { IfErr result (λ back. (back ≡ GivenBack task) × (self.new ≡ self.old)) }
     {
         match push_at(rt, queue, &mut self.adders, number, task) {

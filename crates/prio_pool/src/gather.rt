@@ -1,6 +1,7 @@
 // All passes of a pool, put together queue by queue.
 ghost use Rattle.std.specs.Prelude.{◌≡◌, ◌≤◌, [], length, map, vec_capacity};
-ghost use Rattle.prio_pool.specs.Gathering.{and_adder, and_adders, and_taker, and_takers, only_adder, HasGathered, ChangedAt};
+ghost use Rattle.prio_pool.specs.Gathering.{and_adders, and_takers, only_adder, HasGathered, ChangedAt};
+ghost use Rattle.task_queue.specs.Seen.{and_adder, and_taker};
 
 use crate::make::Queues;
 use crate::placed::Placed;

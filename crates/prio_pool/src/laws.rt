@@ -1,6 +1,6 @@
 // Laws of a pool's passes and of its end. Their bodies do nothing that is seen: the contract is the law.
 ghost use Rattle.std.specs.Prelude.{◌≡◌, ◌≢◌, ℕ, [], None, All};
-ghost use Rattle.pool_model.specs.Passes.{adds_of};
+ghost use Rattle.pool_model.specs.Passes.{AreNumbered, adds_of};
 ghost use Rattle.pool_model.specs.Seen.{PoolId};
 ghost use Rattle.prio_pool.specs.Made.{new_passes, new_workers, new_ends};
 
@@ -29,9 +29,10 @@ pub fn no_adder_is_left<J: Headed>(pool: &Pool<J>, end: WorkerEnd<J>, pass: Pool
     pool.mark.no_part_is_left(watch, seat);
 }
 
-/// The passes of a new pool are of this pool, and those of its adders have added nothing.
+/// The passes of a new pool are of this pool, and those of its adders have added nothing and are numbered 0, 1, 2, and so on.
 pub fn new_passes_are_unused()
     ensures passes { (pool : PoolId) (first n : ℕ) → All (λ p. (p.pool ≡ pool) × (adds_of p ≡ [])) (new_passes pool first n) }
+    ensures numbered { (pool : PoolId) (adders : ℕ) → AreNumbered pool adders (new_passes pool 0 adders) }
     ensures workers { (pool : PoolId) (first n : ℕ) → All (λ w. w.pool ≡ pool) (new_workers pool first n) }
     ensures helpers { (pool : PoolId) (first n : ℕ) → All (λ e. e.pool ≡ pool) (new_ends pool first n) }
 {}

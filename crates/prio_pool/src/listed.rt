@@ -1,7 +1,7 @@
 // The passes of all adders, workers and helpers, as a pool is made: what may fail first, then what can't.
 ghost use Rattle.std.specs.Prelude.{◌≡◌, ◌+◌, ◌-◌, ◌<◌, ◌≤◌, List, [], ◌∷◌, length, map, vec_capacity, vec_len, All, None, IfOk, OnOk};
 ghost use Rattle.pool_model.specs.Seen.{PassSeen};
-ghost use Rattle.prio_pool.specs.Made.{counted, makers_of, new_passes, new_takers_from, in_places, IsPlace, worker_seen, helper_seen};
+ghost use Rattle.prio_pool.specs.Made.{counted, makers_of, id_over, with_takers, new_passes, new_takers_from, in_places, IsPlace, worker_seen, helper_seen};
 ghost use Rattle.prio_pool.specs.Passes.{TookNothing};
 
 use crate::adders::Adders;
@@ -28,7 +28,7 @@ pub fn new_places<J: Headed>(
     requires makers { makers.old.items ≡ makers_of (counted passes 0) queues.now.items }
     requires few { (adders ≤ 64) × (adders ≤ passes) }
     ensures makers { OnOk result (makers.new.items ≡ makers_of (counted passes adders) queues.now.items) }
-    ensures places { IfOk result (λ list. list ≡ in_places (new_passes (record { queues = queues.now.items; passes = passes; mark = mark.now.mark }) 0 adders)) }
+    ensures places { IfOk result (λ list. list ≡ in_places (new_passes (id_over queues.now.items passes mark.now.mark) 0 adders)) }
 {
     let mut list = LinkedList::new(alloc);
     for number in 0..adders {
@@ -58,8 +58,8 @@ pub fn more_takers<J: Headed>(
     requires few { (count ≤ made.left) × (made.takers + count ≤ 1000) }
     requires queues { length queues.now.items ≤ 256 }
     requires mark { seat.old.mark ≡ mark.now.mark }
-    ensures makers { OnOk result (makers.new.items ≡ makers_of (record { passes = made.passes; left = made.left - count; adders = made.adders; takers = made.takers + count }) queues.now.items) }
-    ensures takers { IfOk result (λ list. list ≡ new_takers_from (record { queues = queues.now.items; passes = made.passes; mark = mark.now.mark }) made.takers count) }
+    ensures makers { OnOk result (makers.new.items ≡ makers_of (with_takers made count) queues.now.items) }
+    ensures takers { IfOk result (λ list. list ≡ new_takers_from (id_over queues.now.items made.passes mark.now.mark) made.takers count) }
     ensures seat { seat.new ≡ seat.old }
 {
     let mut list = LinkedList::new(alloc);

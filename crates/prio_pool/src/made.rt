@@ -1,6 +1,6 @@
 // The passes of one adder, and of one worker or helper, as a pool is made.
 ghost use Rattle.std.specs.Prelude.{◌≡◌, ◌<◌, ◌≤◌, [], ◌∷◌, None, length, IfOk, OnOk};
-ghost use Rattle.prio_pool.specs.Made.{makers_of, new_pass, new_takers_seen, one_adder, one_taker};
+ghost use Rattle.prio_pool.specs.Made.{id_over, makers_of, new_pass, new_takers_seen, one_adder, one_taker};
 
 use crate::adders::{Adders, Room};
 use crate::make::{Counts, Makers, Queues, next_adders, next_takers};
@@ -24,7 +24,7 @@ pub fn new_place<J: Headed>(
     requires some { 0 < counts.left }
     requires few { counts.adders < 64 }
     ensures makers { OnOk result (makers.new.items ≡ makers_of (one_adder counts) queues.now.items) }
-    ensures adders { IfOk result (λ list. list ≡ new_pass (record { queues = queues.now.items; passes = counts.passes; mark = mark.now.mark }) counts.adders ∷ []) }
+    ensures adders { IfOk result (λ list. list ≡ new_pass (id_over queues.now.items counts.passes mark.now.mark) counts.adders ∷ []) }
 {
     let adders = next_adders(alloc, queues, makers, counts)?;
     let gathered = Vec::with_capacity(alloc, queues.len())?;
@@ -63,7 +63,7 @@ pub fn new_takers<J: Headed>(
     requires queues { length queues.now.items ≤ 256 }
     requires watch { (watch.looks ≡ 0) × (watch.found ≡ None) }
     ensures makers { OnOk result (makers.new.items ≡ makers_of (one_taker counts) queues.now.items) }
-    ensures takers { IfOk result (λ t. t ≡ new_takers_seen (record { queues = queues.now.items; passes = counts.passes; mark = watch.mark }) counts.takers) }
+    ensures takers { IfOk result (λ t. t ≡ new_takers_seen (id_over queues.now.items counts.passes watch.mark) counts.takers) }
 {
     let takers = next_takers(alloc, queues, makers, counts)?;
     Ok(Takers {

@@ -1,9 +1,8 @@
 // The passes and ends of workers and helpers, and an adder's pass.
-ghost use Rattle.std.specs.Prelude.{◌≡◌, ◌<◌, [], ◌∷◌, ◌++◌, length, slice_index_or, slice_set, OnOk, IfErr};
+ghost use Rattle.std.specs.Prelude.{◌≡◌, ◌<◌, [], ◌∷◌, ◌++◌, length, slice_index_or, OnOk, IfErr};
 ghost use Rattle.fan_base.specs.declared.refusal.Refused.TheVariants.{Memory as GivenBack};
 ghost use Rattle.pool_model.specs.Passes.{adds_of};
-ghost use Rattle.pool_model.specs.Seen.{at_queue};
-ghost use Rattle.prio_pool.specs.Adders.{entry_of};
+ghost use Rattle.prio_pool.specs.Adders.{add_on, and_pushed, entry_of};
 
 use crate::adders::Adders;
 use crate::placed::Placed;
@@ -149,8 +148,8 @@ impl<J: Headed> PoolPass<J> {
         requires queue { slice_index_or self.old.pool.queues number queue.now ≡ queue.now }
         requires ticket { task.ticket ≡ record { adder = self.old.number; index = length (adds_of self.old) } }
         requires room { length (adds_of self.old) < 4294967295 }
-        ensures ok { OnOk result (self.new ≡ record self.old { pushed = slice_set self.old.pushed number (at_queue self.old.pushed number ++ entry_of J.head task ∷ []) }) }
-        ensures added { OnOk result (adds_of self.new ≡ adds_of self.old ++ record { queue = number; head = J.head task.job.job } ∷ []) }
+        ensures ok { OnOk result (self.new ≡ and_pushed self.old number (entry_of J.head task)) }
+        ensures added { OnOk result (adds_of self.new ≡ adds_of self.old ++ add_on number (J.head task.job.job) ∷ []) }
         ensures refused { IfErr result (λ back. (back ≡ GivenBack task) × (self.new ≡ self.old)) }
     {
         match self.adders.front_mut() {

@@ -1,15 +1,16 @@
 // The pool: its adders, workers and helpers.
-ghost use Rattle.std.specs.Prelude.{◌≡◌, ◌≢◌, ◌+◌, ◌<◌, ◌≤◌, ℕ, List, [], ◌∷◌, ◌++◌, length, None, slice_set, IfOk, IfErr, OnOk};
+ghost use Rattle.std.specs.Prelude.{◌≡◌, ◌≢◌, ◌+◌, ◌<◌, ◌≤◌, ℕ, List, [], ◌∷◌, ◌++◌, length, None, IfOk, IfErr, OnOk};
 ghost use Rattle.fan_base.specs.declared.refusal.Refused.TheVariants.{Memory as GivenBack};
 ghost use Rattle.job_trait.specs.Runs.{Leads};
 ghost use Rattle.pool_model.specs.Passes.{adds_of};
 ghost use Rattle.pool_model.specs.Records.{ran_of};
-ghost use Rattle.pool_model.specs.Seen.{at_queue, steps_by};
+ghost use Rattle.pool_model.specs.Seen.{steps_by};
 ghost use Rattle.pool_model.specs.Steps.{Worked};
 ghost use Rattle.pool_model.specs.Endings.{RanWhatItTook};
+ghost use Rattle.prio_pool.specs.Adders.{add_on, and_pushed};
 ghost use Rattle.prio_pool.specs.Ends.{HelpDid};
 ghost use Rattle.prio_pool.specs.Given.{GivesJob};
-ghost use Rattle.prio_pool.specs.Priority.{queue_of};
+ghost use Rattle.prio_pool.specs.Priority.{queue_in};
 
 use crate::passes::{HelperPass, PoolPass, WorkerEnd, WorkerPass};
 use crate::placed::Placed;
@@ -78,8 +79,8 @@ impl<J: Headed> Pool<J> {
         requires exec { (J.head job).exec ≡ self.now.exec }
         requires room { length (adds_of pass.old) < 4294967295 }
         ensures ticket { IfOk result (λ t. t ≡ record { adder = pass.old.number; index = length (adds_of pass.old) }) }
-        ensures pushed { IfOk result (λ t. let queue = queue_of (length self.now.id.queues) priority in pass.new ≡ record pass.old { pushed = slice_set pass.old.pushed queue (at_queue pass.old.pushed queue ++ record { ticket = t; head = J.head job } ∷ []) }) }
-        ensures added { OnOk result (adds_of pass.new ≡ adds_of pass.old ++ record { queue = queue_of (length self.now.id.queues) priority; head = J.head job } ∷ []) }
+        ensures pushed { IfOk result (λ t. pass.new ≡ and_pushed pass.old (queue_in self.now.id priority) (record { ticket = t; head = J.head job })) }
+        ensures added { OnOk result (adds_of pass.new ≡ adds_of pass.old ++ add_on (queue_in self.now.id priority) (J.head job) ∷ []) }
         ensures refused { IfErr result (λ r. (r ≡ GivenBack job) × (pass.new ≡ pass.old)) }
     {
         let _ = keep;

@@ -1,6 +1,6 @@
 // What a pool leaves: the records of its runs, and the tasks that are handed back.
-ghost use Rattle.std.specs.Prelude.{◌≡◌, ℕ, ◌<◌, ◌≤◌, [], ◌∷◌, length, MatchOption};
-ghost use Rattle.prio_pool.specs.Returning.{back_from, back_of, FirstTaken, NextTaken};
+ghost use Rattle.std.specs.Prelude.{◌≡◌, ◌<◌, ◌≤◌, [], ◌∷◌, length, MatchOption};
+ghost use Rattle.prio_pool.specs.Returning.{HasFirst, back_from, back_of, FirstTaken, NextTaken};
 ghost use Rattle.prio_pool.specs.Running.{RunsBack};
 
 use crate::placed::Placed;
@@ -106,7 +106,7 @@ impl<J> Returned<J> {
 
     /// The next task: its ticket and its job. None comes exactly where none is left.
     pub fn pop(&mut self) -> Option<(Ticket, J)>
-        ensures { MatchOption result ((self.old ≡ []) × (self.new ≡ [])) (λ t. (queue : ℕ) × (self.old ≡ record { ticket = t.0; queue = queue; job = t.1 } ∷ self.new)) }
+        ensures { MatchOption result ((self.old ≡ []) × (self.new ≡ [])) (λ t. HasFirst self.old t.0 t.1 self.new) }
     {
         let (_, task) = self.take()?;
         let Queued {

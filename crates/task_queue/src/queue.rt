@@ -1,9 +1,10 @@
 // The queue and its calls.
 ghost use Rattle.std.specs.Prelude.{◌≡◌, ◌+◌, ◌-◌, ◌<◌, ◌≤◌, [], ◌∷◌, ◌++◌, length, map, All, IfOk, OnOk, IfErr};
 ghost use Rattle.crossbeam_queue.specs.SegTies.{IsSegPassOf};
-ghost use Rattle.task_queue.specs.Views.{entry_of, share, gathered};
+ghost use Rattle.task_queue.specs.Seen.{and_adder, and_taker};
+ghost use Rattle.task_queue.specs.Views.{entry_of, share};
 ghost use Rattle.task_queue.specs.Looks.{pop_seen};
-ghost use Rattle.task_queue.specs.Settled.{Settled, Drained, TakeTold};
+ghost use Rattle.task_queue.specs.Settled.{Settled, Drained, IsAll, TakeTold};
 ghost use Rattle.pool_model.specs.Tickets.{Ascend, tickets_of};
 
 use crate::looks::{Looks, pop};
@@ -131,7 +132,7 @@ impl<J: Headed> TaskQueue<J> {
     /// Puts an adder to the others.
     pub fn put_adder(&self, gathered: &mut Gathered<J>, adder: Adder<J>)
         requires queue { (gathered.old.queue ≡ self.now) × (adder.queue ≡ self.now) }
-        ensures { gathered.new ≡ record gathered.old { here = gathered.old.here + 1; added = gathered.old.added ++ share adder.number adder.pushed ∷ [] } }
+        ensures { gathered.new ≡ and_adder gathered.old adder }
     {
         let Adder { pass } = adder;
         self.line.absorb::<PutAdder>(&mut gathered.pass, pass);
@@ -140,7 +141,7 @@ impl<J: Headed> TaskQueue<J> {
     /// Puts a taker to the others.
     pub fn put_taker(&self, gathered: &mut Gathered<J>, taker: Taker<J>)
         requires queue { (gathered.old.queue ≡ self.now) × (taker.queue ≡ self.now) }
-        ensures { gathered.new ≡ record gathered.old { here = gathered.old.here + 1; taken = gathered.old.taken ++ share taker.number taker.popped ∷ [] } }
+        ensures { gathered.new ≡ and_taker gathered.old taker }
     {
         let Taker { pass } = taker;
         self.line.absorb::<PutTaker>(&mut gathered.pass, pass);
@@ -160,7 +161,7 @@ impl<J: Headed> TaskQueue<J> {
 // Pops all that is left, in order.
 fn drain<J: Headed, R: Wait>(line: &Line<J>, rt: &R, pass: &mut Pass<J>) -> Parcels<Queued<J>>
     requires pass { IsSegPassOf line.now pass.old }
-    requires whole { pass.old.me.view.client ≡ gathered pass.old.me.view.client.whole pass.old.me.view.client.whole pass.old.me.view.client.added pass.old.me.view.client.taken [] }
+    requires whole { IsAll pass.old.me.view.client }
     ensures { Drained pass.old.me.view.client (map (entry_of J.head) result) }
 {
     let mut parcels = Parcels::new();

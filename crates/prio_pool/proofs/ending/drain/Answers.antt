@@ -1,4 +1,4 @@
-use Rattle.std.proofs.Common.{◌≡◌, length, length-append, ap, arith}
+use Rattle.std.proofs.Common.{length, length-append, ap, arith}
 use Rattle.prio_pool.proofs.Draining.{drained_more}
 use Rattle.prio_pool.proofs.ending.drain.Goals as goal
 

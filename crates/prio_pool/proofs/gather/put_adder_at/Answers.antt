@@ -1,6 +1,5 @@
 use Rattle.std.proofs.Common.{◌∙◌, set, ap}
-use Rattle.task_queue.specs.Seen.{GatheredSeen}
-use Rattle.prio_pool.specs.Gathering.{and_adder}
+use Rattle.task_queue.specs.Seen.{GatheredSeen, and_adder}
 use Rattle.prio_pool.proofs.Taking.{got_is}
 use Rattle.prio_pool.proofs.gather.put_adder_at.Goals as goal
 

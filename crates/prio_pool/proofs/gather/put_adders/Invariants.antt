@@ -1,6 +1,6 @@
 use Rattle.std.proofs.Common.{◌≡◌, List, ◌++◌, length}
-use Rattle.task_queue.specs.Seen.{AdderSeen}
-use Rattle.prio_pool.specs.Gathering.{and_adder, behind_with}
+use Rattle.task_queue.specs.Seen.{AdderSeen, and_adder}
+use Rattle.prio_pool.specs.Gathering.{behind_with}
 use Rattle.prio_pool.proofs.gather.put_adders.Given as goal
 
 abbrev pub invariant-loop-adder : goal.invariant-loop-adder

@@ -3,8 +3,8 @@ use Rattle.std.specs.Prelude.{slice_get}
 use Rattle.std.specs.declared.alloc.Global.{Global}
 use Rattle.std.proofs.lemmas.List.{length-map}
 use Rattle.crossbeam_queue.specs.SegTies.{SegId}
-use Rattle.task_queue.specs.Seen.{TakerSeen, GatheredSeen}
-use Rattle.prio_pool.specs.Gathering.{and_taker, behind_with}
+use Rattle.task_queue.specs.Seen.{TakerSeen, GatheredSeen, and_taker}
+use Rattle.prio_pool.specs.Gathering.{behind_with}
 use Rattle.prio_pool.proofs.Gathered.{one_more, still_there, none_yet, has_gathered}
 use Rattle.prio_pool.proofs.Mixing.{at_index}
 use Rattle.prio_pool.proofs.gather.put_takers.Goals as goal

@@ -1,6 +1,6 @@
 use Rattle.std.proofs.Common.{◌≡◌, List, ◌++◌, length}
-use Rattle.task_queue.specs.Seen.{TakerSeen}
-use Rattle.prio_pool.specs.Gathering.{and_taker, behind_with}
+use Rattle.task_queue.specs.Seen.{TakerSeen, and_taker}
+use Rattle.prio_pool.specs.Gathering.{behind_with}
 use Rattle.prio_pool.proofs.gather.put_takers.Given as goal
 
 abbrev pub invariant-loop-taker : goal.invariant-loop-taker

@@ -1,4 +1,4 @@
-use Rattle.std.proofs.Common.{◌≡◌, ℕ, ◌+◌, List, [], ◌∷◌, ◌++◌, length, length-append, map, ap, sym, subst, ◌∙◌, arith}
+use Rattle.std.proofs.Common.{◌≡◌, ◌+◌, List, [], ◌∷◌, ◌++◌, length, length-append, map, ap, sym, subst, ◌∙◌, arith}
 use Rattle.std.specs.List.{All}
 use Rattle.std.specs.declared.alloc.Global.{Global}
 use Rattle.std.proofs.lemmas.List.Elements.{All-append}
@@ -14,7 +14,6 @@ use Rattle.prio_pool.proofs.Accounting.{all_whole}
 use Rattle.prio_pool.proofs.Finishing.{few_rests}
 use Rattle.prio_pool.proofs.Lists.{All-cons, All-head, All-tail, All-into}
 use Rattle.prio_pool.proofs.Merging.{queues_of}
-use Rattle.prio_pool.proofs.pool.Pool.end.Given as given
 use Rattle.prio_pool.proofs.pool.Pool.end.Goals as goal
 
 pub put_passes-others-requires-clause-of : goal.put_passes-others-requires-clause-of

@@ -1,4 +1,4 @@
-use Rattle.std.proofs.Common.{◌≡◌, length, ap, arith}
+use Rattle.std.proofs.Common.{length, ap, arith}
 use Rattle.prio_pool.proofs.Finishing.{counted, came_back}
 use Rattle.prio_pool.proofs.pool.Pool.finish.Goals as goal
 

@@ -1,4 +1,4 @@
-use Rattle.std.proofs.Common.{◌≡◌, ap, ◌∙◌}
+use Rattle.std.proofs.Common.{ap, ◌∙◌}
 use Rattle.pool_model.specs.Seen.{EndingSeen, RunsSeen}
 use Rattle.prio_pool.proofs.Finishing.{joined_all, was_joined}
 use Rattle.prio_pool.proofs.pool.Pool.join.Goals as goal

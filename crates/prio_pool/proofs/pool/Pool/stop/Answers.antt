@@ -1,4 +1,4 @@
-use Rattle.std.proofs.Common.{◌≡◌, ap, ◌∙◌}
+use Rattle.std.proofs.Common.{ap, ◌∙◌}
 use Rattle.pool_model.specs.Seen.{EndingSeen, RunsSeen}
 use Rattle.prio_pool.proofs.Finishing.{stopped_all, was_stopped}
 use Rattle.prio_pool.proofs.pool.Pool.stop.Goals as goal
