@@ -1,3 +1,4 @@
 mod Counting
 mod Contents
 mod Looped
+pub mod Crossings
