@@ -11,7 +11,8 @@ use Rattle.query_model.specs.Reading.{Accepts, Refuses}
 use Rattle.query_model.specs.Output.{output}
 use Rattle.folly_query.specs.declared.report.Status.{Status}
 use Rattle.folly_query.specs.declared.report.Status.TheVariants as status
-use Rattle.folly_query.specs.Passing.{ReadsAll, ReadsTooMuch, GainsFront}
+use Rattle.reply_printer.specs.Passing.{GainsFront}
+use Rattle.folly_query.specs.Passing.{ReadsAll, ReadsTooMuch}
 use Rattle.folly_query.specs.Endings.{EndsAs, Comes}
 
 pub written_or_front : {E G F R : Type 0} (r : Result (Unit {0}) E) → OnOk r G → OnErr r F → OnErr r R → G ⊎ (F × R)

@@ -4,7 +4,7 @@ use Rattle.std.specs.Option.{IfSome}
 use Rattle.std.specs.Io.KnownBytes.{Appends, Consumes}
 use Rattle.std.proofs.KnownBytes.{Consumes-nil, Consumes-trans, Appends-trans}
 use Rattle.fan_base.specs.Outside.{Shown, FaultsRose}
-use Rattle.folly_query.specs.Passing.{GainsFront}
+use Rattle.reply_printer.specs.Passing.{GainsFront}
 
 pub rose_since : (a b c : ℕ) → b ≡ a → FaultsRose b c → FaultsRose a c
 rose_since a b c same rose = subst (λ n. FaultsRose n c) same rose
@@ -29,13 +29,6 @@ all_read (Some p) (Some q) (Some r) xs ys got n e first grown more many end =
     let over : q ≡ [] = end.0 e in
     let left : r ≡ [] = sym (more ∙ ap (λ l. l ++ r) nothing) ∙ over in
     (first ∙ (ap (λ l. xs ++ l) over ∙ sym (grown ∙ ap (λ l. xs ++ l) nothing)), ap (λ l. Some l) left)
-
--- a write of some behind those before
-pub gains_more : (a b c : Option (List ℕ)) (front more : List ℕ) → Appends a b front → Appends b c more → Appends a c (front ++ more)
-gains_more a b c front more first next = Appends-trans a b c front more first next
-
-pub whole_more : (bytes front rest : List ℕ) (n : ℕ) → bytes ≡ front ++ rest → bytes ≡ (front ++ take n rest) ++ drop n rest
-whole_more bytes front rest n whole = whole ∙ (ap (λ l. front ++ l) (sym (take-append-drop n rest)) ∙ sym (append_assoc front (take n rest) (drop n rest)))
 
 -- a line, and what stands behind it
 pub line_more : (text front rest line after : List ℕ) → text ≡ front ++ rest → rest ≡ line ++ after → text ≡ (front ++ line) ++ after

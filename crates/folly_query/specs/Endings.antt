@@ -10,7 +10,8 @@ use Rattle.query_model.specs.Generated.{summary_line}
 use Rattle.query_words.specs.declared.command.Generation.{Generation}
 use Rattle.folly_query.specs.declared.report.Status.{Status}
 use Rattle.folly_query.specs.declared.report.Status.TheVariants as status
-use Rattle.folly_query.specs.Passing.{most_bytes, ReadsAll, ReadsTooMuch, FailsBehind, Gains, GainsFront}
+use Rattle.reply_printer.specs.Passing.{Gains, GainsFront}
+use Rattle.folly_query.specs.Passing.{most_bytes, ReadsAll, ReadsTooMuch, FailsBehind}
 
 -- of a run over so many shards
 abbrev pub EndsAs : ℕ → Shown → Shown → Shown → Shown → Status → Type 0

@@ -1,6 +1,6 @@
--- What is read from a source to its end, and written to a sink.
+-- What is read from a source to its end.
 use Rattle.std.specs.Prelude.{ℕ, ◌≡◌, ◌↔◌, ◌≤◌, ◌<◌, ◌+◌, List, [], ◌++◌, length, Some, IfSome}
-use Rattle.std.specs.Io.KnownBytes.{Appends, Consumes, Keeps}
+use Rattle.std.specs.Io.KnownBytes.{Consumes}
 use Rattle.fan_base.specs.Outside.{Shown, FaultsRose}
 
 -- the bytes that an input has at most
@@ -37,21 +37,4 @@ pub record ReadsTooMuch (old new : Shown) (text : List ℕ) : Type 0 where
 pub record FailsBehind (old new : Shown) (text : List ℕ) : Type 0 where
   pub consumed : Consumes old.bytes new.bytes text
   pub few : length text ≤ most_bytes
-  pub rose : FaultsRose old.faults new.faults
-
--- the sink gained these bytes, and nothing failed
-pub record Gains (old new : Shown) (bytes : List ℕ) : Type 0 where
-  pub gained : Appends old.bytes new.bytes bytes
-  pub sound : new.faults ≡ old.faults
-
--- the sink gained a front of these bytes
-pub record GainsFront (old new : Shown) (bytes : List ℕ) : Type 0 where
-  pub front : List ℕ
-  pub rest : List ℕ
-  pub whole : bytes ≡ front ++ rest
-  pub gained : Appends old.bytes new.bytes front
-
--- a source or a sink failed, and nothing was moved
-pub record Fails (old new : Shown) : Type 0 where
-  pub kept : Keeps old.bytes new.bytes
   pub rose : FaultsRose old.faults new.faults

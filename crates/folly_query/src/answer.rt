@@ -8,7 +8,7 @@ ghost use Rattle.query_model.specs.Walk.{Progress, progress_of};
 ghost use Rattle.query_model.specs.Walk as model;
 ghost use Rattle.query_walk.specs.Following.{Follows};
 ghost use Rattle.shard_index.specs.Standing.{StandForAll, StandForSome};
-ghost use Rattle.folly_query.specs.Passing.{Gains, GainsFront};
+ghost use Rattle.reply_printer.specs.Passing.{Gains, GainsFront};
 ghost use Rattle.folly_query.specs.Steps.{AreStepsOf, HasRoomFor, step_of};
 
 use crate::parts::{Step, split};

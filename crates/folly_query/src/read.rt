@@ -1,6 +1,7 @@
 ghost use Rattle.std.specs.Prelude.{◌≡◌, ◌≢◌, ◌<◌, ◌≤◌, List, ℕ, length, vec_len, IfOk};
 ghost use Rattle.fan_base.specs.Outside.{shown};
-ghost use Rattle.folly_query.specs.Passing.{Fails, FailsBehind, ReadsAll, ReadsPiece, ReadsTooMuch};
+ghost use Rattle.reply_printer.specs.Passing.{Fails};
+ghost use Rattle.folly_query.specs.Passing.{FailsBehind, ReadsAll, ReadsPiece, ReadsTooMuch};
 
 use fan_base::Source;
 use std::alloc::{AllocError, Global};

@@ -5,14 +5,13 @@ ghost use Rattle.query_words.specs.declared.command.Generation.{Generation};
 ghost use Rattle.query_words.specs.declared.command.Settings.{Settings};
 ghost use Rattle.query_words.specs.Grammar.{IsCommand, IsOutside};
 ghost use Rattle.query_words.specs.Laws.{AreNumbersInRange};
+ghost use Rattle.reply_printer.specs.Passing.{Gains, GainsFront};
 ghost use Rattle.folly_query.specs.Endings.{Comes, EndsAs, SumsUpAs, summary_by};
-ghost use Rattle.folly_query.specs.Passing.{Gains, GainsFront};
 
 use crate::answer::{AnswerEnd, answer, output_text};
 use crate::args::Args;
 use crate::read::{ReadEnd, read_all};
 use crate::report::{Report, Status};
-use crate::write::write_all;
 use fan_base::{Gate, Memory, Sink, Source};
 use query_gen::laws::generated_is_within_limits;
 use query_gen::{generate, summary_text};
@@ -21,6 +20,7 @@ use query_model::{BadInput, InputFault};
 use query_text::{error_line, read_input};
 use query_words::laws::{commands_are_in_range, words_are_at_most_one_command};
 use query_words::{Command, Generation};
+use reply_printer::write_all;
 use std::alloc::Global;
 
 /// Does what the words ask for. For `run` it reads the source to its end, and writes the replies, or the error line of the first

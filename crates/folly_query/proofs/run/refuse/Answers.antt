@@ -1,7 +1,7 @@
 use Rattle.std.proofs.Common.{◌≡◌, ◌∙◌, subst, ◌⊎◌}
 use Rattle.fan_base.specs.Outside.{FaultsRose, shown}
 use Rattle.query_model.specs.Output.{error_text}
-use Rattle.folly_query.specs.Passing.{Gains, GainsFront}
+use Rattle.reply_printer.specs.Passing.{Gains, GainsFront}
 use Rattle.folly_query.proofs.EndingLemmas.{written_or_front}
 use Rattle.folly_query.proofs.run.refuse.Goals as goal
 

@@ -1,7 +1,8 @@
 use Rattle.std.proofs.Common.{◌≡◌, ◌++◌, ap, sym, ◌∙◌, take-append-drop}
 use Rattle.std.proofs.lemmas.Result.{err_from_is_err_and}
+use Rattle.std.proofs.KnownBytes.{Appends-trans}
 use Rattle.fan_base.specs.Outside.{shown}
-use Rattle.folly_query.proofs.PassingLemmas.{cut_at, front_more, gains_more, line_more}
+use Rattle.folly_query.proofs.PassingLemmas.{cut_at, front_more, line_more}
 use Rattle.folly_query.proofs.write.write_lines.Goals as goal
 
 pub returns-in_err-write_all-clause-front : goal.returns-in_err-write_all-clause-front
@@ -19,6 +20,6 @@ lines-preserved g c = record {
   front = c.lines.invariant.front ++ c.split_at.result.0.now;
   whole = line_more c.args.text.now c.lines.invariant.front c.lines.rest.now c.split_at.result.0.now c.split_at.result.1.now c.lines.invariant.whole
       (cut_at c.lines.rest.now c.split_at.result.0.now c.split_at.result.1.now c.line_size.result c.split_at.ensures.front c.split_at.ensures.back);
-  gained = gains_more _ _ _ c.lines.invariant.front c.split_at.result.0.now c.lines.invariant.gained c.in_ok-write_all.ensures.all.gained;
+  gained = Appends-trans _ _ _ c.lines.invariant.front c.split_at.result.0.now c.lines.invariant.gained c.in_ok-write_all.ensures.all.gained;
   sound = c.in_ok-write_all.ensures.all.sound ∙ c.lines.invariant.sound;
 }
