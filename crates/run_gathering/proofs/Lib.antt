@@ -1,4 +1,5 @@
 mod Counting
 mod Contents
+mod Firing
 mod Looped
 pub mod Crossings

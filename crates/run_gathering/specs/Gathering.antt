@@ -1,16 +1,18 @@
 -- What a gathering base does.
-use Rattle.std.specs.Prelude.{◌≡◌, ◌⊎◌, ℕ, zero, suc, ◌+◌, false, List, ◌++◌, length, nat_lt, if◌then◌else◌}
+use Rattle.std.specs.Prelude.{◌≡◌, ◌⊎◌, ℕ, zero, suc, ◌+◌, false, List, [], ◌++◌, length, nat_lt, if◌then◌else◌}
+use Rattle.std.specs.List.{All, sum_by}
 use Rattle.fan_base.specs.declared.number.JobId.{JobId}
 use Rattle.fan_base.specs.declared.number.Mark.{Mark}
 use Rattle.job_trait.specs.Marks.{IsDone}
 use Rattle.core_word.specs.Count.{Counts, raised}
 use Rattle.event_base.specs.Calls.{with_in_loop}
-use Rattle.event_base.specs.Seen.{AgendaSeen}
+use Rattle.notify_queue.specs.declared.stamp.Stamped.{Stamped}
+use Rattle.event_base.specs.Seen.{AgendaSeen, BaseSeen}
 use Rattle.event_base.specs.Turns.{Place}
 use Rattle.fan_parts.specs.declared.jobs.GatherJob.{GatherJob}
 use Rattle.fan_parts.specs.declared.jobs.GatherJob.TheVariants as gather
 use Rattle.fan_parts.specs.declared.jobs.PrintJob.{PrintJob}
-use Rattle.fan_parts.specs.Heads.{first_scoring}
+use Rattle.fan_parts.specs.Heads.{first_scoring, gather_head}
 use Rattle.run_gathering.specs.Seen.{GatheringSeen}
 
 abbrev pub no_counts : Counts
@@ -49,12 +51,29 @@ module _ {N : Type 0} where
     pub known : new.refused ≡ false → old.refused ≡ false
     pub tally : new.refused ≡ false → new.tally ≡ counted fires forwards (length posts) old.tally
 
-  -- some fires came in, some cores were forwarded, and some replies were posted
-  pub record Gathers (old new : GatheringSeen N) : Type 0 where
-    pub fires : ℕ
+  -- how many of these messages are fires of tasks
+  abbrev pub fires_among : List (Stamped (GatherJob N)) → ℕ
+  fires_among messages = sum_by (λ (x : Stamped (GatherJob N)). fires_at (gather_head x.message).id) messages
+
+  abbrev pub IsScoringJob : GatherJob N → Type 0
+  IsScoringJob (gather.Task fire) = ⊥
+  IsScoringJob (gather.Score scoring) = Unit {0}
+
+  -- nothing is held but scorings, for a loop phase
+  pub record HoldsScorings (a : AgendaSeen (GatherJob N)) : Type 0 where
+    pub before : a.before ≡ []
+    pub timers : a.wheel.timers ≡ []
+    pub loops : All IsScoringJob a.loops
+    pub later : All IsScoringJob a.later
+
+  -- The base took these messages; as many fires came in as there are among them, some replies' cores were forwarded, and these replies were posted.
+  pub record TookIn (w : GatheringSeen N) (old : BaseSeen (GatherJob N)) (v : GatheringSeen N) (new : BaseSeen (GatherJob N)) : Type 0 where
+    pub took : List (Stamped (GatherJob N))
+    pub taken : new.queue.taken ≡ old.queue.taken ++ took
     pub forwards : ℕ
     pub posts : List (PrintJob N)
-    pub by : GathersBy fires forwards posts old new
+    pub by : GathersBy (fires_among took) forwards posts w v
+    pub holds : HoldsScorings new.agenda
 
   -- nothing was scheduled, or one scoring for the next loop phase
   abbrev pub Schedules : AgendaSeen (GatherJob N) → AgendaSeen (GatherJob N) → Type 0

@@ -4,7 +4,9 @@ use Rattle.core_word.specs.Count.{Counts}
 use Rattle.notify_queue.specs.Ends.{Sending}
 use Rattle.event_base.specs.Seen.{BaseSeen}
 use Rattle.fan_parts.specs.declared.jobs.PrintJob.{PrintJob}
-use Rattle.run_gathering.specs.Gathering.{counted, no_counts}
+use Rattle.fan_parts.specs.declared.jobs.GatherJob.{GatherJob}
+use Rattle.notify_queue.specs.declared.stamp.Stamped.{Stamped}
+use Rattle.run_gathering.specs.Gathering.{counted, no_counts, fires_among}
 
 -- the same base: its executor, its queue, and the number of its posters
 pub record IsSameBase {J : Type 0} (old new : BaseSeen J) : Type 0 where
@@ -18,11 +20,12 @@ pub record HasPosted {M : Type 0} (old : Sending M) (posts : List M) (new : Send
   pub number : new.number ≡ old.number
   pub sent : new.sent ≡ old.sent ++ posts
 
--- What a base came to that had no count before: so many fires came in, so many replies' cores were forwarded, and these replies were posted; where no memory
--- was refused, the tally counts exactly this.
-pub record CameTo {N : Type 0} (printer printer_end : Sending (PrintJob N)) (tally : Counts) (refused : Bool) : Type 0 where
-  pub fires : ℕ
+-- What a base came to that had no count before: it took these messages, some replies' cores were forwarded, and these replies were posted. Where no memory was
+-- refused, the tally counts exactly this: as many handed as there are fires among the messages.
+pub record CameTo {N : Type 0} (old new : BaseSeen (GatherJob N)) (printer printer_end : Sending (PrintJob N)) (tally : Counts) (refused : Bool) : Type 0 where
+  pub took : List (Stamped (GatherJob N))
+  pub taken : new.queue.taken ≡ old.queue.taken ++ took
   pub forwards : ℕ
   pub posts : List (PrintJob N)
   pub posted : HasPosted printer posts printer_end
-  pub counts : refused ≡ false → tally ≡ counted fires forwards (length posts) no_counts
+  pub counts : refused ≡ false → tally ≡ counted (fires_among took) forwards (length posts) no_counts

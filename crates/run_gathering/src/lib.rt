@@ -11,7 +11,6 @@
 #![tactic(auto)]
 
 pub use looping::{GatherEnd, GatherStage, close_gathering, gather};
-pub use world::Gathering;
 
 mod job;
 mod looping;

@@ -4,14 +4,12 @@ ghost use Rattle.event_base.specs.Closing.{AreOn};
 ghost use Rattle.event_base.specs.Looping.{HoldsNoCallback};
 ghost use Rattle.fan_model.specs.Tasks.{printer_exec};
 ghost use Rattle.fan_parts.specs.Heads.{gather_head};
-ghost use Rattle.run_gathering.specs.Gathering.{Gathers};
+ghost use Rattle.run_gathering.specs.Gathering.{HoldsScorings, TookIn};
 ghost use Rattle.run_gathering.specs.Stages.{CameTo, IsSameBase};
 
-use crate::world::{ByGathering, Gathering};
+use crate::world::Gathering;
 use core_word::Tally;
-use event_base::{
-    BaseEnd, EventBase, LoopEnd, QueueNote, Why, related_by_each_turn, rounds_keep_the_base,
-};
+use event_base::{BaseEnd, EventBase, LoopEnd, QueueNote, Why, rounds_keep_the_base};
 use fan_parts::{BasePoster, GatherJob, PrintJob, RunName, RunShards, spend_gather_job};
 use notify_queue::SenderEnd;
 use std::alloc::Global;
@@ -46,9 +44,10 @@ pub fn gather<'s, 'd, 'r: 'd, 'i: 'r, N: RunName, R: Wait>(
     printer: BasePoster<PrintJob<N>>,
     shards: RunShards<'s, N>,
 ) -> GatherStage<'d, 'r, 'i, N>
-    requires { printer.exec ≡ printer_exec N.asked.bases }
+    requires exec { printer.exec ≡ printer_exec N.asked.bases }
+    requires holds { HoldsScorings base.agenda }
     ensures base { IsSameBase base.entry result.base }
-    ensures did { CameTo printer.sender result.printer result.tally result.refused }
+    ensures did { CameTo base.entry result.base printer.sender result.printer result.tally result.refused }
     ensures closed { result.refused ≡ false → IsDry result.base.queue × HoldsNoCallback result.base.agenda }
 {
     let mut base = base;
@@ -69,7 +68,8 @@ fn until_closed<'s, 'd, 'r: 'd, 'i: 'r, N: RunName, R: Wait>(
     base: &mut GatherBase<'d, 'r, 'i, N>,
     world: &mut Gathering<'s, N>,
 )
-    ensures did { Gathers world.old world.new }
+    requires { HoldsScorings base.old.agenda }
+    ensures did { TookIn world.old base.old world.new base.new }
     ensures base { IsSameBase base.old base.new }
     ensures closed { world.new.refused ≡ false → IsDry base.new.queue × HoldsNoCallback base.new.agenda }
 {
@@ -92,11 +92,11 @@ fn loop_once_more<'s, 'd, 'r: 'd, 'i: 'r, N: RunName, R: Wait>(
     base: &mut GatherBase<'d, 'r, 'i, N>,
     world: &mut Gathering<'s, N>,
 ) -> Option<Why>
-    ensures did { Gathers world.old world.new }
+    requires { HoldsScorings base.old.agenda }
+    ensures did { TookIn world.old base.old world.new base.new }
     ensures base { IsSameBase base.old base.new }
     ensures closed { result ≡ Some Why.Closed → IsDry base.new.queue × HoldsNoCallback base.new.agenda }
 {
-    related_by_each_turn::<Gathering<'s, N>, GatherJob<'d, 'r, 'i, N>, ByGathering<N>>();
     rounds_keep_the_base::<Gathering<'s, N>, GatherJob<'d, 'r, 'i, N>>();
     match base.loop_until_closed(rt, world) {
         Ok(LoopEnd { rounds: _, why }) => Some(why),

@@ -10,9 +10,8 @@ use fan_parts::{
     BasePoster, PlacedReply, PrintJob, ReplyCallback, RunName, RunShards, fulfil_awaited,
     spend_print_job,
 };
-use job_trait::WorldRelation;
 use std::alloc::Global;
-use std::marker::{Model, PhantomData};
+use std::marker::Model;
 use std::sync::Wait;
 
 /// What a gathering base works on: the shards, the poster to the printer's base, what became of cores, and whether memory was refused. It
@@ -89,15 +88,4 @@ impl<'s, N: RunName> Gathering<'s, N> {
             }
         }
     }
-}
-
-/// What a gathering base was and what it is.
-pub(crate) struct ByGathering<N: RunName> {
-    of: PhantomData<N>,
-}
-
-impl<'s, N: RunName> WorldRelation<Gathering<'s, N>> for ByGathering<N> {
-    ghost use Rattle.run_gathering.specs.Gathering.{Gathers};
-
-    ghost relates = { Gathers };
 }
