@@ -1,5 +1,5 @@
 -- The words are one command.
-use Rattle.std.proofs.Common.{◌≡◌, ℕ, List, sym, ap, ◌∙◌}
+use Rattle.std.proofs.Common.{◌≡◌, ℕ, List, sym, ◌∙◌}
 use Rattle.query_words.specs.declared.command.Command.{Command}
 use Rattle.query_words.specs.declared.command.Command.TheVariants as command
 use Rattle.query_words.specs.declared.command.Generation.{Generation}

@@ -1,5 +1,5 @@
 -- The steps over lines.
-use Rattle.std.proofs.Common.{◌≡◌, ℕ, zero, suc, ◌+◌, ◌<◌, ◌≤◌, List, [], ◌∷◌, ◌++◌, length, take, drop, get_or, cond, Option, Some, None, Result, Ok, Err, OnOk, refl, sym, ap, ◌∙◌, subst, arith, length-append, take-append-drop}
+use Rattle.std.proofs.Common.{◌≡◌, ℕ, zero, suc, ◌+◌, ◌<◌, ◌≤◌, List, [], ◌∷◌, ◌++◌, length, take, drop, get_or, cond, Option, Some, None, Result, OnOk, refl, sym, ap, ◌∙◌, subst, arith, length-append, take-append-drop}
 use Rattle.std.specs.Prelude.{map, All}
 use Rattle.std.specs.List.{AllByRecursion, cons_option, count_by, filter_map, sum_by}
 use Rattle.std.specs.Option.{option_to_list}
@@ -20,7 +20,7 @@ use Rattle.query_walk.specs.declared.walk.Walk.{Walk}
 use Rattle.query_walk.specs.Following.{Follows}
 use Rattle.folly_query.specs.declared.parts.Step.{Step}
 use Rattle.folly_query.specs.declared.parts.Step.TheVariants as step
-use Rattle.folly_query.specs.Steps.{AreStepsOf, HasRoomFor, step_of}
+use Rattle.folly_query.specs.Steps.{HasRoomFor, step_of}
 
 module _ {A B : Type 0} (h : A → Option B) where
   cons_option-append : (o : Option B) (xs ys : List B) → cons_option o (xs ++ ys) ≡ cons_option o xs ++ ys

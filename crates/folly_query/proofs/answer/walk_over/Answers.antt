@@ -1,5 +1,4 @@
-use Rattle.std.proofs.Common.{◌≡◌, ◌<◌, ◌≤◌, ◌+◌, List, length, take, get_or, sym, subst, arith, ap}
-use Rattle.query_model.specs.declared.line.Line.{Line}
+use Rattle.std.proofs.Common.{take, sym, subst, arith}
 use Rattle.query_model.specs.Documents.{docs_of}
 use Rattle.query_model.specs.Walk.{progress_of}
 use Rattle.query_walk.specs.Following.{Follows}

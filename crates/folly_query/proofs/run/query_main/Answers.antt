@@ -1,4 +1,4 @@
-use Rattle.std.proofs.Common.{ap, subst}
+use Rattle.std.proofs.Common.{subst}
 use Rattle.std.specs.Option.{IfSome}
 use Rattle.fan_base.specs.Outside.{shown}
 use Rattle.query_words.specs.declared.command.Command.TheVariants as command
