@@ -1,0 +1,90 @@
+-- Worlds and the ends of their posters.
+use Rattle.std.proofs.Common.{◌≡◌, ℕ, zero, suc, ◌<◌, List, [], ◌∷◌, ◌++◌, false, length, get_or, set, map, refl, sym, ap, subst, ◌∙◌, append_assoc, arith}
+use Rattle.std.specs.List.{All}
+use Rattle.fan_parts.specs.declared.jobs.GatherJob.{GatherJob}
+use Rattle.fan_parts.specs.Heads.{gather_head}
+use Rattle.fan_parts.specs.Seen.{PosterSeen}
+use Rattle.notify_queue.specs.Ends.{Sending}
+use Rattle.run_tasks.specs.Seen.{WorldSeen}
+use Rattle.job_trait.specs.Marks.{IsDone}
+use Rattle.job_trait.specs.Runs.{Leads, Ran, Through}
+use Rattle.pool_model.specs.Records.{Record, ran_of}
+use Rattle.run_tasks.specs.Worlds.{AreEndsFor, Follows, PosterTold, TaskRan, told_of}
+
+module _ {J : Type 0} where
+  -- a poster in the place of one that is the same
+  pub told-set : (posters : List (PosterSeen J)) (b : ℕ) (d p : PosterSeen J) → told_of p ≡ told_of (get_or posters b d) → map told_of (set posters b p) ≡ map told_of posters
+  told-set [] b d p same = refl
+  told-set (q ∷ qs) zero d p same = ap (λ t. t ∷ map told_of qs) same
+  told-set (q ∷ qs) (suc b) d p same = ap (λ ts. told_of q ∷ ts) (told-set qs b d p same)
+
+-- each of these marks is of a run that was done
+AllDone : List Ran → Type 0
+AllDone [] = Unit {0}
+AllDone (r ∷ rs) = IsDone r.1 × AllDone rs
+
+done-marks : (records : List Record) → AllDone (ran_of records) → (k : ℕ) (d : Record) → k < length records → IsDone (get_or records k d).mark
+unfolding AllDone
+done-marks [] done k d within = absurd (omega (arith, within))
+done-marks (r ∷ rs) done zero d within = done.0
+done-marks (r ∷ rs) done (suc k) d within = done-marks rs done.1 k d (omega (arith, within))
+
+module _ {N : Type 0} where
+  -- a world whose poster at a place has put something
+  pub posted-follows : (seen old : WorldSeen N) (b : ℕ) (d p : PosterSeen (GatherJob N)) → seen ≡ old → told_of p ≡ told_of (get_or seen.posters b d)
+      → Follows old (record seen { posters = set seen.posters b p })
+  posted-follows seen old b d p is same = record {
+    posters = told-set seen.posters b d p same ∙ ap (λ (w : WorldSeen N). map told_of w.posters) is;
+    cells = ap (λ (w : WorldSeen N). w.cells) is;
+    pass = record {
+      cells = ap (λ (w : WorldSeen N). w.pass.cells) is;
+      homes = ap (λ (w : WorldSeen N). w.pass.homes) is;
+      passes = ap (λ (w : WorldSeen N). w.pass.passes) is;
+    };
+    refused = λ down. sym (ap (λ (w : WorldSeen N). w.refused) is) ∙ down;
+  }
+
+  -- one end more, where the ends that are still to come fit behind it
+  pub ends-more : (all told : List PosterTold) (ends : List (Sending (GatherJob N))) (p : PosterSeen (GatherJob N)) (e : Sending (GatherJob N))
+      → ((es : List (Sending (GatherJob N))) → AreEndsFor (told_of p ∷ told) es → AreEndsFor all (ends ++ es))
+      → e ≡ p.sender → All (λ job. (gather_head job).exec ≡ p.exec) e.sent
+      → (es : List (Sending (GatherJob N))) → AreEndsFor told es → AreEndsFor all ((ends ++ e ∷ []) ++ es)
+  ends-more all told ends p e so_far is on es rest =
+      subst (λ (xs : List (Sending (GatherJob N))). AreEndsFor all xs) (sym (append_assoc ends (e ∷ []) es))
+      (so_far (e ∷ es) (ap (λ (s : Sending (GatherJob N)). s.queue) is, ap (λ (s : Sending (GatherJob N)). s.number) is, on, rest))
+
+  follows-itself : (w : WorldSeen N) → Follows w w
+  follows-itself w = record { posters = refl; cells = refl; pass = record { cells = refl; homes = refl; passes = refl }; refused = λ down. down }
+
+  follows-on : (w m v : WorldSeen N) → Follows w m → Follows m v → Follows w v
+  follows-on w m v first second = record {
+    posters = second.posters ∙ first.posters;
+    cells = second.cells ∙ first.cells;
+    pass = record {
+      cells = second.pass.cells ∙ first.pass.cells;
+      homes = second.pass.homes ∙ first.pass.homes;
+      passes = second.pass.passes ∙ first.pass.passes;
+    };
+    refused = λ down. first.refused (second.refused down);
+  }
+
+  record Led (w : WorldSeen N) (list : List Ran) (v : WorldSeen N) : Type 0 where
+    follows : Follows w v
+    done : v.refused ≡ false → AllDone list
+
+  -- tasks that lead from world to world
+  led : (w v : WorldSeen N) (list : List Ran) → Through (TaskRan {N = N}) w list v → Led w list v
+  unfolding AllDone
+  led w v [] same = record { follows = subst (λ (x : WorldSeen N). Follows w x) same (follows-itself w); done = λ _. tt }
+  led w v (r ∷ rs) ran =
+      let rest = led ran.0 v rs ran.2 in
+      record {
+        follows = follows-on w ran.0 v ran.1.follows rest.follows;
+        done = λ down. (ran.1.done (rest.follows.refused down), rest.done down);
+      }
+
+  pub leads-follow : (w v : WorldSeen N) (list : List Ran) → Leads (TaskRan {N = N}) w list v → Follows w v
+  leads-follow w v list leads = (led w v list leads.through).follows
+
+  pub leads-done : (w v : WorldSeen N) (records : List Record) → Leads (TaskRan {N = N}) w (ran_of records) v → v.refused ≡ false → All (λ (r : Record). IsDone r.mark) records
+  leads-done w v records leads down = done-marks records ((led w v (ran_of records) leads.through).done down)

@@ -1,0 +1,4 @@
+pub mod Seen
+pub mod Heads
+pub mod Leaving
+pub mod Worlds

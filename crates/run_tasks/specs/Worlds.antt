@@ -1,0 +1,56 @@
+-- What a run of a task does to its world, and what is left of a world at its end.
+use Rattle.std.specs.Prelude.{◌≡◌, ℕ, ◌+◌, ◌<◌, List, [], ◌∷◌, false, length, map, get_or}
+use Rattle.std.specs.List.{All}
+use Rattle.fan_base.specs.declared.number.ExecId.{ExecId}
+use Rattle.fan_base.specs.declared.number.JobId.{JobId}
+use Rattle.fan_base.specs.declared.number.Mark.{Mark}
+use Rattle.core_cells.specs.Seen.{SeenPass}
+use Rattle.job_trait.specs.Marks.{IsDone}
+use Rattle.notify_queue.specs.Ends.{QueueId, Sending}
+use Rattle.fan_model.specs.Report.{Asking}
+use Rattle.fan_parts.specs.declared.jobs.GatherJob.{GatherJob}
+use Rattle.fan_parts.specs.Heads.{gather_head}
+use Rattle.fan_parts.specs.Seen.{PosterSeen}
+use Rattle.run_tasks.specs.Seen.{WorldSeen}
+
+-- which poster it is: its queue, its number there, and the executor of its base
+pub record PosterTold : Type 0 where
+  pub queue : QueueId
+  pub number : ℕ
+  pub exec : ExecId
+
+module _ {J : Type 0} where
+  abbrev pub told_of : PosterSeen J → PosterTold
+  told_of p = record { queue = p.sender.queue; number = p.sender.number; exec = p.exec }
+
+  -- a poster for each gathering base: at place b that of the base with the executor b + 1
+  pub record ArePostersOf (asked : Asking) (posters : List (PosterSeen J)) : Type 0 where
+    pub as_many : length posters ≡ asked.bases
+    pub each : (b : ℕ) (d : PosterSeen J) → b < asked.bases → (get_or posters b d).exec ≡ record { 0 = 1 + b }
+
+-- the pass is of the same cells
+pub record StaysPass (old new : SeenPass) : Type 0 where
+  pub cells : new.cells ≡ old.cells
+  pub homes : new.homes ≡ old.homes
+  pub passes : new.passes ≡ old.passes
+
+module _ {N : Type 0} where
+  -- A world after another: its posters and its cells are the same, and a note that memory was refused stays.
+  pub record Follows (old new : WorldSeen N) : Type 0 where
+    pub posters : map told_of new.posters ≡ map told_of old.posters
+    pub cells : new.cells ≡ old.cells
+    pub pass : StaysPass old.pass new.pass
+    pub refused : new.refused ≡ false → old.refused ≡ false
+
+  -- what a run of the task with this id does: where the world doesn't note that memory was refused, the run was done
+  pub record TaskRan (id : JobId) (old : WorldSeen N) (mark : Mark) (new : WorldSeen N) : Type 0 where
+    pub follows : Follows old new
+    pub done : new.refused ≡ false → IsDone mark
+
+  -- at each place the end of that poster, all of whose messages have its base's executor
+  abbrev pub AreEndsFor : List PosterTold → List (Sending (GatherJob N)) → Type 0
+  AreEndsFor [] [] = Unit {0}
+  AreEndsFor [] (e ∷ es) = ⊥
+  AreEndsFor (p ∷ ps) [] = ⊥
+  AreEndsFor (p ∷ ps) (e ∷ es) =
+      (e.queue ≡ p.queue) × (e.number ≡ p.number) × All (λ job. (gather_head job).exec ≡ p.exec) e.sent × AreEndsFor ps es

@@ -1,0 +1,58 @@
+ghost use Rattle.std.specs.Prelude.{◌≡◌, false};
+ghost use Rattle.run_tasks.specs.Worlds.{Follows, TaskRan};
+
+use crate::answer::{Answered, answer_shard};
+use crate::leave::leave_cell;
+use crate::task::ShardTask;
+use crate::world::TaskWorld;
+use core_word::Landed;
+use fan_base::{Mark, Memory, Refused, Try};
+use fan_parts::{GatherJob, RunName, TaskFire, spend_gather_job};
+use job_trait::Job;
+use std::sync::Wait;
+
+impl<'c, 't, 'd: 't, 'r: 'd, 'i: 'r, N: RunName> TaskWorld<'c, 't, 'd, 'r, 'i, N> {
+    /// Posts a fire to the base of its callback. Where that finds no memory, the fire is spent.
+    pub(crate) fn post<R: Wait>(&mut self, rt: &R, fire: TaskFire<'d, 'r, 'i, N>)
+        ensures { Follows self.old self.new }
+    {
+        let base = fire.callback().exec().0 - 1;
+        match self.posters[base as usize].post(rt, GatherJob::Task(fire)) {
+            Ok(()) => {}
+            Err(Refused::Memory(job)) => {
+                self.refused = true;
+                spend_gather_job(job, &mut self.tally);
+            }
+        }
+    }
+}
+
+impl<'c, 't, 'd: 't, 'r: 'd, 'i: 'r, N: RunName> Job<TaskWorld<'c, 't, 'd, 'r, 'i, N>>
+    for ShardTask<'t, 'd, 'r, 'i, N> {
+    ghost use Rattle.run_tasks.specs.Worlds.{TaskRan};
+
+    ghost runs = { TaskRan };
+
+    fn run<R: Wait>(self, rt: &R, world: &mut TaskWorld<'c, 't, 'd, 'r, 'i, N>) -> Mark {
+        let ShardTask {
+            producer,
+            ask,
+            shard,
+            exec: _,
+        } = self;
+        let (outcome, mark) = match answer_shard(&world.shards, &ask, shard) {
+            Ok(Answered { part, count }) => (Try::Value(part), Mark::Done(count)),
+            Err(Memory) => {
+                world.refused = true;
+                (Try::Memory, Mark::Memory)
+            }
+        };
+        let (landed, left) = producer.set_result(outcome);
+        leave_cell(rt, world.cells, &mut world.pass, left, &mut world.tally);
+        match landed {
+            Landed::Waiting => {}
+            Landed::Fire(fire) => world.post(rt, fire),
+        }
+        mark
+    }
+}

@@ -1,0 +1,65 @@
+ghost use Rattle.std.specs.Prelude.{◌≡◌, ◌<◌};
+ghost use Rattle.run_tasks.specs.Heads.{task_head};
+
+use fan_base::{ExecId, JobId};
+use fan_parts::{NumberedAsk, RunName, TaskProducer};
+use job_trait::Headed;
+use std::marker::Model;
+
+/// The task of a query over a shard. It must be run.
+pub struct ShardTask<'t, 'd, 'r, 'i, N: RunName> {
+    pub(crate) producer: TaskProducer<'t, 'd, 'r, 'i, N>,
+    pub(crate) ask: NumberedAsk<'i, N>,
+    pub(crate) shard: u32,
+    pub(crate) exec: ExecId,
+}
+
+impl<'t, 'd, 'r, 'i, N: RunName> Model for ShardTask<'t, 'd, 'r, 'i, N> {
+    ghost use Rattle.std.specs.Prelude.{◌<◌};
+    ghost use Rattle.run_tasks.specs.Seen.{TaskSeen};
+
+    ghost Value = { TaskSeen };
+
+    ghost view = { λ t. record { producer = t.producer; ask = t.ask; shard = t.shard; exec = t.exec } };
+
+    ghost invariant = { λ t. t.shard < N.asked.shards };
+
+    ghost use Rattle.query_grammar.specs.contracts.expr.Expr as expr;
+    ghost use Rattle.std.specs.Coded.{codes};
+
+    ghost coded = { Prim.hlevel (codes, expr.the_row.coded) };
+}
+
+impl<'t, 'd: 't, 'r: 'd, 'i: 'r, N: RunName> ShardTask<'t, 'd, 'r, 'i, N> {
+    /// The task of this query over the shard with this number. It sets the value of the producer's core, and runs on this executor.
+    pub fn new(
+        producer: TaskProducer<'t, 'd, 'r, 'i, N>,
+        ask: NumberedAsk<'i, N>,
+        shard: u32,
+        exec: ExecId,
+    ) -> ShardTask<'t, 'd, 'r, 'i, N>
+        requires { shard < N.asked.shards }
+        ensures { result ≡ record { producer = producer.entry; ask = ask.entry; shard = shard; exec = exec } }
+    {
+        ShardTask {
+            producer,
+            ask,
+            shard,
+            exec,
+        }
+    }
+}
+
+impl<'t, 'd: 't, 'r: 'd, 'i: 'r, N: RunName> Headed for ShardTask<'t, 'd, 'r, 'i, N> {
+    ghost use Rattle.run_tasks.specs.Heads.{task_head};
+
+    ghost head = { task_head N.asked };
+
+    fn id(&self) -> JobId {
+        JobId(64 * u64::from(self.ask.number()) + u64::from(self.shard))
+    }
+
+    fn exec(&self) -> ExecId {
+        self.exec
+    }
+}
