@@ -1,0 +1,4 @@
+pub mod Crossings
+mod Ending
+mod Running
+mod Taking
