@@ -1,0 +1,7 @@
+mod Lists
+mod Cutting
+mod Following
+mod LineByLine
+mod Firing
+mod Walking
+mod Leaving

@@ -1,0 +1,4 @@
+pub mod Turns
+pub mod Coming
+pub mod Following
+pub mod Laws
