@@ -26,7 +26,8 @@ pub fn build_shards(alloc: Global, docs: &Docs, shards: u32) -> Result<Vec<Shard
 {
     let mut all = Vec::new(alloc);
     for number in 0..shards {
-        push(&mut all, Shard::build(alloc, docs, shards, number)?)?;
+        let shard = Shard::build(alloc, docs, shards, number)?;
+        push(&mut all, shard)?;
     }
     Ok(all)
 }
