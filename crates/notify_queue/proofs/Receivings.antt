@@ -123,6 +123,25 @@ module _ {M : Type 0} where
         ended_below = rw e i.ended_below;
       }
 
+  -- the blocks that it keeps don't matter
+  pub other_blocks : (r : Inside M) (blocks : List (Option (Stamped M))) → IsReceiver r → IsReceiver (record r { blocks = blocks })
+  other_blocks r blocks i = record {
+    pass_of = i.pass_of;
+    first_pass = i.first_pass;
+    knows = i.knows;
+    count = i.count;
+    counts = i.counts;
+    few = i.few;
+    in_order = i.in_order;
+    seat_of = i.seat_of;
+    first_seat = i.first_seat;
+    seat_knows = i.seat_knows;
+    slot_each = i.slot_each;
+    found = i.found;
+    ended = i.ended;
+    ended_below = i.ended_below;
+  }
+
   -- how contracts see that
   pub takes_seen : (r : Inside M) (p : PassOf M) (counts : Vec ℕ) (n : ℕ) (xs : List (Stamped M)) (m : Receiving M) → IsReceiver r → Takes (known_by r.pass) xs (known_by p) → receiving_of r ≡ m
       → HasTaken m xs (receiving_of (record r { pass = p; taken = n; counts = counts }))

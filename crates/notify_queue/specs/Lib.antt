@@ -1,3 +1,4 @@
+pub mod Blocks
 pub mod Delivery
 pub mod Ends
 pub mod History

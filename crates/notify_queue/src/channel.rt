@@ -4,10 +4,14 @@ ghost use Rattle.notify_queue.specs.Marks.{place};
 
 use crate::delivery::Line;
 use crate::marks::Marks;
+use crate::packet::Blocks;
+use crate::stamp::Stamped;
+use crossbeam_queue::ArrayQueue;
 use crossbeam_utils::sync::Unparker;
 use std::sync::atomic::AtomicBool;
 
 mod batches;
+mod blocks;
 mod steps;
 mod waking;
 
@@ -17,6 +21,8 @@ pub(crate) struct Channel<M> {
     pub(crate) unparker: Unparker,
     // Whether the receiver sleeps, or is about to.
     pub(crate) asleep: AtomicBool,
+    // Strings of blocks whose messages were taken.
+    pub(crate) blocks: ArrayQueue<Blocks<Stamped<M>>>,
     ghost of_queue: { marks.shared.key ≡ line },
     ghost a_place_each: { marks.shared.table_id.words ≡ place marks.shared.table_id.slots },
     ghost few: { marks.shared.table_id.slots ≤ 64 },
@@ -29,6 +35,7 @@ impl<M> Drop for Channel<M> {
             marks: _,
             unparker: _,
             asleep: _,
+            blocks: _,
         } = self;
         line.destroy();
     }

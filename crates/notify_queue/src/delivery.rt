@@ -1,8 +1,8 @@
 //! The rule of the queue, and what each step on it tells.
+use crate::packet::Packet;
 use crate::stamp::Stamped;
 use crossbeam_queue::protocol::{Join, Lesson, Outcome, Outcomes, Protocol, Split};
 use crossbeam_queue::{RuledSegQueue, SegBatch, SegPass};
-use fan_base::Parcel;
 use std::alloc::Global;
 use std::collections::LinkedList;
 
@@ -25,15 +25,15 @@ pub(crate) struct Knowledge<M> {
     pub made: u32,
 }
 
-pub(crate) type Line<M> = RuledSegQueue<Parcel<Stamped<M>>, Knowledge<M>, Delivery>;
+pub(crate) type Line<M> = RuledSegQueue<Packet<Stamped<M>>, Knowledge<M>, Delivery>;
 
-pub(crate) type Pass<M> = SegPass<Parcel<Stamped<M>>, Knowledge<M>>;
+pub(crate) type Pass<M> = SegPass<Packet<Stamped<M>>, Knowledge<M>>;
 
-pub(crate) type Batch<M> = SegBatch<Parcel<Stamped<M>>, Knowledge<M>, Global>;
+pub(crate) type Batch<M> = SegBatch<Packet<Stamped<M>>, Knowledge<M>, Global>;
 
 pub(crate) struct Delivery;
 
-impl<M> Protocol<Parcel<Stamped<M>>, Knowledge<M>> for Delivery {
+impl<M> Protocol<Packet<Stamped<M>>, Knowledge<M>> for Delivery {
     ghost use Rattle.notify_queue.specs.Delivery.{Delivers, idle};
 
     ghost holds = { Delivers };
@@ -56,7 +56,7 @@ impl<M> Split<Knowledge<M>> for AnotherSender {
 /// A sender puts a message.
 pub(crate) struct Put;
 
-impl<M> Outcome<Parcel<Stamped<M>>, Knowledge<M>> for Put {
+impl<M> Outcome<Packet<Stamped<M>>, Knowledge<M>> for Put {
     ghost use Rattle.std.specs.Prelude.{◌≡◌, ◌++◌, ◌∷◌, []};
     ghost use Rattle.notify_queue.specs.Delivery.{sending};
 
@@ -66,20 +66,20 @@ impl<M> Outcome<Parcel<Stamped<M>>, Knowledge<M>> for Put {
 /// The receiver takes messages in front, or finds the queue empty.
 pub(crate) struct Take;
 
-impl<M> Outcome<Parcel<Stamped<M>>, Knowledge<M>> for Take {
+impl<M> Outcome<Packet<Stamped<M>>, Knowledge<M>> for Take {
     ghost use Rattle.std.specs.Prelude.{◌∷◌, []};
     ghost use Rattle.notify_queue.specs.Delivery.{Takes};
 
     ghost then = { λ v x w. Takes v (x ∷ []) w };
 }
 
-impl<M> Outcomes<Parcel<Stamped<M>>, Knowledge<M>> for Take {
+impl<M> Outcomes<Packet<Stamped<M>>, Knowledge<M>> for Take {
     ghost use Rattle.notify_queue.specs.Delivery.{Takes};
 
     ghost then_all = { Takes };
 }
 
-impl<M> Lesson<Parcel<Stamped<M>>, Knowledge<M>> for Take {
+impl<M> Lesson<Packet<Stamped<M>>, Knowledge<M>> for Take {
     ghost use Rattle.notify_queue.specs.Delivery.{Shows};
 
     ghost fact = { Shows };

@@ -11,6 +11,7 @@ mod channel;
 mod delivery;
 mod marks;
 mod opening;
+mod packet;
 mod receiver;
 mod rest;
 mod sender;

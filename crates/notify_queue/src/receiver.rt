@@ -1,6 +1,8 @@
 use crate::channel::Channel;
 use crate::delivery::Pass;
 use crate::marks::MarkSeat;
+use crate::packet::Blocks;
+use crate::stamp::Stamped;
 pub(crate) use counts::no_counts;
 use crossbeam_utils::sync::Parker;
 use std::alloc::Global;
@@ -23,6 +25,8 @@ pub struct Receiver<M> {
     taken: u64,
     // How many of each sender.
     counts: Vec<u64>,
+    // Those of messages that it took, until they go back to the senders.
+    blocks: Blocks<Stamped<M>>,
     alloc: Global,
 }
 

@@ -2,14 +2,14 @@ ghost use Rattle.std.specs.Prelude.{◌≡◌, [], ◌↔◌, length, IsTrue, Ma
 ghost use Rattle.notify_queue.specs.Ends.{with_first};
 
 use crate::delivery::Pass;
+use crate::packet::Packets;
 use crate::stamp::Stamped;
-use fan_base::Parcels;
 use std::marker::Model;
 
 /// The messages that were left in a queue at its close, in its order, which is that of the puts of all senders together. It
 /// may be dropped, which forgets them.
 pub struct Rest<M> {
-    parcels: Parcels<Stamped<M>>,
+    packets: Packets<Stamped<M>>,
     len: usize,
     // The receiver's, which knows what was popped.
     pass: Pass<M>,
@@ -21,17 +21,17 @@ impl<M> Model for Rest<M> {
 
     ghost Value = { Leaving M };
 
-    ghost view = { λ rest. record { left = rest.parcels; popped = rest.pass.me.view.client.taken } };
+    ghost view = { λ rest. record { left = rest.packets; popped = rest.pass.me.view.client.taken } };
 
-    ghost invariant = { λ rest. rest.len ≡ length rest.parcels };
+    ghost invariant = { λ rest. rest.len ≡ length rest.packets };
 }
 
 impl<M> Rest<M> {
-    pub(crate) fn new(parcels: Parcels<Stamped<M>>, len: usize, pass: Pass<M>) -> Rest<M>
-        requires { len ≡ length parcels }
-        ensures { result ≡ record { left = parcels; popped = pass.me.view.client.taken } }
+    pub(crate) fn new(packets: Packets<Stamped<M>>, len: usize, pass: Pass<M>) -> Rest<M>
+        requires { len ≡ length packets }
+        ensures { result ≡ record { left = packets; popped = pass.me.view.client.taken } }
     {
-        Rest { parcels, len, pass }
+        Rest { packets, len, pass }
     }
 
     /// How many messages are left.
@@ -52,16 +52,16 @@ impl<M> Rest<M> {
     pub fn pop(&mut self) -> Option<Stamped<M>>
         ensures { MatchOption result ((self.old.left ≡ []) × (self.new ≡ self.old)) (λ first. self.old ≡ with_first first self.new) }
     {
-        let parcel = self.parcels.pop_front()?;
+        let stamped = self.packets.pop_front()?;
         self.len -= 1;
-        Some(parcel.open())
+        Some(stamped)
     }
 }
 
 impl<M> Drop for Rest<M> {
     fn drop(self) {
         let Rest {
-            parcels: _,
+            packets: _,
             len: _,
             pass: _,
         } = self;

@@ -1,6 +1,8 @@
 use crate::channel::Channel;
 use crate::delivery::Pass;
 use crate::marks::MarkSeat;
+use crate::packet::Blocks;
+use crate::stamp::Stamped;
 pub(crate) use calls::abandon_all;
 use std::alloc::Global;
 use std::marker::Model;
@@ -15,6 +17,8 @@ pub struct Sender<M> {
     seat: MarkSeat<M>,
     number: u32,
     puts: u64,
+    // Those for its next messages.
+    blocks: Blocks<Stamped<M>>,
     alloc: Global,
 }
 

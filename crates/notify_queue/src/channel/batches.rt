@@ -9,6 +9,7 @@ ghost use Rattle.notify_queue.specs.Steps.{HasFoundNothing, HasGiven};
 
 use super::Channel;
 use crate::delivery::{Batch, Pass, Take};
+use crate::packet::Blocks;
 use crate::stamp::Stamped;
 use std::sync::Wait;
 
@@ -20,6 +21,7 @@ impl<M> Channel<M> {
         rt: &R,
         pass: &mut Pass<M>,
         got: &mut Vec<Stamped<M>>,
+        blocks: &mut Blocks<Stamped<M>>,
         limit: usize,
     ) -> bool
         requires pass { IsFirstPassOf self.now.line pass.old }
@@ -32,7 +34,7 @@ impl<M> Channel<M> {
         let Some(batch) = self.claim(rt, pass, limit as u64) else {
             return false;
         };
-        self.move_out(rt, pass, batch, got);
+        self.move_out(rt, pass, batch, got, blocks);
         true
     }
 
@@ -60,6 +62,7 @@ impl<M> Channel<M> {
         pass: &mut Pass<M>,
         mut batch: Batch<M>,
         got: &mut Vec<Stamped<M>>,
+        blocks: &mut Blocks<Stamped<M>>,
     )
         requires pass { IsFirstPassOf self.now.line pass.old }
         requires batch { (xs : List (Stamped M)) × Holds self.now.line pass.old batch xs }
@@ -71,8 +74,10 @@ impl<M> Channel<M> {
     {
         let count = batch.len();
         for _ in 0..count {
-            let parcel = self.line.next_of(rt, pass, &mut batch);
-            got.push_reserved(parcel.open());
+            let packet = self.line.next_of(rt, pass, &mut batch);
+            let (stamped, block) = packet.open();
+            got.push_reserved(stamped);
+            blocks.push_front(block);
         }
         batch.finish();
     }

@@ -10,14 +10,17 @@ ghost use Rattle.notify_queue.specs.Passes.{IsFirstPassOf, known_by};
 ghost use Rattle.notify_queue.specs.Steps.{HasPut, HasFoundNothing, HasFoundLive, HasFoundEnd};
 
 use super::Channel;
+use super::blocks::STRINGS;
 use crate::delivery::{AnotherSender, End, JoinEnd, Line, Pass, Put, Take};
 use crate::marks::{
     AnotherMark, LookAt, MarkSeat, Marks, ReadMark, SetMark, ShowPut, TakeSlot, word_of,
 };
+use crate::packet::{Packet, Packets};
 use crate::sender::SenderEnd;
 use crate::stamp::Stamped;
+use crossbeam_queue::ArrayQueue;
 use crossbeam_utils::sync::Parker;
-use fan_base::{Memory, Parcel, Parcels};
+use fan_base::Memory;
 use std::alloc::{AllocError, Global};
 use std::sync::Wait;
 use std::sync::atomic::AtomicBool;
@@ -44,17 +47,17 @@ impl<M> Channel<M> {
         &self,
         rt: &R,
         pass: &mut Pass<M>,
-        parcel: Parcel<Stamped<M>>,
-    ) -> Result<(), Parcel<Stamped<M>>>
+        packet: Packet<Stamped<M>>,
+    ) -> Result<(), Packet<Stamped<M>>>
         requires pass { IsSegPassOf self.now.line pass.old × ((known_by pass.old).sends ≡ true) }
-        requires sender { parcel.stamp.sender ≡ (known_by pass.old).number }
-        requires index { parcel.stamp.index ≡ length (known_by pass.old).put }
+        requires sender { packet.stamp.sender ≡ (known_by pass.old).number }
+        requires index { packet.stamp.index ≡ length (known_by pass.old).put }
         requires room { length (known_by pass.old).put + 1 < 2 ^ 32 }
         ensures pass { IsSegPassOf self.now.line pass.new × (pass.new.id ≡ pass.old.id) }
-        ensures put { IfOk result (λ _. HasPut (known_by pass.old) parcel.message (known_by pass.new)) }
-        ensures refused { IfErr result (λ back. (back ≡ parcel) × (known_by pass.new ≡ known_by pass.old)) }
+        ensures put { IfOk result (λ _. HasPut (known_by pass.old) packet.message (known_by pass.new)) }
+        ensures refused { IfErr result (λ back. (back ≡ packet) × (known_by pass.new ≡ known_by pass.old)) }
     {
-        self.line.push_as::<Put, R>(rt, pass, parcel)
+        self.line.push_as::<Put, R>(rt, pass, packet)
     }
 
     /// Shows one put more in the sender's word, and wakes the receiver.
@@ -71,7 +74,7 @@ impl<M> Channel<M> {
     }
 
     /// Takes the message in front. `None` is learned at a moment at which the queue holds nothing.
-    pub(crate) fn take<R: Wait>(&self, rt: &R, pass: &mut Pass<M>) -> Option<Parcel<Stamped<M>>>
+    pub(crate) fn take<R: Wait>(&self, rt: &R, pass: &mut Pass<M>) -> Option<Packet<Stamped<M>>>
         requires { IsFirstPassOf self.now.line pass.old }
         ensures pass { IsFirstPassOf self.now.line pass.new }
         ensures taken { MatchOption result (HasFoundNothing (known_by pass.old) (known_by pass.new))
@@ -184,6 +187,7 @@ impl<M> Channel<M> {
         ensures pass { IfOk result (λ r. IsFirstPassOf r.0.line r.1 × (known_by r.1 ≡ idle)) }
         ensures seat { IfOk result (λ r. IsFirstSeatOf r.0.marks.shared.table_id r.0.line 0 r.2 × (r.2.table_id.slots ≡ senders)) }
     {
+        let blocks = ArrayQueue::new(alloc, STRINGS)?;
         let parker = Parker::new(alloc)?;
         let unparker = parker.unparker().clone()?;
         let (line, pass) = Line::with_rule(alloc)?;
@@ -194,6 +198,7 @@ impl<M> Channel<M> {
                     marks,
                     unparker,
                     asleep: AtomicBool::new(false),
+                    blocks,
                 };
                 Ok((channel, pass, seat, parker))
             }
@@ -205,22 +210,22 @@ impl<M> Channel<M> {
     }
 
     /// Takes all that is left, in its order, and says how many these are.
-    pub(crate) fn drain<R: Wait>(&self, rt: &R, pass: &mut Pass<M>) -> (Parcels<Stamped<M>>, usize)
+    pub(crate) fn drain<R: Wait>(&self, rt: &R, pass: &mut Pass<M>) -> (Packets<Stamped<M>>, usize)
         requires { IsFirstPassOf self.now.line pass.old }
         ensures count { result.1 ≡ length result.0 }
         ensures same { ((known_by pass.new).made ≡ (known_by pass.old).made) × ((known_by pass.new).ended ≡ (known_by pass.old).ended) }
         ensures taken { (known_by pass.new).taken ≡ (known_by pass.old).taken ++ result.0 }
         ensures empty { Shows (known_by pass.new) [] }
     {
-        let mut parcels = Parcels::new();
+        let mut packets = Packets::new();
         let mut len = 0;
         for _ in rt.forever() {
             match self.take(rt, pass) {
-                Some(parcel) => {
-                    parcels.push_front(parcel);
+                Some(packet) => {
+                    packets.push_front(packet);
                     len += 1;
                 }
-                None => return (parcels.reversed(), len),
+                None => return (packets.reversed(), len),
             }
         }
         unreachable!()
@@ -232,7 +237,7 @@ impl<M> Channel<M> {
         rt: &R,
         mut pass: Pass<M>,
         ends: Vec<SenderEnd<M>>,
-    ) -> (Parcels<Stamped<M>>, usize, Pass<M>)
+    ) -> (Packets<Stamped<M>>, usize, Pass<M>)
         requires pass { IsFirstPassOf self.now.line pass }
         requires ends { All (λ e. e.queue.line ≡ self.now.line) ends.items }
         ensures count { result.1 ≡ length result.0 }
@@ -241,7 +246,7 @@ impl<M> Channel<M> {
             (receiving (known_by pass).made ((known_by pass).ended ++ map whole_of ends.items) ((known_by pass).taken ++ result.0)) [] }
     {
         self.join_ends(&mut pass, ends);
-        let (parcels, len) = self.drain(rt, &mut pass);
-        (parcels, len, pass)
+        let (packets, len) = self.drain(rt, &mut pass);
+        (packets, len, pass)
     }
 }

@@ -15,6 +15,7 @@ use super::Receiver;
 use crate::channel::Channel;
 use crate::delivery::Pass;
 use crate::marks::MarkSeat;
+use crate::packet::Blocks;
 use crate::rest::{QueueEnd, Rest};
 use crate::sender::{Sender, SenderEnd, abandon_all};
 use crate::stamp::Stamped;
@@ -134,13 +135,14 @@ impl<M> Receiver<M> {
             found: _,
             taken,
             counts: _,
+            blocks: _,
             alloc: _,
         } = self;
-        let (parcels, len, pass) = channel.settle(rt, pass, ends);
+        let (packets, len, pass) = channel.settle(rt, pass, ends);
         QueueEnd {
             put: taken + len as u64,
             taken,
-            rest: Rest::new(parcels, len, pass),
+            rest: Rest::new(packets, len, pass),
         }
     }
 
@@ -158,6 +160,7 @@ impl<M> Receiver<M> {
             found: _,
             taken: _,
             counts: _,
+            blocks: _,
             alloc: _,
         } = self;
         abandon_all(senders);
@@ -188,6 +191,7 @@ impl<M> Receiver<M> {
             found: 0,
             taken: 0,
             counts,
+            blocks: Blocks::new(),
             alloc,
         }
     }

@@ -18,9 +18,11 @@ impl<M> Receiver<M> {
         ensures taken { MatchOption result ((self.new ≡ self.old) × IsDrained self.new) (λ x. HasTaken self.old (x ∷ []) self.new) }
         ensures in_order { IsInOrder self.new.taken }
     {
-        let stamped = self.channel.take(rt, &mut self.pass)?.open();
+        let (stamped, block) = self.channel.take(rt, &mut self.pass)?.open();
         count_one(&mut self.counts, stamped.stamp.sender);
         self.taken += 1;
+        self.channel
+            .keep_block(rt, &mut self.blocks, block, self.taken);
         Some(stamped)
     }
 
@@ -38,11 +40,15 @@ impl<M> Receiver<M> {
         ensures empty { OnFalse result ((got.new.items ≡ got.old.items) × (self.new ≡ self.old) × IsDrained self.new) }
     {
         let before = got.len();
-        if !self.channel.take_batch(rt, &mut self.pass, got, limit) {
+        if !self
+            .channel
+            .take_batch(rt, &mut self.pass, got, &mut self.blocks, limit)
+        {
             return false;
         }
         count_all(&mut self.counts, &got.as_slice()[before..]);
         self.taken += (got.len() - before) as u64;
+        self.channel.give_blocks(rt, &mut self.blocks);
         true
     }
 

@@ -10,8 +10,9 @@ use super::{Sender, SenderEnd};
 use crate::channel::Channel;
 use crate::delivery::Pass;
 use crate::marks::MarkSeat;
+use crate::packet::{Blocks, Packet};
 use crate::stamp::{Stamp, Stamped};
-use fan_base::{Memory, Parcel, Refused};
+use fan_base::{Memory, Refused};
 use std::alloc::Global;
 use std::sync::{Arc, Wait};
 
@@ -27,21 +28,19 @@ impl<M> Sender<M> {
             sender: self.number,
             index: self.puts,
         };
-        let parcel = match Parcel::new(self.alloc, Stamped { stamp, message }) {
-            Ok(parcel) => parcel,
-            Err(Refused::Memory(Stamped { stamp: _, message })) => return Err(Refused::Memory(
-                message,
-            )),
+        let Some(block) = self.channel.next_block(rt, &mut self.blocks, self.alloc) else {
+            return Err(Refused::Memory(message));
         };
-        match self.channel.put(rt, &mut self.pass, parcel) {
+        let packet = Packet::new(Stamped { stamp, message }, block);
+        match self.channel.put(rt, &mut self.pass, packet) {
             Ok(()) => {
                 self.puts += 1;
                 self.channel
                     .show_put(&mut self.seat, self.number, self.puts);
                 Ok(stamp)
             }
-            Err(parcel) => {
-                let Stamped { stamp: _, message } = parcel.open();
+            Err(packet) => {
+                let (Stamped { stamp: _, message }, _block) = packet.open();
                 Err(Refused::Memory(message))
             }
         }
@@ -64,6 +63,7 @@ impl<M> Sender<M> {
             mut seat,
             number,
             puts,
+            blocks: _,
             alloc: _,
         } = self;
         let copy = channel.end(&mut pass);
@@ -93,6 +93,7 @@ impl<M> Sender<M> {
             seat: channel.another_mark(seat),
             number,
             puts: 0,
+            blocks: Blocks::new(),
             alloc,
         })
     }
@@ -104,6 +105,7 @@ impl<M> Sender<M> {
             seat: _,
             number: _,
             puts: _,
+            blocks: _,
             alloc: _,
         } = self;
     }

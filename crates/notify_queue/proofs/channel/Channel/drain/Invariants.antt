@@ -6,6 +6,6 @@ abbrev pub invariant-loop : goal.invariant-loop
 invariant-loop g l = record {
   pass_of : IsFirstPassOf l.self.line l.pass;
   same : ((known_by l.pass).made ≡ (known_by l.initial.pass).made) × ((known_by l.pass).ended ≡ (known_by l.initial.pass).ended);
-  taken : (known_by l.pass).taken ≡ (known_by l.initial.pass).taken ++ reverse l.parcels;
-  count : l.len ≡ length l.parcels;
+  taken : (known_by l.pass).taken ≡ (known_by l.initial.pass).taken ++ reverse l.packets;
+  count : l.len ≡ length l.packets;
 }

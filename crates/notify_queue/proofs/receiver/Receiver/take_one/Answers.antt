@@ -1,5 +1,5 @@
 use Rattle.std.proofs.Common.{◌+◌, ◌∷◌, [], refl, arith}
-use Rattle.notify_queue.proofs.Receivings.{same_keeps, takes_keeps, takes_seen, counts_one, count_small, from_sender}
+use Rattle.notify_queue.proofs.Receivings.{same_keeps, takes_keeps, takes_seen, counts_one, count_small, from_sender, other_blocks}
 use Rattle.notify_queue.proofs.receiver.Receiver.take_one.Goals as goal
 
 pub invariant_of-self : goal.invariant_of-self
@@ -18,8 +18,8 @@ invariant_of-self-2 g c =
     let x = c.in_ok-take.field-0 in
     let took = c.in_ok-take.ensures.taken in
     let from = from_sender r c.take.new.pass x c.self.invariant took in
-    takes_keeps r c.take.new.pass c.count_one.new.counts (r.taken + 1) (x ∷ []) c.self.invariant (rw c.deref.ensures at c.in_ok-take.ensures.pass) took
-    (rw (c.count_one.ensures, c.open-stamped.ensures) (counts_one r.senders r.counts.items _ x c.self.invariant.counts from)) refl
+    other_blocks _ c.keep_block.new.blocks (takes_keeps r c.take.new.pass c.count_one.new.counts (r.taken + 1) (x ∷ []) c.self.invariant (rw c.deref.ensures at c.in_ok-take.ensures.pass) took
+    (rw (c.count_one.ensures, c.open-stamped.ensures) (counts_one r.senders r.counts.items _ x c.self.invariant.counts from)) refl)
 
 pub returns-clause-taken : goal.returns-clause-taken
 returns-clause-taken g c =
