@@ -51,7 +51,9 @@ fn place_last<T, L: Ledger>(
     Ok(())
 }
 
-// Places the entries of a wheel's slot anew, where the slot's turn comes with the next tick.
+// Places the entries of a wheel's slot anew, where the slot's turn comes with the next tick. At each call the width is a number, so that
+// the test is a mask and no division.
+#[inline(always)]
 fn cascade<T, L: Ledger>(
     slots: &mut [Slot],
     index: &mut HashMap<u64, Held<T>>,
