@@ -11,6 +11,7 @@
 #![tactic(auto)]
 
 pub use laws::{heads_are_runs, tasks_keep_their_world};
+pub use stage::{WorkerStage, work_tasks};
 pub use task::ShardTask;
 pub use world::{TaskEnds, TaskWorld};
 
@@ -18,5 +19,6 @@ mod answer;
 mod laws;
 mod leave;
 mod run;
+mod stage;
 mod task;
 mod world;

@@ -1,0 +1,58 @@
+ghost use Rattle.std.specs.Prelude.{◌≡◌, false, map};
+ghost use Rattle.std.specs.List.{All};
+ghost use Rattle.job_trait.specs.Marks.{IsDone};
+ghost use Rattle.run_tasks.specs.Worlds.{AreEndsFor, Follows, StaysPass, told_of};
+
+use crate::task::ShardTask;
+use crate::world::{TaskEnds, TaskWorld};
+use fan_base::Gate;
+use fan_parts::{GatherJob, RunName};
+use prio_pool::{Pool, WorkerEnd, WorkerPass};
+use std::sync::Wait;
+
+/// What a worker leaves: its end, which the pool's end asks for, and what is left of its world.
+pub struct WorkerStage<'t, 'd: 't, 'r: 'd, 'i: 'r, N: RunName> {
+    pub end: WorkerEnd<ShardTask<'t, 'd, 'r, 'i, N>>,
+    pub ends: TaskEnds<'t, 'd, 'r, 'i, N>,
+}
+
+/// Works for the pool on a world of its own, until the pool's end, and then ends the world.
+pub fn work_tasks<'c, 't, 'd: 't, 'r: 'd, 'i: 'r, N: RunName + 'static, G: Gate, R: Wait>(
+    rt: &R,
+    pool: &Pool<ShardTask<'t, 'd, 'r, 'i, N>>,
+    pass: WorkerPass<ShardTask<'t, 'd, 'r, 'i, N>>,
+    mut world: TaskWorld<'c, 't, 'd, 'r, 'i, N>,
+    gate: &G,
+) -> WorkerStage<'t, 'd, 'r, 'i, N>
+    requires { pass.pool ≡ pool.now.id }
+    ensures end { (result.end.pool ≡ pass.entry.pool) × (result.end.number ≡ pass.entry.number) }
+    ensures marks { result.ends.refused ≡ false → All (λ r. IsDone r.mark) result.end.records }
+    ensures refused { result.ends.refused ≡ false → world.entry.refused ≡ false }
+    ensures posters { AreEndsFor (map told_of world.entry.posters) result.ends.posters.items }
+    ensures pass { StaysPass world.entry.pass result.ends.pass }
+{
+    let none: Option<GatherJob<'d, 'r, 'i, N>> = None;
+    let end = work_on(rt, pool, pass, &mut world, gate, &none);
+    let None = none else { unreachable!() };
+    WorkerStage {
+        end,
+        ends: world.end(rt),
+    }
+}
+
+/// Works for the pool until its end. What is in `_none` isn't read: its type tells for how long lives what a task posts.
+fn work_on<'c, 't, 'd: 't, 'r: 'd, 'i: 'r, N: RunName + 'static, G: Gate, R: Wait>(
+    rt: &R,
+    pool: &Pool<ShardTask<'t, 'd, 'r, 'i, N>>,
+    pass: WorkerPass<ShardTask<'t, 'd, 'r, 'i, N>>,
+    world: &mut TaskWorld<'c, 't, 'd, 'r, 'i, N>,
+    gate: &G,
+    _none: &Option<GatherJob<'d, 'r, 'i, N>>,
+) -> WorkerEnd<ShardTask<'t, 'd, 'r, 'i, N>>
+    requires { pass.pool ≡ pool.now.id }
+    ensures end { (result.pool ≡ pass.entry.pool) × (result.number ≡ pass.entry.number) }
+    ensures marks { world.new.refused ≡ false → All (λ r. IsDone r.mark) result.records }
+    ensures follows { Follows world.old world.new }
+{
+    pool.work(rt, pass, world, gate)
+}
