@@ -5,3 +5,4 @@ mod LineByLine
 mod Firing
 mod Walking
 mod Leaving
+mod Giving

@@ -16,9 +16,11 @@
 
 pub use at_turn::{AtTurn, QueryTurn};
 pub use front::walk;
+pub use turns::{HookRelation, KeptList, given_in_order, related_by_each_turn};
 
 mod at_turn;
 mod front;
 mod laws;
 mod lines;
 mod state;
+mod turns;
