@@ -1,6 +1,5 @@
 -- What stages have to be, and what their runs make of them.
 use Rattle.std.specs.Prelude.{◌≡◌, ℕ, ◌<◌, List, length, slice_index_or}
-use Rattle.run_stages.specs.declared.threads.Middle.{Middle}
 
 -- each stage is ready
 pub record AllReady {S : Type 0} (ready : S → Type 0) (stages : List S) : Type 0 where
@@ -10,12 +9,3 @@ pub record AllReady {S : Type 0} (ready : S → Type 0) (stages : List S) : Type
 pub record AllRan {S : Type 0} (ran : S → S → Type 0) (old new : List S) : Type 0 where
   pub as_many : length new ≡ length old
   pub each : (k : ℕ) (d : S) → k < length old → ran (slice_index_or old k d) (slice_index_or new k d)
-
-module _ {B F : Type 0} where
-  pub record MiddleReady (base : B → Type 0) (front : F → Type 0) (m : Middle B F) : Type 0 where
-    pub bases_are : AllReady base m.bases.items
-    pub front_is : front m.front
-
-  pub record MiddleRan (base : B → B → Type 0) (front : F → F → Type 0) (old new : Middle B F) : Type 0 where
-    pub bases_are : AllRan base old.bases.items new.bases.items
-    pub front_is : front old.front new.front

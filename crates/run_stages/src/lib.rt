@@ -2,12 +2,12 @@
 //!
 //! ```text
 //! calling thread          others
-//! front ----------------> bases (one thread each) ----> last stage (one thread)
-//!   workers (one thread each)
+//! front ----------------> stages, one thread each     run_beside
+//! front and stages -----> last stage, one thread      run_before
 //! ```
 //!
-//! Where no thread can be made a stage runs on the calling thread instead: the front first, then the bases, then the last stage. So no stage
-//! waits for a later one, and the answer is the same.
+//! Where no thread can be made a stage runs on the calling thread instead: the front first, then the stages, then the last one. So a stage may
+//! wait for an earlier one, and never for a later one, and the answer is the same.
 #![tactic(auto)]
 
 mod stage;
@@ -15,5 +15,5 @@ mod stage;
 mod tests;
 mod threads;
 
-pub use stage::{Stage, WideStage};
-pub use threads::{Middle, run_beside, run_each, run_stages};
+pub use stage::Stage;
+pub use threads::{run_before, run_beside, run_each};
