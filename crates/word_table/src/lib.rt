@@ -2,10 +2,12 @@
 #![tactic(auto)]
 
 pub use dictionary::Dictionary;
+pub use laws::more_words_move_no_place;
 pub use notes::Notes;
 pub use sorted::Sorted;
 
 mod dictionary;
 mod hints;
+mod laws;
 mod notes;
 mod sorted;
