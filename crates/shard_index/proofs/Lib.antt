@@ -1,7 +1,7 @@
 mod Sorted
 mod Keeping
-mod WordLemmas
 mod PlaceLemmas
+mod PostingLemmas
 mod JoinLemmas
 mod SelectionLemmas
 mod HitLemmas

@@ -1,4 +1,5 @@
 pub mod Places
+pub mod Postings
 pub mod Standing
 pub mod Joins
 pub mod Selections

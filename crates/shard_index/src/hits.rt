@@ -3,26 +3,26 @@ ghost use Rattle.fan_base.specs.declared.doc.Doc.{Doc};
 ghost use Rattle.query_model.specs.Limits.{most_listed};
 ghost use Rattle.query_model.specs.Sorting.{sorted_by};
 ghost use Rattle.shard_index.specs.Places.{places_where};
-ghost use Rattle.shard_index.specs.Selections.{AreSelected, Selects, hits_where};
+ghost use Rattle.shard_index.specs.Selections.{AreSelected, Selects, hits_where, places_listed};
 
 use crate::best::keep_id;
-use crate::selection::{Selection, without};
+use crate::selection::{Listed, Selection, without};
 use fan_base::Ids;
 use query_model::Hits;
 use query_model::limits::MOST_LISTED;
 use std::alloc::{AllocError, Global};
 
 /// The first 100 ids, ascending, of the selected ones of the documents with these ids, and how many are selected.
-pub fn hits(alloc: Global, ids: &[u32], selection: &Selection) -> Result<Hits, AllocError>
+pub fn hits(alloc: Global, ids: &[u32], selection: &Selection<'_>) -> Result<Hits, AllocError>
     requires { AreSelected ids.now selection.now }
     ensures { (test : Doc → Bool) (docs : List Doc) → ids.now ≡ map (λ doc. doc.id) docs → Selects selection.now test docs
         → IfOk result (λ hits. hits ≡ hits_where test docs) }
 {
     match selection {
-        Selection::Those(places) => hits_at(alloc, ids, places.as_slice()),
-        Selection::AllBut(places) => {
-            let kept = all_but(alloc, ids.len(), places.as_slice())?;
-            hits_at(alloc, ids, kept.as_slice())
+        Selection::Those(listed) => hits_at(alloc, ids, listed.places()),
+        Selection::AllBut(listed) => {
+            let kept = all_but(alloc, ids.len(), listed)?;
+            hits_at(alloc, ids, kept.places())
         }
     }
 }
@@ -44,12 +44,12 @@ fn hits_at(alloc: Global, ids: &[u32], places: &[u32]) -> Result<Hits, AllocErro
 }
 
 /// The places of so many documents but these.
-fn all_but(alloc: Global, count: usize, left_out: &[u32]) -> Result<Vec<u32>, AllocError>
+fn all_but<'a>(alloc: Global, count: usize, left_out: &Listed<'_>) -> Result<Listed<'a>, AllocError>
     requires { count < 2 ^ 32 }
-    ensures { (test : Doc → Bool) (docs : List Doc) → length docs ≡ count → left_out.now ≡ places_where (λ doc. not (test doc)) docs
-        → IfOk result (λ places. places.items ≡ places_where test docs) }
+    ensures { (test : Doc → Bool) (docs : List Doc) → length docs ≡ count → places_listed left_out.now ≡ places_where (λ doc. not (test doc)) docs
+        → IfOk result (λ listed. places_listed listed ≡ places_where test docs) }
 {
-    without(alloc, places_below(alloc, count)?.as_slice(), left_out)
+    without(alloc, &Listed::Made(places_below(alloc, count)?), left_out)
 }
 
 /// All places of so many documents.

@@ -7,7 +7,6 @@ ghost use Rattle.shard_index.specs.Standing.{AreShort, Stands, StandsFor};
 
 use crate::counts::Counts;
 use crate::index::Index;
-use crate::reading::Reading;
 use fan_base::{Doc, Docs, Memory, Scores, Words};
 use query_grammar::Expr;
 use query_model::Hits;
@@ -32,14 +31,13 @@ impl Shard {
         requires short { AreShort docs.now }
         ensures { IfOk result (λ shard. StandsFor shard docs.now shards no) }
     {
-        let mut reading = Reading::new(alloc);
+        let mut index = Index::new(alloc);
         let docs = docs.as_slice();
         for (place, doc) in docs.iter().enumerate() {
             if place % shards as usize == no as usize {
-                reading.add(doc)?;
+                index.add(alloc, doc)?;
             }
         }
-        let index = Index::of(alloc, reading)?;
         Ok(Shard {
             index,
             shards,

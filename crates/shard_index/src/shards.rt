@@ -37,8 +37,7 @@ impl Shards {
     {
         let mut all = Vec::new(alloc);
         for number in 0..shards {
-            let shard = Shard::build(alloc, docs, shards, number)?;
-            push(&mut all, shard)?;
+            push(&mut all, Shard::build(alloc, docs, shards, number)?)?;
         }
         Ok(Shards {
             alloc,

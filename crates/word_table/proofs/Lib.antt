@@ -1,3 +1,0 @@
-mod NumberLemmas
-mod PlaceLemmas
-mod NoteLemmas
