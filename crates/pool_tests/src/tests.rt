@@ -1,0 +1,640 @@
+// Pools on one thread and on several.
+ghost use Rattle.std.specs.Prelude.{◌≡◌, ◌⊎◌, ◌+◌, ◌<◌, ◌≤◌, ◌∷◌, ◌++◌, [], length, All};
+ghost use Rattle.pool_model.specs.Passes.{AreAllPasses, AreAllEnds, adds_of};
+ghost use Rattle.prio_pool.specs.Made.{new_passes, new_workers};
+
+use fan_base::{ExecId, JobId, Mark, OpenGate, Parcel};
+use job_trait::{Head, Headed, Job};
+use keep_alive::{KeepAlive, KeepOwner};
+use prio_pool::{
+    Helped, HelperEnd, HelperPass, Joining, Pool, PoolEnd, PoolParts, PoolPass, Returned, Runs,
+    Stopping, WorkerEnd, WorkerPass, new_passes_are_unused, queue_for, run_direct,
+};
+use std::alloc::Global;
+use std::process::Abort;
+use std::sync::Wait;
+use std::thread::{Threads, join};
+
+mod kept;
+
+// It notes its id in the world, and is done with its number.
+#[derive(Clone, Copy, Debug, PartialEq, Eq)]
+struct Note(Head);
+
+impl Headed for Note {
+    ghost head = { λ note. note.0 };
+
+    fn id(&self) -> JobId {
+        self.0.id
+    }
+
+    fn exec(&self) -> ExecId {
+        self.0.exec
+    }
+}
+
+impl Job<Vec<u64>> for Note {
+    ghost runs = { λ id before mark after. (after.items ≡ before.items ++ id.0 ∷ []) ⊎ (after.items ≡ before.items) };
+
+    fn run<R: Wait>(self, _rt: &R, world: &mut Vec<u64>) -> Mark {
+        match world.push(self.0.id.0) {
+            Ok(()) => Mark::Done(self.0.number),
+            Err(_) => Mark::Memory,
+        }
+    }
+}
+
+fn make_note(id: u64) -> Note
+    ensures { result.0.exec.0 ≡ 7 }
+{
+    Note(Head {
+        id: JobId(id),
+        exec: ExecId(7),
+        number: id / 2,
+    })
+}
+
+#[test]
+fn each_priority_has_its_queue(rt: HostRuntime) {
+    let priorities = [-128, -1, 0, 1, 127];
+    let rows = [
+        (1, [0, 0, 0, 0, 0]),
+        (2, [0, 0, 1, 1, 1]),
+        (3, [0, 0, 1, 2, 2]),
+        (5, [0, 1, 2, 3, 4]),
+    ];
+    for (queues, expected) in rows {
+        if 0 < queues && queues <= 256 {
+            assert_eq!(rt;
+                priorities.map(|priority| queue_for(queues, priority)),
+                expected
+            );
+        }
+    }
+}
+
+// Adds a note, for which there has to be memory.
+fn add<R: Abort + Wait>(
+    rt: &R,
+    pool: &Pool<Note>,
+    keep: &KeepAlive,
+    pass: &mut PoolPass<Note>,
+    priority: i8,
+    id: u64,
+) -> (u32, u64)
+    requires keep { keep.now.count ≡ pool.now.count }
+    requires pass { pass.old.pool ≡ pool.now.id }
+    requires exec { pool.now.exec.0 ≡ 7 }
+    requires room { length (adds_of pass.old) < 100000 }
+    ensures pass { (pass.new.pool ≡ pass.old.pool) × (pass.new.number ≡ pass.old.number) }
+    ensures one { length (adds_of pass.new) ≡ length (adds_of pass.old) + 1 }
+{
+    match pool.add(rt, keep, pass, priority, make_note(id)) {
+        Ok(ticket) => (ticket.adder, ticket.index),
+        Err(_) => rt.panic("memory"),
+    }
+}
+
+// A list of one.
+fn list_of<X, R: Abort>(rt: &R, alloc: Global, item: X) -> Vec<X>
+    ensures { result.items ≡ item ∷ [] }
+{
+    let mut list = Vec::with_capacity(alloc, 1).expect(rt, "memory");
+    list.push_reserved(item);
+    list
+}
+
+// The one pass of a pool with one adder.
+fn all_passes<J: Headed, R: Abort>(
+    rt: &R,
+    alloc: Global,
+    pool: &Pool<J>,
+    pass: PoolPass<J>,
+) -> Vec<PoolPass<J>>
+    requires pass { pass.pool ≡ pool.now.id }
+    requires one { pool.now.adders ≡ 1 }
+    ensures { AreAllPasses pool.now.id pool.now.adders result.items }
+{
+    list_of(rt, alloc, pass)
+}
+
+// The one end of a pool with one worker.
+fn all_ends<J: Headed, R: Abort>(
+    rt: &R,
+    alloc: Global,
+    pool: &Pool<J>,
+    end: WorkerEnd<J>,
+) -> Vec<WorkerEnd<J>>
+    requires end { end.pool ≡ pool.now.id }
+    requires one { pool.now.workers ≡ 1 }
+    ensures { AreAllEnds pool.now.id pool.now.workers result.items }
+{
+    list_of(rt, alloc, end)
+}
+
+// The ids of the records, in order, and how many there are.
+fn ids<R: Abort>(rt: &R, alloc: Global, mut ran: Runs) -> Vec<u64> {
+    let mut ids = Vec::new(alloc);
+    for _ in 0..ran.len() {
+        let record = ran.pop().expect(rt, "a record");
+        ids.push(record.job().0).expect(rt, "memory");
+    }
+    ids
+}
+
+// The one pass of a new pool with one adder.
+#[tactic(auto, using(crate::proofs::Lists::popped))]
+fn only_pass<J: Headed, R: Abort>(
+    rt: &R,
+    pool: &Pool<J>,
+    mut adders: Vec<PoolPass<J>>,
+) -> PoolPass<J>
+    requires { adders.items ≡ new_passes pool.now.id 0 1 }
+    ensures { (result.pool ≡ pool.now.id) × (adds_of result ≡ []) }
+{
+    let _ = pool;
+    new_passes_are_unused();
+    if let Some(pass) = adders.pop() {
+        adders.destroy_empty();
+        return pass;
+    }
+    rt.panic("a pass")
+}
+
+// The workers' passes of a new pool.
+fn workers_of<J: Headed>(
+    pool: &Pool<J>,
+    workers: Vec<WorkerPass<J>>,
+    count: u32,
+) -> Vec<WorkerPass<J>>
+    requires { workers.items ≡ new_workers pool.now.id 0 count }
+    ensures all { All (λ w. w.pool ≡ pool.now.id) workers.items }
+    ensures same { result ≡ workers }
+{
+    let _ = pool;
+    let _ = count;
+    new_passes_are_unused();
+    workers
+}
+
+// The last of the workers' passes.
+#[tactic(auto, using(crate::proofs::Lists::popped))]
+fn next_worker<J: Headed, R: Abort>(
+    rt: &R,
+    pool: &Pool<J>,
+    workers: &mut Vec<WorkerPass<J>>,
+) -> WorkerPass<J>
+    requires { All (λ w. w.pool ≡ pool.now.id) workers.old.items }
+    ensures pool { result.pool ≡ pool.now.id }
+    ensures rest { All (λ w. w.pool ≡ pool.now.id) workers.new.items }
+    ensures one { length workers.old.items ≡ length workers.new.items + 1 }
+{
+    let _ = pool;
+    if let Some(worker) = workers.pop() {
+        return worker;
+    }
+    rt.panic("a pass")
+}
+
+// A pool of three queues, one adder and one worker.
+struct Opened {
+    pool: Pool<Note>,
+    owner: KeepOwner,
+    keep: KeepAlive,
+    pass: PoolPass<Note>,
+    worker: WorkerPass<Note>,
+}
+
+fn open_pool<R: Abort>(rt: &R, alloc: Global) -> Opened
+    ensures pool { (result.pool.adders ≡ 1) × (result.pool.workers ≡ 1) × (result.pool.helpers ≡ 0) × (result.pool.exec.0 ≡ 7) }
+    ensures keeps { (result.owner.count ≡ result.pool.count) × (result.keep.count ≡ result.pool.count) }
+    ensures pass { (result.pass.pool ≡ result.pool.id) × (adds_of result.pass ≡ []) }
+    ensures worker { result.worker.pool ≡ result.pool.id }
+{
+    let PoolParts {
+        pool,
+        owner,
+        keep,
+        adders,
+        workers,
+        helpers,
+    } = Pool::new(alloc, ExecId(7), 3, 1, 1, 0, 0).expect(rt, "memory");
+    helpers.destroy_empty();
+    let pass = only_pass(rt, &pool, adders);
+    let mut workers = workers_of(&pool, workers, 1);
+    let worker = next_worker(rt, &pool, &mut workers);
+    workers.destroy_empty();
+    Opened {
+        pool,
+        owner,
+        keep,
+        pass,
+        worker,
+    }
+}
+
+#[test]
+fn the_highest_queue_runs_first(rt: HostRuntime) {
+    let alloc = rt.alloc();
+    let Opened {
+        pool,
+        owner,
+        keep,
+        mut pass,
+        worker,
+    } = open_pool(&rt, alloc);
+    assert_eq!(rt; add(&rt, &pool, &keep, &mut pass, 0, 10), (0, 0));
+    assert_eq!(rt; add(&rt, &pool, &keep, &mut pass, -128, 11), (0, 1));
+    assert_eq!(rt; add(&rt, &pool, &keep, &mut pass, 127, 12), (0, 2));
+    assert_eq!(rt; add(&rt, &pool, &keep, &mut pass, 0, 13), (0, 3));
+    let _ = keep.release();
+    let passes = all_passes(&rt, alloc, &pool, pass);
+    let joining = pool.begin_join(&rt, owner, passes);
+    let mut world = Vec::new(alloc);
+    let end = pool.work(&rt, worker, &mut world, &OpenGate);
+    let ends = all_ends(&rt, alloc, &pool, end);
+    let PoolEnd {
+        accepted,
+        ran,
+        mut returned,
+    } = pool.join(&rt, joining, ends, Vec::new(alloc), &mut world);
+    assert_eq!(rt;
+        (accepted, ran.len(), ran.stopped(), returned.len()),
+        (4, 4, false, 0)
+    );
+    assert!(rt; returned.pop().is_none());
+    assert_eq!(rt;
+        ids(&rt, alloc, ran).as_slice(),
+        [12, 10, 13, 11].as_slice()
+    );
+    assert_eq!(rt; world.as_slice(), [12, 10, 13, 11].as_slice());
+}
+
+#[test]
+fn a_stopped_pool_hands_its_tasks_back(rt: HostRuntime) {
+    let alloc = rt.alloc();
+    let Opened {
+        pool,
+        owner,
+        keep,
+        mut pass,
+        worker,
+    } = open_pool(&rt, alloc);
+    assert_eq!(rt; add(&rt, &pool, &keep, &mut pass, 0, 20), (0, 0));
+    assert_eq!(rt; add(&rt, &pool, &keep, &mut pass, 0, 21), (0, 1));
+    let _ = keep.release();
+    let passes = all_passes(&rt, alloc, &pool, pass);
+    let stopping = pool.begin_stop(&rt, owner, passes);
+    let mut world = Vec::new(alloc);
+    let end = pool.work(&rt, worker, &mut world, &OpenGate);
+    let ends = all_ends(&rt, alloc, &pool, end);
+    let PoolEnd {
+        accepted,
+        ran,
+        mut returned,
+    } = pool.stop(&rt, stopping, ends, Vec::new(alloc));
+    assert_eq!(rt;
+        (accepted, ran.len(), ran.stopped(), returned.len()),
+        (2, 0, true, 2)
+    );
+    let (ticket, note) = returned.pop().expect(&rt, "a task");
+    assert_eq!(rt; (ticket.adder, ticket.index, note.0.id.0), (0, 0, 20));
+    let record = returned.run_next(&rt, &mut world).expect(&rt, "a task");
+    assert_eq!(rt;
+        (record.ticket().index, record.queue(), record.job().0),
+        (1, 1, 21)
+    );
+    assert_eq!(rt; (record.exec(), record.mark()), (ExecId(7), Mark::Done(10)));
+    assert!(rt; returned.run_next(&rt, &mut world).is_none());
+    let direct = run_direct(&rt, 2, note, &mut world);
+    assert_eq!(rt;
+        (direct.queue(), direct.job().0, direct.mark()),
+        (2, 20, Mark::Done(10))
+    );
+    assert_eq!(rt; world.as_slice(), [21, 20].as_slice());
+}
+
+#[test]
+fn an_empty_pool_ends(rt: HostRuntime) {
+    let alloc = rt.alloc();
+    let Opened {
+        pool,
+        owner,
+        keep,
+        pass,
+        worker,
+    } = open_pool(&rt, alloc);
+    let _ = keep.release();
+    let mut world = Vec::new(alloc);
+    let passes = all_passes(&rt, alloc, &pool, pass);
+    let joining = pool.begin_join(&rt, owner, passes);
+    let end = pool.work(&rt, worker, &mut world, &OpenGate);
+    let ends = all_ends(&rt, alloc, &pool, end);
+    let PoolEnd {
+        accepted,
+        ran,
+        returned,
+    } = pool.join(&rt, joining, ends, Vec::new(alloc), &mut world);
+    assert_eq!(rt;
+        (accepted, ran.len(), returned.len(), world.len()),
+        (0, 0, 0, 0)
+    );
+}
+
+// Adds so many tasks, half of them to the middle queue and half to the highest, lets the keep-alive go, and begins to join.
+fn add_and_begin_join<R: Abort + Wait>(
+    rt: &R,
+    alloc: Global,
+    pool: &Pool<Note>,
+    owner: KeepOwner,
+    keep: KeepAlive,
+    mut pass: PoolPass<Note>,
+) -> Joining<Note>
+    requires owner { owner.count ≡ pool.now.count }
+    requires keep { keep.count ≡ pool.now.count }
+    requires pass { (pass.pool ≡ pool.now.id) × (adds_of pass ≡ []) }
+    requires one { (pool.now.adders ≡ 1) × (pool.now.exec.0 ≡ 7) }
+    ensures passes { AreAllPasses pool.now.id pool.now.adders result.passes }
+    ensures pool { result.pool ≡ pool.now.id }
+{
+    for id in 0..1000 {
+        let priority = if id % 2 == 0 { 0 } else { 127 };
+        let _ = add(rt, pool, &keep, &mut pass, priority, id);
+    }
+    let _ = keep.release();
+    let passes = all_passes(rt, alloc, pool, pass);
+    pool.begin_join(rt, owner, passes)
+}
+
+// Works with a world of its own.
+fn work<R: Abort + Wait>(
+    rt: &R,
+    alloc: Global,
+    pool: &Pool<Note>,
+    pass: WorkerPass<Note>,
+) -> WorkerEnd<Note>
+    requires { pass.pool ≡ pool.now.id }
+    ensures { result.pool ≡ pool.now.id }
+{
+    let mut world = Vec::new(alloc);
+    pool.work(rt, pass, &mut world, &OpenGate)
+}
+
+// In a parcel a pass or an end can go into a closure.
+fn wrapped<X, R: Abort>(rt: &R, alloc: Global, value: X) -> Parcel<X>
+    ensures { result ≡ value }
+{
+    match Parcel::new(alloc, value) {
+        Ok(parcel) => parcel,
+        Err(_) => rt.panic("memory"),
+    }
+}
+
+// Whether each id below a thousand stands here once.
+fn each_once<R: Abort>(rt: &R, alloc: Global, ids: &[u64]) -> bool {
+    let mut counts = vec![in alloc; 0u64; 1000].expect(rt, "memory");
+    for id in ids {
+        let place = *id as usize;
+        assert!(rt; place < counts.len());
+        counts[place] = counts[place].saturating_add(1);
+    }
+    counts.iter().all(|count| *count == 1)
+}
+
+#[test]
+fn a_worker_runs_a_thousand_tasks(rt: HostRuntime) {
+    let alloc = rt.alloc();
+    let Opened {
+        pool,
+        owner,
+        keep,
+        pass,
+        worker,
+    } = open_pool(&rt, alloc);
+    let worker = wrapped(&rt, alloc, worker);
+    let owner = wrapped(&rt, alloc, owner);
+    let keep = wrapped(&rt, alloc, keep);
+    let pass = wrapped(&rt, alloc, pass);
+    let shared = &pool;
+    let (end, joining) = join(
+        &rt,
+        move ||
+            requires { worker.pool ≡ shared.now.id }
+        { work(&rt, alloc, shared, worker.open()) },
+        move ||
+            requires owner { owner.count ≡ shared.now.count }
+            requires keep { keep.count ≡ shared.now.count }
+            requires pass { (pass.pool ≡ shared.now.id) × (adds_of pass ≡ []) }
+            requires one { (shared.now.adders ≡ 1) × (shared.now.exec.0 ≡ 7) }
+        { add_and_begin_join(&rt, alloc, shared, owner.open(), keep.open(), pass.open()) },
+    );
+    let ends = all_ends(&rt, alloc, &pool, end);
+    let mut world = Vec::new(alloc);
+    let PoolEnd {
+        accepted,
+        ran,
+        returned,
+    } = pool.join(&rt, joining, ends, Vec::new(alloc), &mut world);
+    assert_eq!(rt; (accepted, ran.len(), returned.len()), (1000, 1000, 0));
+    let ids = ids(&rt, alloc, ran);
+    assert!(rt; each_once(&rt, alloc, ids.as_slice()));
+}
+
+// Two workers, each on a thread.
+fn two_work<R: Abort + Wait + Threads + Sync>(
+    rt: &R,
+    alloc: Global,
+    pool: &Pool<Note>,
+    one: Parcel<WorkerPass<Note>>,
+    other: Parcel<WorkerPass<Note>>,
+) -> (WorkerEnd<Note>, WorkerEnd<Note>)
+    requires { (one.pool ≡ pool.now.id) × (other.pool ≡ pool.now.id) }
+    ensures { (result.0.pool ≡ pool.now.id) × (result.1.pool ≡ pool.now.id) }
+{
+    join(
+        rt,
+        move ||
+            requires { one.pool ≡ pool.now.id }
+        { work(rt, alloc, pool, one.open()) },
+        move ||
+            requires { other.pool ≡ pool.now.id }
+        { work(rt, alloc, pool, other.open()) },
+    )
+}
+
+// All ends of a pool with four workers.
+fn four_ends<R: Abort>(
+    rt: &R,
+    alloc: Global,
+    pool: &Pool<Note>,
+    front: (WorkerEnd<Note>, WorkerEnd<Note>),
+    back: (WorkerEnd<Note>, WorkerEnd<Note>),
+) -> Vec<WorkerEnd<Note>>
+    requires front { (front.0.pool ≡ pool.now.id) × (front.1.pool ≡ pool.now.id) }
+    requires back { (back.0.pool ≡ pool.now.id) × (back.1.pool ≡ pool.now.id) }
+    requires four { pool.now.workers ≡ 4 }
+    ensures { AreAllEnds pool.now.id pool.now.workers result.items }
+{
+    let mut ends = Vec::with_capacity(alloc, 4).expect(rt, "memory");
+    ends.push_reserved(front.0);
+    ends.push_reserved(front.1);
+    ends.push_reserved(back.0);
+    ends.push_reserved(back.1);
+    ends
+}
+
+// A pool of three queues, one adder, and four workers.
+struct Large {
+    pool: Pool<Note>,
+    owner: KeepOwner,
+    keep: KeepAlive,
+    pass: PoolPass<Note>,
+    front: (WorkerPass<Note>, WorkerPass<Note>),
+    back: (WorkerPass<Note>, WorkerPass<Note>),
+}
+
+fn large_pool<R: Abort>(rt: &R, alloc: Global) -> Large
+    ensures pool { (result.pool.adders ≡ 1) × (result.pool.workers ≡ 4) × (result.pool.helpers ≡ 0) × (result.pool.exec.0 ≡ 7) }
+    ensures keeps { (result.owner.count ≡ result.pool.count) × (result.keep.count ≡ result.pool.count) }
+    ensures pass { (result.pass.pool ≡ result.pool.id) × (adds_of result.pass ≡ []) }
+    ensures front { (result.front.0.pool ≡ result.pool.id) × (result.front.1.pool ≡ result.pool.id) }
+    ensures back { (result.back.0.pool ≡ result.pool.id) × (result.back.1.pool ≡ result.pool.id) }
+{
+    let PoolParts {
+        pool,
+        owner,
+        keep,
+        adders,
+        workers,
+        helpers,
+    } = Pool::new(alloc, ExecId(7), 3, 1, 4, 0, 0).expect(rt, "memory");
+    helpers.destroy_empty();
+    let pass = only_pass(rt, &pool, adders);
+    let mut workers = workers_of(&pool, workers, 4);
+    let fourth = next_worker(rt, &pool, &mut workers);
+    let third = next_worker(rt, &pool, &mut workers);
+    let second = next_worker(rt, &pool, &mut workers);
+    let first = next_worker(rt, &pool, &mut workers);
+    workers.destroy_empty();
+    Large {
+        pool,
+        owner,
+        keep,
+        pass,
+        front: (first, second),
+        back: (third, fourth),
+    }
+}
+
+#[test]
+fn four_workers_run_a_thousand_tasks(rt: HostRuntime) {
+    let alloc = rt.alloc();
+    let Large {
+        pool,
+        owner,
+        keep,
+        pass,
+        front,
+        back,
+    } = large_pool(&rt, alloc);
+    let (first, second) = front;
+    let (third, fourth) = back;
+    let first = wrapped(&rt, alloc, first);
+    let second = wrapped(&rt, alloc, second);
+    let third = wrapped(&rt, alloc, third);
+    let fourth = wrapped(&rt, alloc, fourth);
+    let shared = &pool;
+    let joining = add_and_begin_join(&rt, alloc, shared, owner, keep, pass);
+    let (front, back) = join(
+        &rt,
+        move ||
+            requires { (first.pool ≡ shared.now.id) × (second.pool ≡ shared.now.id) }
+        { two_work(&rt, alloc, shared, first, second) },
+        move ||
+            requires { (third.pool ≡ shared.now.id) × (fourth.pool ≡ shared.now.id) }
+        { two_work(&rt, alloc, shared, third, fourth) },
+    );
+    let ends = four_ends(&rt, alloc, &pool, front, back);
+    let mut world = Vec::new(alloc);
+    let PoolEnd {
+        accepted,
+        ran,
+        returned,
+    } = pool.join(&rt, joining, ends, Vec::new(alloc), &mut world);
+    assert_eq!(rt; (accepted, ran.len(), returned.len()), (1000, 1000, 0));
+    let ids = ids(&rt, alloc, ran);
+    assert!(rt; each_once(&rt, alloc, ids.as_slice()));
+}
+
+// Adds a thousand tasks, lets the keep-alive go, and begins to stop.
+fn add_and_begin_stop<R: Abort + Wait>(
+    rt: &R,
+    alloc: Global,
+    pool: &Pool<Note>,
+    owner: KeepOwner,
+    keep: KeepAlive,
+    mut pass: PoolPass<Note>,
+) -> Stopping<Note>
+    requires owner { owner.count ≡ pool.now.count }
+    requires keep { keep.count ≡ pool.now.count }
+    requires pass { (pass.pool ≡ pool.now.id) × (adds_of pass ≡ []) }
+    requires one { (pool.now.adders ≡ 1) × (pool.now.exec.0 ≡ 7) }
+    ensures passes { AreAllPasses pool.now.id pool.now.adders result.passes }
+    ensures pool { result.pool ≡ pool.now.id }
+{
+    for id in 0..1000 {
+        let priority = if id % 2 == 0 { 0 } else { 127 };
+        let _ = add(rt, pool, &keep, &mut pass, priority, id);
+    }
+    let _ = keep.release();
+    let passes = all_passes(rt, alloc, pool, pass);
+    pool.begin_stop(rt, owner, passes)
+}
+
+// The ids of the tasks that were handed back, behind those that are there.
+fn put_back_ids<R: Abort>(rt: &R, ids: &mut Vec<u64>, mut returned: Returned<Note>) {
+    for _ in 0..returned.len() {
+        let (_, note) = returned.pop().expect(rt, "a task");
+        ids.push(note.0.id.0).expect(rt, "memory");
+    }
+}
+
+#[test]
+fn a_stop_among_a_thousand_tasks_loses_none(rt: HostRuntime) {
+    let alloc = rt.alloc();
+    let Opened {
+        pool,
+        owner,
+        keep,
+        pass,
+        worker,
+    } = open_pool(&rt, alloc);
+    let worker = wrapped(&rt, alloc, worker);
+    let owner = wrapped(&rt, alloc, owner);
+    let keep = wrapped(&rt, alloc, keep);
+    let pass = wrapped(&rt, alloc, pass);
+    let shared = &pool;
+    let (end, stopping) = join(
+        &rt,
+        move ||
+            requires { worker.pool ≡ shared.now.id }
+        { work(&rt, alloc, shared, worker.open()) },
+        move ||
+            requires owner { owner.count ≡ shared.now.count }
+            requires keep { keep.count ≡ shared.now.count }
+            requires pass { (pass.pool ≡ shared.now.id) × (adds_of pass ≡ []) }
+            requires one { (shared.now.adders ≡ 1) × (shared.now.exec.0 ≡ 7) }
+        { add_and_begin_stop(&rt, alloc, shared, owner.open(), keep.open(), pass.open()) },
+    );
+    let ends = all_ends(&rt, alloc, &pool, end);
+    let PoolEnd {
+        accepted,
+        ran,
+        returned,
+    } = pool.stop(&rt, stopping, ends, Vec::new(alloc));
+    assert_eq!(rt; (accepted, ran.stopped()), (1000, true));
+    let mut all = ids(&rt, alloc, ran);
+    put_back_ids(&rt, &mut all, returned);
+    assert_eq!(rt; all.len(), 1000);
+    assert!(rt; each_once(&rt, alloc, all.as_slice()));
+}

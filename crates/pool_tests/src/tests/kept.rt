@@ -1,0 +1,289 @@
+// Jobs that may be neither copied nor dropped, with a helper beside the worker.
+ghost use Rattle.std.specs.Prelude.{◌≡◌, ◌⊎◌, ◌+◌, ◌<◌, ◌∷◌, ◌++◌, [], length};
+ghost use Rattle.pool_model.specs.Passes.{AreAllPasses, AreAllEnds, adds_of};
+
+use super::*;
+use fan_base::Refused;
+
+// It notes its id in the world, and must be run or taken apart.
+struct Kept(Head);
+
+impl Headed for Kept {
+    ghost head = { λ kept. kept.0 };
+
+    fn id(&self) -> JobId {
+        self.0.id
+    }
+
+    fn exec(&self) -> ExecId {
+        self.0.exec
+    }
+}
+
+impl Job<Vec<u64>> for Kept {
+    ghost runs = { λ id before mark after. (after.items ≡ before.items ++ id.0 ∷ []) ⊎ (after.items ≡ before.items) };
+
+    fn run<R: Wait>(self, _rt: &R, world: &mut Vec<u64>) -> Mark {
+        let Kept(head) = self;
+        match world.push(head.id.0) {
+            Ok(()) => Mark::Done(head.number),
+            Err(_) => Mark::Memory,
+        }
+    }
+}
+
+fn make_kept(id: u64) -> Kept
+    ensures { result.0.exec.0 ≡ 7 }
+{
+    Kept(Head {
+        id: JobId(id),
+        exec: ExecId(7),
+        number: id,
+    })
+}
+
+// Takes a job apart that was handed back, and says its id.
+fn taken_apart(kept: Kept) -> u64 {
+    let Kept(head) = kept;
+    head.id.0
+}
+
+// A pool of three queues, with one adder, one worker and one helper.
+struct Trio {
+    pool: Pool<Kept>,
+    owner: KeepOwner,
+    keep: KeepAlive,
+    pass: PoolPass<Kept>,
+    worker: WorkerPass<Kept>,
+    helper: HelperPass<Kept>,
+}
+
+fn open_trio<R: Abort>(rt: &R, alloc: Global) -> Trio
+    ensures pool { (result.pool.adders ≡ 1) × (result.pool.workers ≡ 1) × (result.pool.helpers ≡ 1) × (result.pool.exec.0 ≡ 7) }
+    ensures keeps { (result.owner.count ≡ result.pool.count) × (result.keep.count ≡ result.pool.count) }
+    ensures pass { (result.pass.pool ≡ result.pool.id) × (adds_of result.pass ≡ []) }
+    ensures worker { result.worker.pool ≡ result.pool.id }
+    ensures helper { result.helper.pool ≡ result.pool.id }
+{
+    let PoolParts {
+        pool,
+        owner,
+        keep,
+        adders,
+        workers,
+        mut helpers,
+    } = Pool::new(alloc, ExecId(7), 3, 1, 1, 1, 0).expect(rt, "memory");
+    let pass = only_pass(rt, &pool, adders);
+    let mut workers = workers_of(&pool, workers, 1);
+    let worker = next_worker(rt, &pool, &mut workers);
+    workers.destroy_empty();
+    let helper = helpers.pop().expect(rt, "a pass");
+    helpers.destroy_empty();
+    Trio {
+        pool,
+        owner,
+        keep,
+        pass,
+        worker,
+        helper,
+    }
+}
+
+// Adds a job. One that is refused comes back, and is taken apart.
+fn add_kept<R: Abort + Wait>(
+    rt: &R,
+    pool: &Pool<Kept>,
+    keep: &KeepAlive,
+    pass: &mut PoolPass<Kept>,
+    id: u64,
+)
+    requires keep { keep.now.count ≡ pool.now.count }
+    requires pass { pass.old.pool ≡ pool.now.id }
+    requires exec { pool.now.exec.0 ≡ 7 }
+    requires room { length (adds_of pass.old) < 100000 }
+    ensures pass { (pass.new.pool ≡ pass.old.pool) × (pass.new.number ≡ pass.old.number) }
+    ensures one { length (adds_of pass.new) ≡ length (adds_of pass.old) + 1 }
+{
+    match pool.add(rt, keep, pass, 0, make_kept(id)) {
+        Ok(ticket) => assert_eq!(rt; (ticket.adder, ticket.index), (0, id)),
+        Err(Refused::Memory(kept)) => {
+            assert_eq!(rt; taken_apart(kept), id);
+            rt.panic("memory")
+        }
+    }
+}
+
+fn only_helped<R: Abort>(
+    rt: &R,
+    alloc: Global,
+    pool: &Pool<Kept>,
+    end: HelperEnd<Kept>,
+) -> Vec<HelperEnd<Kept>>
+    requires end { end.pool ≡ pool.now.id }
+    requires one { pool.now.helpers ≡ 1 }
+    ensures { AreAllEnds pool.now.id pool.now.helpers result.items }
+{
+    list_of(rt, alloc, end)
+}
+
+fn work_kept<R: Abort + Wait>(
+    rt: &R,
+    alloc: Global,
+    pool: &Pool<Kept>,
+    pass: WorkerPass<Kept>,
+) -> WorkerEnd<Kept>
+    requires { pass.pool ≡ pool.now.id }
+    ensures { result.pool ≡ pool.now.id }
+{
+    let mut world = Vec::new(alloc);
+    pool.work(rt, pass, &mut world, &OpenGate)
+}
+
+// Helps once, and says whether a job ran. Its world grows by that.
+fn help_once<R: Abort + Wait>(
+    rt: &R,
+    pool: &Pool<Kept>,
+    helper: &mut HelperPass<Kept>,
+    world: &mut Vec<u64>,
+) -> bool
+    requires { helper.old.pool ≡ pool.now.id }
+    ensures { helper.new.pool ≡ helper.old.pool }
+{
+    let before = world.len();
+    let ran = pool.help(rt, helper, world, &OpenGate) == Helped::Ran;
+    assert_eq!(rt; world.len().saturating_sub(before), usize::from(ran));
+    ran
+}
+
+// Adds a thousand jobs and helps after each, lets the keep-alive go, and begins to join.
+fn add_and_help<R: Abort + Wait>(
+    rt: &R,
+    alloc: Global,
+    pool: &Pool<Kept>,
+    owner: KeepOwner,
+    keep: KeepAlive,
+    mut pass: PoolPass<Kept>,
+    mut helper: HelperPass<Kept>,
+) -> (Joining<Kept>, HelperEnd<Kept>)
+    requires owner { owner.count ≡ pool.now.count }
+    requires keep { keep.count ≡ pool.now.count }
+    requires pass { (pass.pool ≡ pool.now.id) × (adds_of pass ≡ []) }
+    requires helper { helper.pool ≡ pool.now.id }
+    requires one { (pool.now.adders ≡ 1) × (pool.now.exec.0 ≡ 7) }
+    ensures joining { AreAllPasses pool.now.id pool.now.adders result.0.passes }
+    ensures pool { result.0.pool ≡ pool.now.id }
+    ensures helped { result.1.pool ≡ pool.now.id }
+{
+    let mut world = Vec::new(alloc);
+    for id in 0..1000 {
+        add_kept(rt, pool, &keep, &mut pass, id);
+        let _ = help_once(rt, pool, &mut helper, &mut world);
+    }
+    let _ = keep.release();
+    let passes = all_passes(rt, alloc, pool, pass);
+    (pool.begin_join(rt, owner, passes), helper.end())
+}
+
+#[test]
+fn a_helper_beside_a_worker(rt: HostRuntime) {
+    let alloc = rt.alloc();
+    let Trio {
+        pool,
+        owner,
+        keep,
+        pass,
+        worker,
+        helper,
+    } = open_trio(&rt, alloc);
+    let worker = wrapped(&rt, alloc, worker);
+    let helper = wrapped(&rt, alloc, helper);
+    let owner = wrapped(&rt, alloc, owner);
+    let keep = wrapped(&rt, alloc, keep);
+    let pass = wrapped(&rt, alloc, pass);
+    let shared = &pool;
+    let (end, (joining, helped)) = join(
+        &rt,
+        move ||
+            requires { worker.pool ≡ shared.now.id }
+        { work_kept(&rt, alloc, shared, worker.open()) },
+        move ||
+            requires owner { owner.count ≡ shared.now.count }
+            requires keep { keep.count ≡ shared.now.count }
+            requires pass { (pass.pool ≡ shared.now.id) × (adds_of pass ≡ []) }
+            requires helper { helper.pool ≡ shared.now.id }
+            requires one { (shared.now.adders ≡ 1) × (shared.now.exec.0 ≡ 7) }
+        {
+            add_and_help(
+                &rt,
+                alloc,
+                shared,
+                owner.open(),
+                keep.open(),
+                pass.open(),
+                helper.open(),
+            )
+        },
+    );
+    let ends = all_ends(&rt, alloc, &pool, end);
+    let helped = only_helped(&rt, alloc, &pool, helped);
+    let mut world = Vec::new(alloc);
+    let PoolEnd {
+        accepted,
+        ran,
+        returned,
+    } = pool.join(&rt, joining, ends, helped, &mut world);
+    assert_eq!(rt; (accepted, ran.len(), returned.len()), (1000, 1000, 0));
+    let ids = ids(&rt, alloc, ran);
+    assert!(rt; each_once(&rt, alloc, ids.as_slice()));
+}
+
+// The ids of the jobs that were handed back, which are taken apart.
+fn back_ids<R: Abort>(rt: &R, alloc: Global, mut returned: Returned<Kept>) -> Vec<u64> {
+    let mut back = Vec::new(alloc);
+    while let Some((_, kept)) = returned.pop() {
+        back.push(taken_apart(kept)).expect(rt, "memory");
+    }
+    back
+}
+
+#[test]
+fn jobs_that_may_not_be_dropped_come_back(rt: HostRuntime) {
+    let alloc = rt.alloc();
+    let Trio {
+        pool,
+        owner,
+        keep,
+        mut pass,
+        worker,
+        mut helper,
+    } = open_trio(&rt, alloc);
+    let mut world = Vec::new(alloc);
+    assert!(rt; !help_once(&rt, &pool, &mut helper, &mut world));
+    add_kept(&rt, &pool, &keep, &mut pass, 0);
+    add_kept(&rt, &pool, &keep, &mut pass, 1);
+    add_kept(&rt, &pool, &keep, &mut pass, 2);
+    add_kept(&rt, &pool, &keep, &mut pass, 3);
+    assert!(rt; help_once(&rt, &pool, &mut helper, &mut world));
+    let _ = keep.release();
+    let passes = all_passes(&rt, alloc, &pool, pass);
+    let stopping = pool.begin_stop(&rt, owner, passes);
+    let end = work_kept(&rt, alloc, &pool, worker);
+    let ends = all_ends(&rt, alloc, &pool, end);
+    let helped = only_helped(&rt, alloc, &pool, helper.end());
+    let PoolEnd {
+        accepted,
+        ran,
+        mut returned,
+    } = pool.stop(&rt, stopping, ends, helped);
+    assert_eq!(rt;
+        (accepted, ran.len(), ran.stopped(), returned.len()),
+        (4, 1, true, 3)
+    );
+    let record = returned.run_next(&rt, &mut world).expect(&rt, "a task");
+    assert_eq!(rt; (record.job(), record.mark()), (JobId(1), Mark::Done(1)));
+    assert_eq!(rt;
+        back_ids(&rt, alloc, returned).as_slice(),
+        [2, 3].as_slice()
+    );
+    assert_eq!(rt; world.as_slice(), [0, 1].as_slice());
+}
