@@ -43,7 +43,8 @@ pub fn docs_of(alloc: Global, table: &[(u32, &str)]) -> Result<Docs, Fail> {
     Ok(docs)
 }
 
-fn are_short(docs: &[Doc]) -> bool
+/// Whether no document has more than 1,000 words.
+pub fn are_short(docs: &[Doc]) -> bool
     ensures { result ≡ list_all (λ doc. nat_le (length doc.words) most_words) docs.now }
 {
     docs.iter().all(|doc| doc.words.len() <= MOST_WORDS)

@@ -6,4 +6,6 @@ mod documents;
 #[cfg(test)]
 mod drawn;
 #[cfg(test)]
+mod parts;
+#[cfg(test)]
 mod rows;
