@@ -10,10 +10,12 @@
 //! wait for an earlier one, and never for a later one, and the answer is the same.
 #![tactic(auto)]
 
+mod calls;
 mod stage;
 #[cfg(test)]
 mod tests;
 mod threads;
 
+pub use calls::{call_beside, call_each};
 pub use stage::Stage;
 pub use threads::{run_before, run_beside, run_each};

@@ -1,6 +1,6 @@
 ghost use Rattle.std.specs.Prelude.{◌≡◌, ◌+◌, ◌<◌, ◌^◌};
 
-use crate::{Stage, run_before, run_beside};
+use crate::{Stage, call_beside, run_before, run_beside};
 use std::sync::Wait;
 use std::test::Fail;
 
@@ -35,4 +35,20 @@ fn the_last_stage_runs_once_beside_the_others(rt: HostRuntime) {
     run_before(&rt, &3, &mut last, &mut || others = true);
     assert_eq!(rt; last, Counter(13));
     assert!(rt; others);
+}
+
+#[test]
+fn each_item_is_called_once_beside_the_front(rt: HostRuntime) -> Result<(), Fail> {
+    let mut items = Vec::from_array(rt.alloc(), [1u64, 2])?;
+    let mut front = false;
+    call_beside(
+        &rt,
+        &3u64,
+        &|step: &u64, item: &mut u64| *item = item.saturating_add(*step),
+        items.as_mut_slice(),
+        &mut || front = true,
+    );
+    assert_eq!(rt; items.as_slice(), [4, 5].as_slice());
+    assert!(rt; front);
+    Ok(())
 }
