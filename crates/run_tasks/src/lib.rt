@@ -20,5 +20,6 @@ mod laws;
 mod leave;
 mod run;
 mod stage;
+mod starting;
 mod task;
 mod world;

@@ -1,0 +1,94 @@
+//! What the front does with the core of a task: it begins it in a free cell, and sets its callback.
+ghost use Rattle.std.specs.Prelude.{◌≡◌, IfSome, IfNone, true};
+ghost use Rattle.run_tasks.specs.Leaving.{LeavesCell};
+ghost use Rattle.run_tasks.specs.Worlds.{Follows};
+
+use crate::leave::leave_cell;
+use crate::task::ShardTask;
+use crate::world::TaskWorld;
+use core_cells::{CellPass, Cells};
+use core_word::{Landed, Left, LeftC, Met, Tally};
+use fan_base::Try;
+use fan_parts::{PartCallback, RunName, TaskConsumer, TaskProducer};
+use std::sync::Wait;
+
+impl<'c, 't, 'd: 't, 'r: 'd, 'i: 'r, N: RunName> TaskWorld<'c, 't, 'd, 'r, 'i, N> {
+    /// Begins a task's core with this number in a free cell. None where no cell was free at a moment of this call.
+    pub fn begin_core<R: Wait>(
+        &mut self,
+        rt: &R,
+        no: u64,
+    ) -> Option<
+        (
+            TaskProducer<'t, 'd, 'r, 'i, N>,
+            TaskConsumer<'t, 'd, 'r, 'i, N>,
+        ),
+    >
+        ensures follows { Follows self.old self.new }
+        ensures core { IfSome result (λ halves. (halves.0.no ≡ no) × (halves.1.no ≡ no) × (halves.0.home ≡ halves.1.home) × (halves.0.use_number ≡ halves.1.use_number)) }
+        ensures none { IfNone result (self.new ≡ self.old) }
+    {
+        match self.cells.core(rt, &mut self.pass, no, &mut self.tally) {
+            Ok(halves) => Some(halves),
+            Err(_) => None,
+        }
+    }
+
+    /// Sets the callback of a task's core, and leaves. Where the part was there, the fire is posted to the base of the callback.
+    pub fn give<R: Wait>(
+        &mut self,
+        rt: &R,
+        consumer: TaskConsumer<'t, 'd, 'r, 'i, N>,
+        callback: PartCallback<'d, 'r, 'i, N>,
+    )
+        ensures { Follows self.old self.new }
+    {
+        let (met, left) = consumer.set_callback_inline(callback);
+        leave_by_consumer(rt, self.cells, &mut self.pass, left, &mut self.tally);
+        match met {
+            Met::Waiting => {}
+            Met::Fire(fire) => self.post(rt, fire),
+            Met::Forward(forward) => match forward.unpack(&mut Tally::new()).1 {},
+        }
+    }
+
+    /// Spends a task that found no memory where it was added: its core gets want of memory. Memory was refused, which is noted.
+    pub fn spend<R: Wait>(&mut self, rt: &R, task: ShardTask<'t, 'd, 'r, 'i, N>)
+        ensures follows { Follows self.old self.new }
+        ensures refused { self.new.refused ≡ true }
+    {
+        let ShardTask {
+            producer,
+            ask: _,
+            shard: _,
+            exec: _,
+        } = task;
+        let (landed, left) = producer.set_result(Try::Memory);
+        leave_cell(rt, self.cells, &mut self.pass, left, &mut self.tally);
+        match landed {
+            Landed::Waiting => {}
+            Landed::Fire(fire) => self.post(rt, fire),
+        }
+        self.refused = true;
+    }
+}
+
+/// Leaves a core of a cell on the consumer's side. The later half gives the cell back, and drops what was left over.
+fn leave_by_consumer<'h, T: Drop, C, P: Drop, R: Wait>(
+    rt: &R,
+    cells: &Cells<'h, T, C, P>,
+    pass: &mut CellPass<'h, T, C, P>,
+    left: LeftC<'h, T, C, P>,
+    t: &mut Tally,
+)
+    requires { pass.old.cells ≡ cells.now }
+    ensures { LeavesCell left.entry.home left.entry.use_number pass.old t.old pass.new t.new }
+{
+    match left.leave() {
+        Left::First(_receipt) => {}
+        Left::Last(_leftover, husk) => match cells.give_back(rt, pass, husk, t) {
+            Ok(()) => {}
+            Err(_key) => {}
+        },
+    }
+}
