@@ -1,5 +1,5 @@
 -- What the queues and cores of a run come to, by the number of its answered queries.
-use Rattle.std.specs.Prelude.{◌≡◌, ℕ, ◌*◌, ◌<◌, ◌==◌, List, length, map, slice_index_or}
+use Rattle.std.specs.Prelude.{◌≡◌, ℕ, ◌+◌, ◌*◌, ◌<◌, ◌==◌, List, length, map, slice_index_or}
 use Rattle.std.specs.List.{count_by, range_with_len}
 use Rattle.core_word.specs.Count.{Counts}
 use Rattle.event_base.specs.Seen.{NoteSeen}
@@ -27,3 +27,13 @@ pub record HasCounted (lines : List Line) (bases : ℕ) (counted : Counted) : Ty
   pub answered : counted.answered ≡ length (answered_in lines)
   pub tops : counted.tops ≡ tops_in (answered_in lines)
   pub by_base : counted.by_base.items ≡ map (gathered_on bases (answered_in lines)) (range_with_len 1 bases)
+
+-- what a gathering base's close says where no memory was refused: its executor, and that all that was put was taken
+pub record IsEmptied (base : ℕ) (n : NoteSeen) : Type 0 where
+  pub exec : n.exec ≡ record { 0 = base }
+  pub taken : n.taken ≡ n.put
+  pub left : n.left ≡ 0
+
+-- the notes of bases 1 and up
+pub record AreEmptied (notes : List NoteSeen) : Type 0 where
+  pub each : (k : ℕ) (d : NoteSeen) → k < length notes → IsEmptied (1 + k) (slice_index_or notes k d)

@@ -1,0 +1,18 @@
+//! What follows of the notes. The function does nothing: its clause is a law.
+ghost use Rattle.std.specs.Prelude.{◌≡◌, ℕ, List, [], ◌∷◌, ◌++◌, length, map};
+ghost use Rattle.event_base.specs.Seen.{NoteSeen};
+ghost use Rattle.query_model.specs.declared.line.Line.{Line};
+ghost use Rattle.query_model.specs.Documents.{queries_of};
+ghost use Rattle.fan_model.specs.Notes.{emptied, notes_of};
+ghost use Rattle.fan_model.specs.Tasks.{printer_exec};
+ghost use Rattle.run_notes.specs.declared.counting.Counted.{Counted};
+ghost use Rattle.run_notes.specs.Counting.{AreEmptied, ArePutBy, HasCounted};
+ghost use Rattle.run_notes.specs.Told.{note_of};
+
+/// Where each gathering base took all that was put to it, a message for each task of its queries, and the printer's one for each query, their
+/// notes are those of a run over these lines.
+pub fn notes_are_those_of_the_run()
+    ensures { (lines : List Line) (shards bases : ℕ) (counted : Counted) (notes : List NoteSeen) (printer : NoteSeen) → HasCounted lines bases counted
+        → ArePutBy shards counted.by_base.items notes → AreEmptied notes → note_of printer ≡ emptied (printer_exec bases) (length (queries_of lines))
+        → map note_of (notes ++ printer ∷ []) ≡ notes_of lines shards bases }
+{}
