@@ -13,5 +13,5 @@
 mod making;
 mod rows;
 
-pub use making::{Bases, open_bases};
-pub use rows::{Column, all_are_back, put_row, take_row};
+pub use making::{Bases, close_unused, open_base, open_bases};
+pub use rows::{Column, all_are_back, put_one, put_row, take_one, take_row};

@@ -65,8 +65,8 @@ impl<J: Headed> Bases<J> {
         self.columns.push_reserved(column);
     }
 
-    // Closes bases of which no poster has put anything.
-    fn give_up<R: Wait>(self, rt: &R, senders: u32)
+    /// Closes bases of which no poster has put anything.
+    pub fn give_up<R: Wait>(self, rt: &R, senders: u32)
         requires { (first count : ℕ) × AreOpen J.head first count senders self }
     {
         let Bases {
@@ -84,7 +84,8 @@ impl<J: Headed> Bases<J> {
     }
 }
 
-fn open_base<J: Headed>(
+/// One base with this executor and so many posters.
+pub fn open_base<J: Headed>(
     alloc: Global,
     exec: ExecId,
     senders: u32,
@@ -99,8 +100,8 @@ fn open_base<J: Headed>(
     Ok((base, Column { posters, ends }))
 }
 
-// Closes a base of which no poster has put anything.
-fn close_unused<J: Headed, R: Wait>(rt: &R, base: EventBase<J>, column: Column<J>, senders: u32)
+/// Closes a base of which no poster has put anything.
+pub fn close_unused<J: Headed, R: Wait>(rt: &R, base: EventBase<J>, column: Column<J>, senders: u32)
     requires { (exec : ExecId) × IsNewBase exec senders base × IsColumn J.head base.queue.queue exec senders senders senders column }
 {
     let Column { posters, ends } = column;

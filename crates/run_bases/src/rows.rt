@@ -24,11 +24,12 @@ pub fn take_row<J: Headed>(columns: &mut [Column<J>], row: &mut Vec<Poster<J>>)
         → AreColumns J.head queues first senders left low columns.new }
 {
     for place in 0..columns.len() {
-        row.push_reserved(take_last(&mut columns[place]));
+        row.push_reserved(take_one(&mut columns[place]));
     }
 }
 
-fn take_last<J: Headed>(column: &mut Column<J>) -> Poster<J>
+/// Takes the poster with the greatest number.
+pub fn take_one<J: Headed>(column: &mut Column<J>) -> Poster<J>
     requires left { (queue : QueueId) × (exec : ExecId) × (senders left low : ℕ) × IsColumn J.head queue exec senders (suc left) low column.old }
     ensures poster { (queue : QueueId) (exec : ExecId) (senders left low : ℕ) → IsColumn J.head queue exec senders (suc left) low column.old → result ≡ new_sender queue left }
     ensures column { (queue : QueueId) (exec : ExecId) (senders left low : ℕ) → IsColumn J.head queue exec senders (suc left) low column.old
@@ -49,11 +50,12 @@ pub fn put_row<J: Headed>(columns: &mut [Column<J>], row: Vec<SenderEnd<J>>)
     let mut row = row;
     while let Some(end) = row.pop() {
         let place = row.len();
-        put_back(&mut columns[place], end);
+        put_one(&mut columns[place], end);
     }
 }
 
-fn put_back<J: Headed>(column: &mut Column<J>, end: SenderEnd<J>)
+/// Puts the end of the poster with the greatest number of those that are away back into its column.
+pub fn put_one<J: Headed>(column: &mut Column<J>, end: SenderEnd<J>)
     requires back { (queue : QueueId) × (exec : ExecId) × (senders left low : ℕ) × IsColumn J.head queue exec senders left (suc low) column.old }
     ensures { (queue : QueueId) (exec : ExecId) (senders left low : ℕ) → IsColumn J.head queue exec senders left (suc low) column.old → IsEndOf J.head queue low exec end
         → IsColumn J.head queue exec senders left low column.new }

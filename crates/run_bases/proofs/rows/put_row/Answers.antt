@@ -12,8 +12,8 @@ loop-end-init g c =
       so_far = λ queues first senders left low are ends. put_none g.J.Headed.head queues first senders left low c.args.columns.now c.args.row.items are ends;
     }
 
-pub put_back-requires : goal.put_back-requires
-put_back-requires g c =
+pub put_one-requires : goal.put_one-requires
+put_one-requires g c =
     let r = c.requires.back in
     let t = c.loop-end.invariant.so_far r.0 r.1 r.2 r.3 r.4 r.5 r.6 in
     let less : c.len-place.result < length c.loop-end.row.items = omega (arith, c.len-place.ensures, ap length c.in-Some.ensures.items, length-append c.pop.new.self.items (c.in-Some.end ∷ [])) in
@@ -28,11 +28,11 @@ loop-end-preserved g c =
     let place_is : place ≡ length c.pop.new.self.items = omega (arith, c.len-place.ensures, c.pop.new.self.ok.0) in
     let less : place < length c.loop-end.row.items = omega (arith, c.len-place.ensures, ap length is, length-append c.pop.new.self.items (c.in-Some.end ∷ [])) in
     record {
-      within = omega (arith, c.loop-end.invariant.within, length-set c.loop-end.columns place c.put_back.new.column, ap length is, length-append c.pop.new.self.items (c.in-Some.end ∷ []));
+      within = omega (arith, c.loop-end.invariant.within, length-set c.loop-end.columns place c.put_one.new.column, ap length is, length-append c.pop.new.self.items (c.in-Some.end ∷ []));
       so_far = λ queues first senders left low are ends.
           let t = c.loop-end.invariant.so_far queues first senders left low are ends in
-          put_more g.J.Headed.head queues first senders left low place c.loop-end.columns c.loop-end.row.items c.pop.new.self.items c.in-Some.end c.put_back.new.column t is place_is
-          (λ q. c.put_back.ensures _ _ _ _ _ (t.rest place c.index-columns-place.result q less)
+          put_more g.J.Headed.head queues first senders left low place c.loop-end.columns c.loop-end.row.items c.pop.new.self.items c.in-Some.end c.put_one.new.column t is place_is
+          (λ q. c.put_one.ensures _ _ _ _ _ (t.rest place c.index-columns-place.result q less)
           (subst (λ n. IsEndOf g.J.Headed.head (get_or queues n q) low (exec_at first n) c.in-Some.end) (sym place_is)
           (end_at g.J.Headed.head queues first senders left low c.loop-end.columns c.loop-end.row.items c.pop.new.self.items c.in-Some.end q t is)));
     }

@@ -1,7 +1,7 @@
 use Rattle.std.proofs.Common.{sym, subst, arith}
 use Rattle.run_bases.specs.Columns.{AreBack}
 use Rattle.run_bases.proofs.Backs.{back_more}
-use Rattle.run_bases.proofs.rows.put_back.Goals as goal
+use Rattle.run_bases.proofs.rows.put_one.Goals as goal
 
 pub returns : goal.returns
 returns g c = λ queue exec senders left low column is. record {
