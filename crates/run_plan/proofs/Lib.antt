@@ -1,0 +1,5 @@
+mod Lists
+mod Coming
+mod Noting
+mod Stops
+mod Counted

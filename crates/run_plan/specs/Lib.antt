@@ -1,0 +1,4 @@
+pub mod Turns
+pub mod Planning
+pub mod Stopping
+pub mod Counting
