@@ -1,0 +1,2 @@
+mod Helping
+mod Loops
