@@ -1,0 +1,4 @@
+mod Begun
+mod Keys
+mod Running
+mod Helping

@@ -1,0 +1,21 @@
+use Rattle.std.proofs.Common.{◌≡◌, ◌≤◌, ◌*◌, [], length, map, drop}
+use Rattle.fan_model.specs.Comings.{comings_of}
+use Rattle.fan_model.specs.Tasks.{pool_exec}
+use Rattle.pool_model.specs.Passes.{adds_of}
+use Rattle.query_tasks.specs.Starting.{HasHelped}
+use Rattle.run_notes.specs.Told.{run_of_add}
+use Rattle.run_tasks.specs.Worlds.{told_of}
+use Rattle.run_front.specs.Fronts.{AreRunsTo, HasKeysFor, IsFrontOf}
+use Rattle.run_front.proofs.early.early_turns.Given as goal
+
+abbrev pub invariant-loop-place : goal.invariant-loop-place
+invariant-loop-place g l = record {
+  runs : AreRunsTo g.N.RunName.asked pool_exec 0 l.place [] (map run_of_add (adds_of l.adder));
+  few : length (adds_of l.adder) ≤ 64 * l.place;
+  pool : l.adder.pool ≡ l.initial.adder.pool;
+  number : l.adder.number ≡ l.initial.adder.number;
+  helped : HasHelped l.initial.front.world l.initial.helper l.front.world l.helper;
+  front : IsFrontOf g.N.RunName.asked l.front;
+  printer : told_of l.front.printer ≡ told_of l.initial.front.printer;
+  keys : HasKeysFor (drop l.place (comings_of g.N.RunName.asked.lines)) l.front;
+}

@@ -1,0 +1,56 @@
+use Rattle.std.proofs.Common.{◌≡◌, ◌+◌, ◌++◌, ◌≤◌, ℕ, List, map, sym, ap, ◌∙◌, arith}
+use Rattle.std.specs.List.{range_with_len, slice_get}
+use Rattle.std.proofs.lemmas.Result.{on_ok_weaker}
+use Rattle.fan_base.specs.declared.number.ExecId.{ExecId}
+use Rattle.query_model.specs.declared.line.Line.{Line}
+use Rattle.query_model.specs.Order.{Asked}
+use Rattle.fan_model.specs.Tasks.{Run, front_exec, queue_of, task_run}
+use Rattle.fan_parts.specs.Facts.{IsAskOf}
+use Rattle.query_tasks.specs.Starting.{runs_for}
+use Rattle.run_notes.specs.Told.{run_of_direct}
+use Rattle.run_front.proofs.Running.{runs_more}
+use Rattle.run_front.proofs.late.late_query.Goals as goal
+
+pub prio_at-requires : goal.prio_at-requires
+prio_at-requires g c =
+    let b = c.requires.begun in (
+      b.query.query,
+      ap (λ (l : List Line). slice_get l c.args.query.line) c.open_query.ensures.front.lines
+          ∙ c.begun_query_is_asked.ensures.line c.args.place c.args.query.number c.args.query.line c.args.query.documents b,
+    )
+
+pub gathering_exec-base-requires-clause-number : goal.gathering_exec-base-requires-clause-number
+gathering_exec-base-requires-clause-number g c =
+    let one : 1 ≤ c.args.query.number = c.begun_query_is_asked.ensures.from_one c.args.place c.args.query.number c.args.query.line c.args.query.documents c.requires.begun in
+    let same : c.number-number.result ≡ c.args.query.number =
+    c.number-number.ensures.number ∙ c.in_ok-ask.ensures.number in
+    omega (arith, one, same)
+
+pub returns-clause-direct : goal.returns-clause-direct
+returns-clause-direct g c = λ start first within so_far.
+    let asked = g.N.RunName.asked in
+    let b = c.requires.begun in
+    let ask = c.in_ok-ask.field-0.ask in
+    let shards = c.open_query.new.front.shards in
+    let exec : ExecId = record { 0 = c.open_query.new.front.bases + 2 } in
+    let is_ask : IsAskOf asked ask.number ask.asks ask.before = c.number-number.ensures.is_ask in
+    let here : ask.number ≡ c.args.query.number = c.in_ok-ask.ensures.number in
+    let same : is_ask.query ≡ b.query =
+    c.begun_query_is_asked.ensures.same c.args.place c.args.query.number c.args.query.line c.args.query.documents b ask is_ask here in
+    let prio : c.prio_at.result ≡ b.query.query.prio =
+    c.prio_at.ensures b.query.query (ap (λ (l : List Line). slice_get l c.args.query.line) c.open_query.ensures.front.lines
+    ∙ c.begun_query_is_asked.ensures.line c.args.place c.args.query.number c.args.query.line c.args.query.documents b) in
+    let queue : c.queue_number-queue.result ≡ queue_of is_ask.query.query.prio =
+    c.queue_number-queue.ensures ∙ (ap queue_of prio ∙ ap (λ (q : Asked). queue_of q.query.prio) (sym same)) in
+    let on_front : exec ≡ front_exec asked.bases = ap (λ (n : ℕ). front_exec n) c.open_query.ensures.front.bases in
+    let runs : runs_for asked ask c.queue_number-queue.result exec shards
+    ≡ map (task_run asked.lines asked.shards (front_exec asked.bases) b.query) (range_with_len 0 asked.shards) =
+    ap (λ (k : ℕ). runs_for asked ask k exec shards) queue
+    ∙ (c.tasks_are_runs.ensures.ran_here asked ask is_ask exec shards
+    ∙ (ap (λ (q : Asked). map (task_run asked.lines asked.shards exec q) (range_with_len 0 shards)) same
+    ∙ (ap (λ (x : ExecId). map (task_run asked.lines asked.shards x b.query) (range_with_len 0 shards)) on_front
+    ∙ ap (λ (n : ℕ). map (task_run asked.lines asked.shards (front_exec asked.bases) b.query) (range_with_len 0 n)) c.open_query.ensures.front.shards))) in
+    on_ok_weaker c.run_tasks_here.result (λ has down.
+    runs_more asked (front_exec asked.bases) start c.args.place b.query first (map run_of_direct c.args.direct.now) _
+    (c.place_by_place.ensures.begun asked.lines start c.args.place b.query b.comes within)
+    (has down ∙ ap (λ (l : List Run). map run_of_direct c.args.direct.now ++ l) runs) so_far) c.run_tasks_here.ensures.direct

@@ -1,0 +1,26 @@
+use Rattle.std.proofs.Common.{◌+◌, drop, map, subst}
+use Rattle.fan_model.specs.Comings.{comings_of}
+use Rattle.fan_model.specs.Tasks.{front_exec}
+use Rattle.query_opening.specs.Turns.{IsCancelled}
+use Rattle.run_notes.specs.Told.{run_of_direct}
+use Rattle.run_plan.specs.declared.turn.Turn.{Turn}
+use Rattle.run_front.specs.Turns.{IsTurnAt}
+use Rattle.run_front.proofs.Keys.{keys_same}
+use Rattle.run_front.proofs.Running.{on_ok, runs_same}
+use Rattle.run_front.proofs.late.late_turn.Goals as goal
+
+pub returns-in-Cancel-clause-direct : goal.returns-in-Cancel-clause-direct
+returns-in-Cancel-clause-direct g c = λ start first within so_far.
+    let asked = g.N.RunName.asked in
+    let cancelled : IsCancelled asked c.args.place c.in-Cancel.number = subst (λ (t : Turn). IsTurnAt asked c.args.place t) c.in-Cancel.is c.requires.turn in
+    on_ok c.cancel_query.result
+    (λ down. runs_same asked (front_exec asked.bases) start c.args.place first (map run_of_direct c.args.direct.now)
+    (c.place_by_place.ensures.cancelled asked.lines start c.args.place cancelled.query cancelled.comes within) so_far)
+
+pub returns-in-Cancel-clause-keys : goal.returns-in-Cancel-clause-keys
+returns-in-Cancel-clause-keys g c =
+    let asked = g.N.RunName.asked in
+    let cancelled : IsCancelled asked c.args.place c.in-Cancel.number = subst (λ (t : Turn). IsTurnAt asked c.args.place t) c.in-Cancel.is c.requires.turn in
+    on_ok c.cancel_query.result
+    (keys_same (drop c.args.place (comings_of asked.lines)) (drop (c.args.place + 1) (comings_of asked.lines)) c.args.front.now c.cancel_query.new.front
+    (c.place_by_place.ensures.next_cancelled asked.lines c.args.place cancelled.query cancelled.comes) c.cancel_query.ensures.keys c.requires.keys)

@@ -1,0 +1,17 @@
+use Rattle.std.proofs.Common.{◌≡◌, false, map, drop}
+use Rattle.fan_model.specs.Comings.{comings_of}
+use Rattle.fan_model.specs.Tasks.{front_exec}
+use Rattle.run_notes.specs.Told.{run_of_direct}
+use Rattle.run_tasks.specs.Worlds.{Follows, told_of}
+use Rattle.run_front.specs.Fronts.{AreRunsTo, HasKeysFor, IsFrontOf}
+use Rattle.run_front.proofs.late.late_turns.Given as goal
+
+abbrev pub invariant-loop-place : goal.invariant-loop-place
+invariant-loop-place g l = record {
+  runs : l.front.world.refused ≡ false
+      → AreRunsTo g.N.RunName.asked (front_exec g.N.RunName.asked.bases) l.start l.place (map run_of_direct l.initial.direct) (map run_of_direct l.direct);
+  follows : Follows l.initial.front.world l.front.world;
+  front : IsFrontOf g.N.RunName.asked l.front;
+  printer : told_of l.front.printer ≡ told_of l.initial.front.printer;
+  keys : HasKeysFor (drop l.place (comings_of g.N.RunName.asked.lines)) l.front;
+}

@@ -1,0 +1,166 @@
+ghost use Rattle.std.specs.Prelude.{◌≡◌, ◌+◌, ◌<◌, ◌≤◌, [], List, OnOk, length, map, take, drop};
+ghost use Rattle.fan_model.specs.Comings.{comings_of};
+ghost use Rattle.fan_model.specs.Tasks.{Run, pool_exec, task_runs};
+ghost use Rattle.front_walk.specs.Following.{IsInput};
+ghost use Rattle.pool_model.specs.Passes.{adds_of};
+ghost use Rattle.query_opening.specs.Turns.{IsBegun};
+ghost use Rattle.query_tasks.specs.Starting.{HasHelped};
+ghost use Rattle.run_notes.specs.Told.{run_of_add};
+ghost use Rattle.run_plan.specs.Turns.{AreTurnsOf, begun_in};
+ghost use Rattle.run_tasks.specs.Worlds.{told_of};
+ghost use Rattle.run_front.specs.Fronts.{AreRunsTo, HasKeysFor, IsFrontOf};
+ghost use Rattle.run_front.specs.Turns.{IsTurnAt};
+
+use crate::cancelling::cancel_query;
+use crate::front::Front;
+use crate::laws::{begun_query_is_asked, known_turns};
+use crate::opening::{OpenedQuery, open_query};
+use crate::priority::{gathering_exec, prio_at, priority_of};
+use fan_base::{Gate, Memory};
+use fan_parts::RunName;
+use keep_alive::KeepAlive;
+use query_tasks::{TaskAdder, TaskHelper, TaskPool, start_tasks, tasks_are_runs};
+use run_plan::laws::place_by_place;
+use run_plan::{BegunQuery, Turn};
+use std::sync::Wait;
+
+/// The turns before a place, all of whose queries are early: their tasks are added to the pool, which has three queues. It ends at the first
+/// turn that finds no memory.
+pub fn early_turns<'c, 't, 'd: 't, 'r: 'd, 'i: 'r, N: RunName + 'static, G: Gate, R: Wait>(
+    rt: &R,
+    front: &mut Front<'c, 't, 'd, 'r, 'i, N>,
+    pool: &TaskPool<'t, 'd, 'r, 'i, N>,
+    keep: &KeepAlive,
+    adder: &mut TaskAdder<'t, 'd, 'r, 'i, N>,
+    helper: &mut TaskHelper<'t, 'd, 'r, 'i, N>,
+    gate: &G,
+    turns: &[Turn],
+    end: usize,
+) -> Result<(), Memory>
+    requires turns { AreTurnsOf N.asked.lines turns.now }
+    requires end { end ≤ length turns.now }
+    requires input { IsInput N.asked.lines }
+    requires front { IsFrontOf N.asked front.old }
+    requires keys { HasKeysFor (comings_of N.asked.lines) front.old }
+    requires pool { pool.now.exec ≡ pool_exec }
+    requires queues { length pool.now.id.queues ≡ 3 }
+    requires keep { keep.now.count ≡ pool.now.count }
+    requires adder { adder.old.pool ≡ pool.now.id }
+    requires room { adds_of adder.old ≡ [] }
+    requires helper { helper.old.pool ≡ pool.now.id }
+    ensures added { OnOk result (map run_of_add (adds_of adder.new)
+        ≡ task_runs N.asked.lines N.asked.shards pool_exec (begun_in (take end (comings_of N.asked.lines)))) }
+    ensures adder { (adder.new.pool ≡ adder.old.pool) × (adder.new.number ≡ adder.old.number) }
+    ensures helped { HasHelped front.old.world helper.old front.new.world helper.new }
+    ensures front { IsFrontOf N.asked front.new }
+    ensures printer { told_of front.new.printer ≡ told_of front.old.printer }
+    ensures keys { OnOk result (HasKeysFor (drop end (comings_of N.asked.lines)) front.new) }
+{
+    known_turns::<N>();
+    place_by_place();
+    for place in 0..end {
+        early_turn(
+            rt,
+            front,
+            pool,
+            keep,
+            adder,
+            helper,
+            gate,
+            turns[place],
+            place as u32,
+        )?;
+    }
+    Ok(())
+}
+
+/// One turn, whose query is early if it begins one.
+fn early_turn<'c, 't, 'd: 't, 'r: 'd, 'i: 'r, N: RunName + 'static, G: Gate, R: Wait>(
+    rt: &R,
+    front: &mut Front<'c, 't, 'd, 'r, 'i, N>,
+    pool: &TaskPool<'t, 'd, 'r, 'i, N>,
+    keep: &KeepAlive,
+    adder: &mut TaskAdder<'t, 'd, 'r, 'i, N>,
+    helper: &mut TaskHelper<'t, 'd, 'r, 'i, N>,
+    gate: &G,
+    turn: Turn,
+    place: u32,
+) -> Result<(), Memory>
+    requires turn { IsTurnAt N.asked place turn }
+    requires front { IsFrontOf N.asked front.old }
+    requires keys { HasKeysFor (drop place (comings_of N.asked.lines)) front.old }
+    requires pool { pool.now.exec ≡ pool_exec }
+    requires queues { length pool.now.id.queues ≡ 3 }
+    requires keep { keep.now.count ≡ pool.now.count }
+    requires adder { adder.old.pool ≡ pool.now.id }
+    requires room { length (adds_of adder.old) + 64 ≤ 4294967295 }
+    requires helper { helper.old.pool ≡ pool.now.id }
+    ensures added { (first : List Run) → AreRunsTo N.asked pool_exec 0 place first (map run_of_add (adds_of adder.old))
+        → OnOk result (AreRunsTo N.asked pool_exec 0 (place + 1) first (map run_of_add (adds_of adder.new))) }
+    ensures few { OnOk result (length (adds_of adder.new) ≤ length (adds_of adder.old) + 64) }
+    ensures adder { (adder.new.pool ≡ adder.old.pool) × (adder.new.number ≡ adder.old.number) }
+    ensures helped { HasHelped front.old.world helper.old front.new.world helper.new }
+    ensures front { IsFrontOf N.asked front.new }
+    ensures printer { told_of front.new.printer ≡ told_of front.old.printer }
+    ensures keys { OnOk result (HasKeysFor (drop (place + 1) (comings_of N.asked.lines)) front.new) }
+{
+    place_by_place();
+    match turn {
+        Turn::Begin(query) => early_query(rt, front, pool, keep, adder, helper, gate, query, place),
+        Turn::Cancel(number) => cancel_query(rt, front, place, number),
+    }
+}
+
+/// Opens an early query, and adds its tasks to the pool.
+fn early_query<'c, 't, 'd: 't, 'r: 'd, 'i: 'r, N: RunName + 'static, G: Gate, R: Wait>(
+    rt: &R,
+    front: &mut Front<'c, 't, 'd, 'r, 'i, N>,
+    pool: &TaskPool<'t, 'd, 'r, 'i, N>,
+    keep: &KeepAlive,
+    adder: &mut TaskAdder<'t, 'd, 'r, 'i, N>,
+    helper: &mut TaskHelper<'t, 'd, 'r, 'i, N>,
+    gate: &G,
+    query: BegunQuery,
+    place: u32,
+) -> Result<(), Memory>
+    requires begun { IsBegun N.asked place query.number query.line query.documents }
+    requires front { IsFrontOf N.asked front.old }
+    requires keys { HasKeysFor (drop place (comings_of N.asked.lines)) front.old }
+    requires pool { pool.now.exec ≡ pool_exec }
+    requires queues { length pool.now.id.queues ≡ 3 }
+    requires keep { keep.now.count ≡ pool.now.count }
+    requires adder { adder.old.pool ≡ pool.now.id }
+    requires room { length (adds_of adder.old) + 64 ≤ 4294967295 }
+    requires helper { helper.old.pool ≡ pool.now.id }
+    ensures added { (first : List Run) → AreRunsTo N.asked pool_exec 0 place first (map run_of_add (adds_of adder.old))
+        → OnOk result (AreRunsTo N.asked pool_exec 0 (place + 1) first (map run_of_add (adds_of adder.new))) }
+    ensures few { OnOk result (length (adds_of adder.new) ≤ length (adds_of adder.old) + 64) }
+    ensures adder { (adder.new.pool ≡ adder.old.pool) × (adder.new.number ≡ adder.old.number) }
+    ensures helped { HasHelped front.old.world helper.old front.new.world helper.new }
+    ensures front { IsFrontOf N.asked front.new }
+    ensures printer { told_of front.new.printer ≡ told_of front.old.printer }
+    ensures keys { OnOk result (HasKeysFor (drop (place + 1) (comings_of N.asked.lines)) front.new) }
+{
+    begun_query_is_asked::<N>();
+    place_by_place();
+    tasks_are_runs();
+    let OpenedQuery { ask, arrivals } = open_query(rt, front, place, query)?;
+    let number = ask.number();
+    let priority = priority_of(prio_at(front.lines, query.line));
+    let exec = gathering_exec(number, front.bases);
+    let shards = front.shards;
+    start_tasks(
+        rt,
+        pool,
+        keep,
+        adder,
+        helper,
+        &mut front.world,
+        gate,
+        &ask,
+        shards,
+        priority,
+        exec,
+        arrivals,
+    )
+}
