@@ -1,0 +1,2 @@
+pub mod Adders
+pub mod Runs

@@ -1,0 +1,62 @@
+-- The runs of a pool that has ended, and of what came behind its stop.
+use Rattle.std.proofs.Common.{◌≡◌, ℕ, List, [], ◌∷◌, ◌++◌, Bool, false, length, map, drop, refl, sym, ap, ◌∙◌, subst, length-append, arith}
+use Rattle.std.specs.Prelude.{Option, Some, None}
+use Rattle.std.specs.List.{sum_by}
+use Rattle.std.proofs.lemmas.List.{length-map}
+use Rattle.std.proofs.lemmas.List.Sums.{sum_by-cons}
+use Rattle.query_model.specs.Order.{Asked}
+use Rattle.fan_model.specs.Answered.{answered_in, early_of, is_stopped, late_of}
+use Rattle.fan_model.specs.Comings.{comings_of}
+use Rattle.fan_model.specs.Report.{Asking, IsEachOnce, IsPoolReport}
+use Rattle.fan_model.specs.Tasks.{Run, early_runs, front_exec, late_runs, pool_exec, task_runs}
+use Rattle.pool_model.specs.Passes.{adds_of, adds_total}
+use Rattle.pool_model.specs.Seen.{PassSeen}
+use Rattle.prio_pool.specs.Running.{DirectSeen}
+use Rattle.run_front.specs.declared.front.Front.{Front}
+use Rattle.run_front.specs.Fronts.{HasKeysFor}
+use Rattle.run_notes.specs.Accounts.{AccountsFor, runs_added}
+use Rattle.run_notes.specs.declared.ending.PoolNotes.{PoolNotes}
+use Rattle.run_notes.specs.Told.{run_of, run_of_add, run_of_direct, told_of}
+use Rattle.run_plan.specs.declared.turn.Turn.{Turn}
+use Rattle.run_plan.specs.Turns.{begun_in}
+use Rattle.run_phases.specs.Phases.{HasKeysBehind, StopsAt}
+
+pub early_are : (asked : Asking) (queries : List Asked) → queries ≡ early_of asked.stop_at (answered_in asked.lines) → task_runs asked.lines asked.shards pool_exec queries ≡ early_runs asked.lines asked.shards asked.stop_at
+unfolding early_runs
+early_are asked queries is = ap (λ (qs : List Asked). task_runs asked.lines asked.shards pool_exec qs) is
+
+late_are : (asked : Asking) (queries : List Asked) → queries ≡ late_of asked.stop_at (answered_in asked.lines) → task_runs asked.lines asked.shards (front_exec asked.bases) queries ≡ late_runs asked.lines asked.shards asked.bases asked.stop_at
+unfolding late_runs
+late_are asked queries is = ap (λ (qs : List Asked). task_runs asked.lines asked.shards (front_exec asked.bases) qs) is
+
+pub late_some : (asked : Asking) (turns : List Turn) (stop : Option ℕ) (place : ℕ) (old new : List DirectSeen) → StopsAt asked turns stop → stop ≡ Some place → old ≡ []
+    → map run_of_direct new ≡ map run_of_direct old ++ task_runs asked.lines asked.shards (front_exec asked.bases) (begun_in (drop place (comings_of asked.lines)))
+    → map run_of_direct new ≡ late_runs asked.lines asked.shards asked.bases asked.stop_at
+late_some asked turns stop place old new stops is none put =
+    let at : StopsAt asked turns (Some place) = subst (λ (s : Option ℕ). StopsAt asked turns s) is stops in
+    put ∙ (ap (λ (l : List DirectSeen). map run_of_direct l ++ task_runs asked.lines asked.shards (front_exec asked.bases) (begun_in (drop place (comings_of asked.lines)))) none ∙ late_are asked _ at.0.late)
+
+pub late_none : (asked : Asking) (turns : List Turn) (stop : Option ℕ) (direct : List DirectSeen) → StopsAt asked turns stop → stop ≡ None → direct ≡ []
+    → map run_of_direct direct ≡ late_runs asked.lines asked.shards asked.bases asked.stop_at
+late_none asked turns stop direct stops is none =
+    let at : StopsAt asked turns None = subst (λ (s : Option ℕ). StopsAt asked turns s) is stops in
+    ap (λ (l : List DirectSeen). map run_of_direct l) none ∙ late_are asked [] (sym at.late)
+
+pub keys_behind : {N : Type 0} (asked : Asking) (stop : Option ℕ) (end : ℕ) (front : Front N) → ((place : ℕ) → stop ≡ Some place → end ≡ place) → HasKeysFor (drop end (comings_of asked.lines)) front → HasKeysBehind asked stop front
+keys_behind asked None end front at keys = tt
+keys_behind asked (Some place) end front at keys = subst (λ (n : ℕ). HasKeysFor (drop n (comings_of asked.lines)) front) (at place refl) keys
+
+adds_counted : (passes : List PassSeen) → adds_total passes ≡ length (runs_added passes)
+adds_counted [] = refl
+adds_counted (p ∷ ps) = omega (arith, sum_by-cons (λ (q : PassSeen). length (adds_of q)) p ps, adds_counted ps, length-map (adds_of p) run_of_add, length-append (map run_of_add (adds_of p)) (runs_added ps))
+
+pub report_is : (asked : Asking) (passes : List PassSeen) (notes : PoolNotes) (direct : List DirectSeen) (stops : Bool) → AccountsFor passes notes → runs_added passes ≡ early_runs asked.lines asked.shards asked.stop_at
+    → map run_of_direct direct ≡ late_runs asked.lines asked.shards asked.bases asked.stop_at → notes.ran.stopped ≡ stops → stops ≡ is_stopped asked.stop_at (answered_in asked.lines)
+    → (stops ≡ false → notes.returned ≡ []) → IsPoolReport asked (told_of (record { accepted = notes.accepted; ran = notes.ran; returned = notes.returned; direct = direct }))
+report_is asked passes notes direct stops accounts early late stopped is joined = record {
+  accepted = accounts.accepted ∙ (adds_counted passes ∙ ap length early);
+  early = subst (λ (runs : List Run). IsEachOnce runs (map run_of notes.ran.records ++ map run_of notes.returned)) early accounts.early;
+  late = record { weigh = λ weight. ap (sum_by weight) late };
+  stopped = stopped ∙ is;
+  joined = λ none. ap (map run_of) (joined (sym stopped ∙ none));
+}

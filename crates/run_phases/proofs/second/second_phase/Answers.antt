@@ -1,0 +1,29 @@
+use Rattle.std.proofs.Common.{◌≡◌, Bool, true, false, not, List, ◌++◌, ◌∷◌, [], refl, sym, ap, ◌∙◌, subst, true≢false}
+use Rattle.std.specs.Bool.{OnTrue}
+use Rattle.pool_model.specs.Seen.{EndSeen}
+use Rattle.run_notes.specs.Accounts.{AllDone}
+use Rattle.run_phases.proofs.Runs.{report_is}
+use Rattle.run_phases.proofs.second.second_phase.Goals.{then-missed, else-missed}
+use Rattle.run_phases.proofs.second.second_phase.Goals as goal
+
+was_true : (b : Bool) → not b ≡ false → b ≡ true
+was_true true is = refl
+was_true false is = absurd (true≢false is)
+
+held : (P : Type 0) (b : Bool) → b ≡ true → OnTrue b P → P
+held P b is on = subst (λ (x : Bool). OnTrue x P) is on
+
+pub returns-clause-report : goal.returns-clause-report
+returns-clause-report g c fine tasks done = elim c.if-missed.branch [
+  | then-missed w ↦ absurd (true≢false (sym w.if-missed.true ∙ (sym w.result-is ∙ fine)))
+  | else-missed w ↦
+      let made = was_true _ (sym w.result-is ∙ fine) in
+      let unrefused = held _ _ made c.turns_behind-done.ensures.fine in
+      let behind = sym c.end-2.ensures.refused ∙ tasks in
+      let late = held _ _ made c.turns_behind-done.ensures.direct behind in
+      let world = c.turns_behind-done.ensures.follows.refused behind in
+      let helped = c.push_reserved.ensures.items ∙ (ap (λ (l : List EndSeen). l ++ c.end.result ∷ []) c.requires.helped.0 ∙ ap (λ (e : EndSeen). e ∷ []) c.end.ensures) in
+      let all = subst (λ (l : List EndSeen). AllDone (c.args.ends.items ++ l)) (sym helped) done in
+      let accounts = c.end_pool-accepted.ensures.account world all w.if-missed.false in
+      report_is g.N.RunName.asked _ c.end_pool-accepted.result _ _ accounts (c.requires.added unrefused) late c.end_pool-accepted.ensures.stopped c.requires.stops (λ none. (c.end_pool-accepted.ensures.joined none).0)
+]
