@@ -1,0 +1,3 @@
+pub mod Crossings
+mod Living
+mod Whole

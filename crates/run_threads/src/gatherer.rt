@@ -1,0 +1,36 @@
+use event_base::EventBase;
+use fan_parts::{BasePoster, GatherJob, PrintJob, RunName, RunShards};
+use run_gathering::{GatherStage, gather};
+use run_stages::Stage;
+use std::alloc::Global;
+use std::sync::Wait;
+
+/// The stage of a gathering base: the base and its poster to the printer's base before it has run, what it came to afterwards, and the shards.
+pub struct GatherSlot<'d, 'r: 'd, 'i: 'r, N: RunName> {
+    pub base: Option<EventBase<GatherJob<'d, 'r, 'i, N>>>,
+    pub printer: Option<BasePoster<PrintJob<N>>>,
+    pub shards: RunShards<'i, N>,
+    pub stage: Option<GatherStage<'d, 'r, 'i, N>>,
+    pub alloc: Global,
+}
+
+impl<'d, 'r: 'd, 'i: 'r, N: RunName> Stage<()> for GatherSlot<'d, 'r, 'i, N> {
+    ghost use Rattle.run_threads.specs.Slots.{HasGatheredIn, IsReadyToGather};
+
+    ghost ready = { λ shared slot. IsReadyToGather N.asked slot };
+
+    ghost ran = { λ shared old new. HasGatheredIn old new };
+
+    /// Gathers until all posters to the base have ended. It may wait.
+    fn run<R: Wait>(&mut self, rt: &R, _shared: &()) {
+        let Some(base) = self.base.take() else {
+            unreachable!()
+        };
+        let Some(printer) = self.printer.take() else {
+            unreachable!()
+        };
+        let stage = gather(rt, self.alloc, base, printer, self.shards.again());
+        let none = self.stage.replace(stage);
+        let None = none else { unreachable!() };
+    }
+}
