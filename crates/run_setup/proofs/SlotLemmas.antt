@@ -1,0 +1,179 @@
+-- Slots before and after the threads.
+use Rattle.std.proofs.Common.{◌≡◌, ℕ, ◌+◌, ◌-◌, ◌<◌, ◌||◌, List, [], ◌∷◌, Bool, true, false, true≢false, length, get_or, map, refl, sym, ap, ◌∙◌, subst, arith}
+use Rattle.std.specs.List.{All, list_any}
+use Rattle.std.proofs.lemmas.List.Elements.{All-cons, All-nil}
+use Rattle.std.proofs.lemmas.Option.{same_Some}
+use Rattle.core_cells.specs.Seen.{SeenPass}
+use Rattle.event_base.specs.Seen.{BaseSeen, new_base}
+use Rattle.fan_base.specs.declared.number.ExecId.{ExecId}
+use Rattle.fan_model.specs.Report.{Asking}
+use Rattle.fan_parts.specs.declared.jobs.GatherJob.{GatherJob}
+use Rattle.fan_parts.specs.declared.jobs.PrintJob.{PrintJob}
+use Rattle.fan_parts.specs.declared.run_name.RunName.{Ghosts}
+use Rattle.fan_parts.specs.Seen.{PosterSeen}
+use Rattle.job_trait.specs.Marks.{IsDone}
+use Rattle.notify_queue.specs.Ends.{QueueId, Sending}
+use Rattle.pool_model.specs.Passes.{AreAllEnds}
+use Rattle.pool_model.specs.Seen.{EndSeen, PoolSeen, WorkerSeen}
+use Rattle.run_bases.specs.Columns.{exec_at}
+use Rattle.run_notes.specs.Accounts.{AllDone}
+use Rattle.run_stages.specs.Stages.{AllRan, AllReady}
+use Rattle.run_tasks.specs.declared.stage.WorkerStage.{WorkerStage}
+use Rattle.run_tasks.specs.declared.world.TaskEnds.{TaskEnds}
+use Rattle.run_tasks.specs.Seen.{TaskSeen, WorldSeen}
+use Rattle.run_tasks.specs.Worlds.{AreEndsFor, Follows, TaskRan, told_of}
+use Rattle.run_threads.specs.declared.gatherer.GatherSlot.{GatherSlot}
+use Rattle.run_threads.specs.declared.worker.WorkerSlot.{WorkerSlot}
+use Rattle.run_threads.specs.Slots.{HasGatheredIn, HasWorked, IsReadyToGather, IsReadyToWork, IsStageOf}
+use Rattle.run_setup.specs.Closing.{AreEndsOf, AreGathered, AreTaskEnds, AreWorldEnds, HaveWorked, IsGatheredSlot, IsPrinterEnd, some_refused}
+use Rattle.run_setup.specs.Ids.{RunIds}
+use Rattle.run_setup.specs.Rows.{row_of}
+use Rattle.run_setup.specs.Slots.{AreGatherSlots, AreWorkerSlots, IsGatherSlot, IsNewWorld, IsWorkerSlot, new_printer_poster}
+
+module _ {N : Type 0} where
+  pub printer-end : (asked : Asking) (ids : RunIds) (number : ℕ) (e : Sending (PrintJob N)) → e.queue ≡ ids.printer → e.number ≡ number → IsPrinterEnd asked ids number e
+  printer-end asked ids number e queue number_is = record { is = record { queue_is = queue; number_is = number_is; on_base = λ k d below. refl } }
+
+module _ {J : Type 0} where
+  -- a new base by its own executor, queue and posters
+  pub base-new : (exec : ExecId) (senders : ℕ) (queue : QueueId) (base : BaseSeen J) → base ≡ new_base exec 0 queue senders → base ≡ new_base base.agenda.exec 0 base.queue.queue base.queue.senders
+  base-new exec senders queue base is = subst (λ (b : BaseSeen J). b ≡ new_base b.agenda.exec 0 b.queue.queue b.queue.senders) (sym is) refl
+
+module _ {N : Type 0} {g : Ghosts N} where
+  ready-to-gather : (asked : Asking) (ids : RunIds) (k : ℕ) (slot : GatherSlot N g) → IsGatherSlot asked ids k slot → IsReadyToGather asked slot
+  ready-to-gather asked ids k slot is = record {
+    base = new_base (exec_at 1 k) 0 (get_or ids.queues k ids.printer) (ids.workers + 1);
+    has_base = is.base ids.printer;
+    holds = record { before = refl; timers = refl; loops = λ n d below. absurd (omega (arith, below)); later = λ n d below. absurd (omega (arith, below)) };
+    printer = new_printer_poster asked ids (asked.bases - k);
+    has_printer = is.printer;
+    exec = refl;
+    none = is.none;
+  }
+
+  pub all-ready-to-gather : (asked : Asking) (ids : RunIds) (slots : List (GatherSlot N g)) → AreGatherSlots asked ids slots → AllReady (IsReadyToGather asked) slots
+  all-ready-to-gather asked ids slots are = record { each = λ k d below. ready-to-gather asked ids k (get_or slots k d) (are.each k d (omega (arith, below, are.as_many))) }
+
+module _ {N G : Type 0} where
+  pub all-ready-to-work : (ids : RunIds) (pool : PoolSeen) (slots : List (WorkerSlot TaskSeen (WorldSeen N) G)) → AreWorkerSlots ids pool slots → AllReady IsReadyToWork slots
+  all-ready-to-work ids pool slots are = record {
+    each = λ k d below.
+        let is = are.each k d (omega (arith, below, are.as_many)) in
+        record { pass = record { pool = pool.id; number = k }; has = is.pass; of_pool = ap (λ (p : PoolSeen). p.id) (sym is.pool_is) };
+  }
+
+module _ {N : Type 0} {g : Ghosts N} where
+  gathered : (asked : Asking) (ids : RunIds) (k : ℕ) (old new : GatherSlot N g) → IsGatherSlot asked ids k old → HasGatheredIn old new → IsGatheredSlot asked ids k new
+  gathered asked ids k old new is did =
+      let base : (q : QueueId) → did.base ≡ new_base (exec_at 1 k) 0 (get_or ids.queues k q) (ids.workers + 1) = λ q. same_Some did.base _ (sym did.had_base ∙ is.base q) in
+      let printer : did.printer ≡ new_printer_poster asked ids (asked.bases - k) = same_Some did.printer _ (sym did.had_printer ∙ is.printer) in
+      record {
+        stage = did.stage;
+        has = did.has;
+        is = record {
+          exec = did.same_base.exec ∙ ap (λ (b : BaseSeen (GatherJob N)). b.agenda.exec) (base ids.printer);
+          queue = λ q. did.same_base.queue ∙ ap (λ (b : BaseSeen (GatherJob N)). b.queue.queue) (base q);
+          senders = did.same_base.senders ∙ ap (λ (b : BaseSeen (GatherJob N)). b.queue.senders) (base ids.printer);
+          printer = printer-end asked ids (asked.bases - k) did.stage.printer (did.did.posted.queue ∙ ap (λ (p : PosterSeen (PrintJob N)). p.sender.queue) printer)
+              (did.did.posted.number ∙ ap (λ (p : PosterSeen (PrintJob N)). p.sender.number) printer);
+          dry = λ calm. (did.closed calm).0;
+        };
+        no_base = did.spent_base;
+        no_printer = did.spent_printer;
+      }
+
+  pub all-gathered : (asked : Asking) (ids : RunIds) (old new : List (GatherSlot N g)) → AreGatherSlots asked ids old → AllRan HasGatheredIn old new → AreGathered asked ids new
+  all-gathered asked ids old new are ran = record {
+    as_many = ran.as_many ∙ are.as_many;
+    each = λ k d below. gathered asked ids k (get_or old k d) (get_or new k d) (are.each k d below) (ran.each k d (omega (arith, below, are.as_many)));
+  }
+
+module _ {N : Type 0} where
+  -- the ends of a new world's posters are a row of its number
+  world-row : (ids : RunIds) (number : ℕ) (world : WorldSeen N) (ends : List (Sending (GatherJob N))) → IsNewWorld ids number world → AreEndsFor (map told_of world.posters) ends → AreEndsFor (row_of number ids.queues) ends
+  world-row ids number world ends is are = subst (λ ts. AreEndsFor ts ends) is.posters are
+
+module _ {X : Type 0} where
+  -- some item of a list that has one at this place
+  some-item : (xs : List X) (k : ℕ) → k < length xs → X
+  some-item [] k below = absurd (omega (arith, below))
+  some-item (x ∷ xs) k below = x
+
+module _ {N G : Type 0} where
+  pub all-worked : (old new : List (WorkerSlot TaskSeen (WorldSeen N) G)) → AllRan (HasWorked TaskRan) old new → HaveWorked new
+  all-worked old new ran = record {
+    each = λ k d below.
+        let did = ran.each k d (omega (arith, below, ran.as_many)) in
+        record { end = did.end; has = did.has; spent = did.spent };
+  }
+
+  worked : (ids : RunIds) (pool : PoolSeen) (k : ℕ) (slot : WorkerSlot TaskSeen (WorldSeen N) G) (stage : WorkerStage N) → IsWorkerSlot ids pool k slot → IsStageOf slot stage
+      → AreTaskEnds ids (ids.workers - k) stage.ends × ((stage.end.pool ≡ pool.id) × (stage.ends.refused ≡ false → All (λ r. IsDone r.mark) stage.end.records))
+  worked ids pool k slot stage is did =
+      let pass : did.pass ≡ record { pool = pool.id; number = k } = same_Some did.pass _ (sym did.had ∙ is.pass) in (
+        record {
+          posters = world-row ids (ids.workers - k) slot.world stage.ends.posters.items is.is_new did.posters;
+          pass = record { cells = did.cells.cells ∙ is.is_new.pass.cells; passes = did.cells.passes ∙ is.is_new.pass.passes };
+        },
+        (did.end_pool ∙ ap (λ (p : WorkerSeen). p.pool) pass, did.marks),
+      )
+
+  -- what a worker left, at its place
+  left-at : (ids : RunIds) (pool : PoolSeen) (slots : List (WorkerSlot TaskSeen (WorldSeen N) G)) (ends : List EndSeen) (worlds : List (TaskEnds N)) → AreWorkerSlots ids pool slots
+      → AreEndsOf slots ends worlds → (k : ℕ) (e : EndSeen) (w : TaskEnds N) → k < ids.workers
+      → AreTaskEnds ids (ids.workers - k) (get_or worlds k w) × (((get_or ends k e).pool ≡ pool.id) × ((get_or worlds k w).refused ≡ false → All (λ r. IsDone r.mark) (get_or ends k e).records))
+  left-at ids pool slots ends worlds are of k e w below =
+      let within : k < length slots = omega (arith, below, are.as_many) in
+      let d = some-item slots k within in
+      worked ids pool k (get_or slots k d) (record { end = get_or ends k e; ends = get_or worlds k w }) (are.each k d below) (of.each k d e w within)
+
+  pub all-worlds : (ids : RunIds) (pool : PoolSeen) (slots : List (WorkerSlot TaskSeen (WorldSeen N) G)) (ends : List EndSeen) (worlds : List (TaskEnds N)) → AreWorkerSlots ids pool slots → AreEndsOf slots ends worlds → AreWorldEnds ids worlds
+  all-worlds ids pool slots ends worlds are of = record {
+    as_many = of.as_many_worlds ∙ are.as_many;
+    each = λ k w below.
+        let e = some-item ends k (omega (arith, below, of.as_many_ends, are.as_many)) in
+        (left-at ids pool slots ends worlds are of k e w below).0;
+  }
+
+  pub all-ends : (ids : RunIds) (pool : PoolSeen) (slots : List (WorkerSlot TaskSeen (WorldSeen N) G)) (ends : List EndSeen) (worlds : List (TaskEnds N)) → AreWorkerSlots ids pool slots → AreEndsOf slots ends worlds → AreAllEnds pool.id ids.workers ends
+  all-ends ids pool slots ends worlds are of = record {
+    of_pool = λ k e below.
+        let within : k < ids.workers = omega (arith, below, of.as_many_ends, are.as_many) in
+        let w = some-item worlds k (omega (arith, within, of.as_many_worlds, are.as_many)) in
+        (left-at ids pool slots ends worlds are of k e w within).1.0;
+    count_is = of.as_many_ends ∙ are.as_many;
+  }
+
+  pub all-done : (ids : RunIds) (pool : PoolSeen) (slots : List (WorkerSlot TaskSeen (WorldSeen N) G)) (ends : List EndSeen) (worlds : List (TaskEnds N)) → AreWorkerSlots ids pool slots → AreEndsOf slots ends worlds → All (λ (w : TaskEnds N). w.refused ≡ false) worlds → AllDone ends
+  all-done ids pool slots ends worlds are of calm = λ k e below.
+      let within : k < ids.workers = omega (arith, below, of.as_many_ends, are.as_many) in
+      let placed : k < length worlds = omega (arith, within, of.as_many_worlds, are.as_many) in
+      let w = some-item worlds k placed in
+      (left-at ids pool slots ends worlds are of k e w within).1.1 (calm k w placed)
+
+module _ {N : Type 0} where
+  -- the front's world
+  pub front-ends : (ids : RunIds) (old new : WorldSeen N) (ends : TaskEnds N) → IsNewWorld ids 0 old → Follows old new → AreEndsFor (map told_of new.posters) ends.posters.items → ends.pass ≡ new.pass → AreTaskEnds ids 0 ends
+  front-ends ids old new ends is follows are pass = record {
+    posters = world-row ids 0 old ends.posters.items is (subst (λ ts. AreEndsFor ts ends.posters.items) follows.posters are);
+    pass = record {
+      cells = ap (λ (p : SeenPass). p.cells) pass ∙ (follows.pass.cells ∙ is.pass.cells);
+      passes = ap (λ (p : SeenPass). p.passes) pass ∙ (follows.pass.passes ∙ is.pass.passes);
+    };
+  }
+
+pub neither : (a b : Bool) → a || b ≡ false → (a ≡ false) × (b ≡ false)
+neither true b is = absurd (true≢false is)
+neither false b is = (refl, is)
+
+module _ {X : Type 0} (f : X → Bool) where
+  pub none-of : (xs : List X) → list_any f xs ≡ false → All (λ (x : X). f x ≡ false) xs
+  none-of [] is = All-nil (λ (x : X). f x ≡ false)
+  none-of (x ∷ xs) is = let both = neither (f x) (list_any f xs) is in All-cons (λ (y : X). f y ≡ false) x xs both.0 (none-of xs both.1)
+
+module _ {N : Type 0} {g : Ghosts N} where
+  pub calm-worlds : (gatherers : List (GatherSlot N g)) (worlds : List (TaskEnds N)) (front : TaskEnds N) → some_refused gatherers worlds front ≡ false → All (λ (w : TaskEnds N). w.refused ≡ false) worlds
+  calm-worlds gatherers worlds front is = none-of (λ (w : TaskEnds N). w.refused) worlds (neither _ _ (neither _ _ is).0).0
+
+  pub calm-front : (gatherers : List (GatherSlot N g)) (worlds : List (TaskEnds N)) (front : TaskEnds N) → some_refused gatherers worlds front ≡ false → front.refused ≡ false
+  calm-front gatherers worlds front is = (neither _ _ (neither _ _ is).0).1

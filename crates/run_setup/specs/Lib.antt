@@ -1,0 +1,6 @@
+pub mod Ids
+pub mod Rows
+pub mod Slots
+pub mod Rooms
+pub mod Opening
+pub mod Closing
