@@ -13,7 +13,12 @@ pub same_settings : AtMostOne → (words : List (List ℕ)) (found : Command) (m
 same_settings one words found mine other is run also =
     let same : command.Run mine ≡ command.Run other = sym run ∙ one words found (command.Run other) is also in cc
 
-pub same_generation : AtMostOne → (words : List (List ℕ)) (found : Command) (mine other : Generation) (set also_set : Settings) → IsCommand words found → found ≡ command.Generate mine set
-    → IsCommand words (command.Generate other also_set) → mine ≡ other
-same_generation one words found mine other set also_set is gen also =
-    let same : command.Generate mine set ≡ command.Generate other also_set = sym gen ∙ one words found (command.Generate other also_set) is also in cc
+module _ (one : AtMostOne) (words : List (List ℕ)) (found : Command) (mine other : Generation) (set also_set : Settings) where
+  same-command : IsCommand words found → found ≡ command.Generate mine set → IsCommand words (command.Generate other also_set) → command.Generate mine set ≡ command.Generate other also_set
+  same-command is gen also = sym gen ∙ one words found (command.Generate other also_set) is also
+
+  pub same_generation : IsCommand words found → found ≡ command.Generate mine set → IsCommand words (command.Generate other also_set) → mine ≡ other
+  same_generation is gen also = let same = same-command is gen also in cc
+
+  pub same_settings_of_it : IsCommand words found → found ≡ command.Generate mine set → IsCommand words (command.Generate other also_set) → set ≡ also_set
+  same_settings_of_it is gen also = let same = same-command is gen also in cc

@@ -1,19 +1,31 @@
 -- What each ending of a run says.
-use Rattle.std.proofs.Common.{◌≡◌, ℕ, ◌≤◌, [], length, Option, Some, None, Result, Ok, Err, refl, ap, subst, arith, length-append, ◌⊎◌, inl, inr}
+use Rattle.std.proofs.Common.{◌≡◌, ◌≢◌, ℕ, ◌≤◌, [], ◌++◌, length, map, Option, Some, None, Result, Ok, Err, refl, sym, ap, ◌∙◌, subst, arith, length-append, ◌⊎◌, inl, inr}
 use Rattle.std.specs.Option.{IfSome}
 use Rattle.std.specs.Result.{OnOk, OnErr}
 use Rattle.std.specs.Io.KnownBytes.{Consumes}
-use Rattle.fan_base.specs.Outside.{Shown, FaultsRose}
+use Rattle.fan_base.specs.Outside.{Shown, FaultsRose, shown}
 use Rattle.query_model.specs.declared.line.Input.{Input}
 use Rattle.query_model.specs.declared.fault.BadInput.{BadInput}
 use Rattle.query_model.specs.Pieces.{Bytes}
 use Rattle.query_model.specs.Reading.{Accepts, Refuses}
-use Rattle.query_model.specs.Output.{output}
+use Rattle.query_model.specs.Output.{error_text, output}
+use Rattle.query_model.specs.Generated.{generated_input, summary_line, summary_of}
+use Rattle.query_words.specs.declared.command.Generation.{Generation}
+use Rattle.query_words.specs.declared.command.Settings.{Settings}
+use Rattle.fan_model.specs.Report.{Asking, IsReport}
+use Rattle.run_notes.specs.Counting.{totals_of}
+use Rattle.run_notes.specs.Told.{note_of, told_of}
+use Rattle.fanout.specs.declared.run.FanEnd.{FanEnd}
+use Rattle.fanout.specs.declared.run.FanOutcome.{FanOutcome}
+use Rattle.fanout.specs.declared.run.FanOutcome.TheVariants as outcome
+use Rattle.fanout.specs.Ends.{IsReported, Reports, ReportsAs, Writes}
+use Rattle.folly_query.specs.declared.report.Report.{Report}
 use Rattle.folly_query.specs.declared.report.Status.{Status}
 use Rattle.folly_query.specs.declared.report.Status.TheVariants as status
-use Rattle.reply_printer.specs.Passing.{GainsFront}
+use Rattle.reply_printer.specs.Passing.{Gains}
 use Rattle.folly_query.specs.Passing.{ReadsAll, ReadsTooMuch}
-use Rattle.folly_query.specs.Endings.{EndsAs, Comes}
+use Rattle.folly_query.specs.Endings.{Comes, EndsAs, EndsBy, RefusesAs, SumsUpAs, SumsUpBy, IsWritten, WritesAs, asked_of, summary_by}
+use Rattle.folly_query.specs.Reports.{TellsAll, asked_by, status_of}
 
 pub written_or_front : {E G F R : Type 0} (r : Result (Unit {0}) E) → OnOk r G → OnErr r F → OnErr r R → G ⊎ (F × R)
 written_or_front (Ok x) g f r = inl g
@@ -75,11 +87,6 @@ module _ (shards : ℕ) (source source' sink sink' : Shown) where
         too_large = λ many calm. absurd (omega (arith, ap length is, all.few, many));
       }
 
-  -- want of memory while the replies were written
-  pub answer_memory_ends : (text : Bytes) (input : Input) → ReadsAll source source' text → Accepts text shards input → GainsFront sink sink' (output input)
-      → EndsAs shards source source' sink sink' status.Memory
-  answer_memory_ends text input all accepted front = inr (text, all, output input, inl (input, accepted, refl), front)
-
   -- what holds of all known bytes
   pub known_comes : (found : Status) → ((bytes : Bytes) → source.bytes ≡ Some bytes → Comes shards bytes source source' sink sink' found) → IfSome source.bytes (λ bytes. Comes shards bytes source source' sink sink' found)
   known_comes found each = by source.bytes each
@@ -87,3 +94,130 @@ module _ (shards : ℕ) (source source' sink sink' : Shown) where
       by : (known : Option Bytes) → ((bytes : Bytes) → known ≡ Some bytes → Comes shards bytes source source' sink sink' found) → IfSome known (λ bytes. Comes shards bytes source source' sink sink' found)
       by None each = tt
       by (Some bytes) each = each bytes refl
+
+-- a report has what is told of the end of a run
+pub record HasEnd (report : Report) (end : FanEnd) : Type 0 where
+  pub status : report.status ≡ status_of end.outcome
+  pub pool : report.pool ≡ end.pool
+  pub queues : report.queues ≡ end.queues
+  pub tally : report.tally ≡ end.tally
+
+pub tells_all : (asked : Asking) (report : Report) (end : FanEnd) → report.pool ≡ end.pool → report.queues ≡ end.queues → report.tally ≡ end.tally → IsReported asked end → TellsAll asked report
+tells_all asked report end pool queues tally told = record {
+  note = told.note;
+  pool = pool ∙ told.pool;
+  told = subst (λ qs. IsReport asked (told_of told.note) (map note_of qs) (totals_of report.tally)) (sym queues)
+      (subst (λ t. IsReport asked (told_of told.note) (map note_of end.queues) (totals_of t)) (sym tally) told.report);
+}
+
+-- an input that was accepted was answered
+module _ (settings : Settings) (source source' sink sink' : Shown) (text : Bytes) (input : Input) where
+  pub run_ends : (report : Report) (end : FanEnd) → HasEnd report end → ReadsAll source source' text → Accepts text settings.shards input → Writes input sink sink' end.outcome
+      → Reports (asked_by settings input.lines) end → EndsAs settings source source' sink sink' report
+  run_ends report end has all accepted writes reports = subst (λ s. EndsBy settings source source' sink sink' report s) (sym has.status) (by end.outcome writes reports)
+    where
+      whole : IsReported (asked_by settings input.lines) end → TellsAll (asked_by settings input.lines) report
+      whole told = tells_all (asked_by settings input.lines) report end has.pool has.queues has.tally told
+
+      by : (o : FanOutcome) → Writes input sink sink' o → ReportsAs (asked_by settings input.lines) end o → EndsBy settings source source' sink sink' report (status_of o)
+      by outcome.Done gains told = (text, all, input, accepted, gains, whole told)
+      by outcome.Memory front told = inr (text, all, output input, inl (input, accepted, refl), front)
+      by outcome.WriteFault failed told = (text, all, input, accepted, failed.0, failed.1, whole told)
+
+  pub run_comes : (found : Status) (o : FanOutcome) → found ≡ status_of o → ReadsAll source source' text → ((bad : BadInput) → Refuses text settings.shards bad → ⊥) → Writes input sink sink' o
+      → IfSome source.bytes (λ bytes. Comes settings.shards bytes source source' sink sink' found)
+  run_comes found o is all never writes =
+      known_comes settings.shards source source' sink sink' found
+      (λ bytes known. subst (λ s. Comes settings.shards bytes source source' sink sink' s) (sym is) (by bytes known o writes))
+    where
+      by : (bytes : Bytes) → source.bytes ≡ Some bytes → (o : FanOutcome) → Writes input sink sink' o → Comes settings.shards bytes source source' sink sink' (status_of o)
+      by bytes known outcome.Done gains = done_comes settings.shards source source' sink sink' bytes text known all never
+      by bytes known outcome.Memory front = memory_comes settings.shards source source' sink sink' bytes
+      by bytes known outcome.WriteFault failed = write_fault_comes settings.shards source source' sink sink' bytes text known all never failed.1
+
+-- an input that was refused
+module _ (settings : Settings) (source source' sink sink' : Shown) (text : Bytes) (bad : BadInput) where
+  pub refused_ends : (report : Report) (found : Status) → report.status ≡ found → ReadsAll source source' text → Refuses text settings.shards bad → RefusesAs bad sink sink' found
+      → EndsAs settings source source' sink sink' report
+  refused_ends report found is all refuses refused = subst (λ s. EndsBy settings source source' sink sink' report s) (sym is) (by found refused)
+    where
+      by : (found : Status) → RefusesAs bad sink sink' found → EndsBy settings source source' sink sink' report found
+      by (status.BadInput other) told =
+          (text, all, subst (λ b. Refuses text settings.shards b) (sym told.0) refuses, subst (λ b. IsWritten (error_text b) sink sink') (sym told.0) told.1)
+      by status.Memory told = inl told
+      by status.Done told = absurd told
+      by status.Usage told = absurd told
+      by status.ReadFault told = absurd told
+      by status.WriteFault told = absurd told
+      by status.TooLarge told = absurd told
+
+  pub refusal_comes : (reported found : Status) → reported ≡ found → ReadsAll source source' text → ((input : Input) → Accepts text settings.shards input → ⊥)
+      → ((other : BadInput) → Refuses text settings.shards other → bad ≡ other) → RefusesAs bad sink sink' found
+      → IfSome source.bytes (λ bytes. Comes settings.shards bytes source source' sink sink' reported)
+  refusal_comes reported found is all never only refused =
+      known_comes settings.shards source source' sink sink' reported
+      (λ bytes known. subst (λ s. Comes settings.shards bytes source source' sink sink' s) (sym is) (by bytes known found refused))
+    where
+      by : (bytes : Bytes) → source.bytes ≡ Some bytes → (found : Status) → RefusesAs bad sink sink' found → Comes settings.shards bytes source source' sink sink' found
+      by bytes known (status.BadInput other) told =
+          subst (λ b. Comes settings.shards bytes source source' sink sink' (status.BadInput b)) (sym told.0)
+          (refused_comes settings.shards source source' sink sink' bytes text bad known all never only)
+      by bytes known status.Memory told = memory_comes settings.shards source source' sink sink' bytes
+      by bytes known status.Done told = absurd told
+      by bytes known status.Usage told = absurd told
+      by bytes known status.ReadFault told = absurd told
+      by bytes known status.WriteFault told = absurd told
+      by bytes known status.TooLarge told = absurd told
+
+-- a refusal or want of memory
+pub refused_is : (bad : BadInput) (sink sink' : Shown) (reported found : Status) → reported ≡ found → RefusesAs bad sink sink' found
+    → (reported ≢ status.Usage) × ((reported ≢ status.ReadFault) × (reported ≢ status.TooLarge))
+refused_is bad sink sink' reported found is refused = subst (λ s. (s ≢ status.Usage) × ((s ≢ status.ReadFault) × (s ≢ status.TooLarge))) (sym is) (by found refused)
+  where
+    by : (found : Status) → RefusesAs bad sink sink' found → (found ≢ status.Usage) × ((found ≢ status.ReadFault) × (found ≢ status.TooLarge))
+    by (status.BadInput other) told = (λ e. absurd (cc), (λ e. absurd (cc), λ e. absurd (cc)))
+    by status.Memory told = (λ e. absurd (cc), (λ e. absurd (cc), λ e. absurd (cc)))
+    by status.Done told = absurd told
+    by status.Usage told = absurd told
+    by status.ReadFault told = absurd told
+    by status.WriteFault told = absurd told
+    by status.TooLarge told = absurd told
+
+-- what was ended by a run is neither of these
+pub run_is : (reported : Status) (o : FanOutcome) → reported ≡ status_of o → (reported ≢ status.Usage) × ((reported ≢ status.ReadFault) × (reported ≢ status.TooLarge))
+run_is reported o is = subst (λ s. (s ≢ status.Usage) × ((s ≢ status.ReadFault) × (s ≢ status.TooLarge))) (sym is) (by o)
+  where
+    by : (o : FanOutcome) → (status_of o ≢ status.Usage) × ((status_of o ≢ status.ReadFault) × (status_of o ≢ status.TooLarge))
+    by outcome.Done = (λ e. absurd (cc), (λ e. absurd (cc), λ e. absurd (cc)))
+    by outcome.Memory = (λ e. absurd (cc), (λ e. absurd (cc), λ e. absurd (cc)))
+    by outcome.WriteFault = (λ e. absurd (cc), (λ e. absurd (cc), λ e. absurd (cc)))
+
+-- what a sink holds that held nothing before
+pub held : (old new text : Bytes) (m n : ℕ) → old ≡ [] → Gains (shown (Some old) m) (shown (Some new) n) text → new ≡ text
+held old new text m n none gains = gains.gained ∙ ap (λ l. l ++ text) none
+
+-- an input that was made up was answered, and the line was written
+module _ (generation : Generation) (settings : Settings) (sink sink' : Shown) (end : FanEnd) (found : Status) where
+  pub summary_ends : (input : Input) (replies : Bytes) → input ≡ generated_input generation.seed generation.docs generation.queries → replies ≡ output input
+      → IsReported (asked_by settings input.lines) end → WritesAs (summary_of generation.docs generation.queries replies) sink sink' found
+      → SumsUpAs generation settings sink sink' (record { status = found; pool = end.pool; queues = end.queues; tally = end.tally })
+  unfolding summary_line
+  summary_ends input replies is text reported writes = by found (subst (λ t. WritesAs t sink sink' found) line writes)
+    where
+      report : Status → Report
+      report s = record { status = s; pool = end.pool; queues = end.queues; tally = end.tally }
+
+      line : summary_of generation.docs generation.queries replies ≡ summary_by generation
+      line = ap (λ t. summary_of generation.docs generation.queries t) (text ∙ ap (λ i. output i) is)
+
+      told : (s : Status) → TellsAll (asked_of generation settings) (report s)
+      told s = subst (λ (i : Input). TellsAll (asked_by settings i.lines) (report s)) is (tells_all (asked_by settings input.lines) (report s) end refl refl refl reported)
+
+      by : (s : Status) → WritesAs (summary_by generation) sink sink' s → SumsUpBy generation settings sink sink' (report s) s
+      by status.Done gains = (gains, told status.Done)
+      by status.Memory same = same
+      by status.WriteFault failed = (failed.0, failed.1, told status.WriteFault)
+      by status.Usage never = absurd never
+      by (status.BadInput bad) never = absurd never
+      by status.ReadFault never = absurd never
+      by status.TooLarge never = absurd never

@@ -1,4 +1,5 @@
 pub mod Passing
 pub mod Endings
 pub mod Statuses
-pub mod Steps
+pub mod Joining
+pub mod Reports

@@ -1,101 +1,75 @@
-ghost use Rattle.std.specs.Prelude.{◌≡◌, ◌≤◌, Err, List, take, length, IfOk, OnErr, OnOk};
-ghost use Rattle.fan_base.specs.Outside.{FaultsRose, shown};
-ghost use Rattle.fan_base.specs.declared.doc.Doc.{Doc};
-ghost use Rattle.query_model.specs.declared.line.Line.{Line};
-ghost use Rattle.query_model.specs.Documents.{IsWithinLimits};
-ghost use Rattle.query_model.specs.Output.{output};
-ghost use Rattle.query_model.specs.Walk.{Progress, progress_of};
-ghost use Rattle.query_model.specs.Walk as model;
-ghost use Rattle.query_walk.specs.Following.{Follows};
-ghost use Rattle.shard_index.specs.Standing.{StandForAll, StandForSome};
-ghost use Rattle.reply_printer.specs.Passing.{Gains, GainsFront};
-ghost use Rattle.folly_query.specs.Steps.{AreStepsOf, HasRoomFor, step_of};
+ghost use Rattle.std.specs.Prelude.{◌≡◌, ◌≤◌, IfOk, None, length};
+ghost use Rattle.fan_base.specs.Outside.{shown};
+ghost use Rattle.query_model.specs.Documents.{IsWithinLimits, docs_of};
+ghost use Rattle.query_parts.specs.Parts.{AreShards};
+ghost use Rattle.query_words.specs.Laws.{AreSettingsInRange};
+ghost use Rattle.fanout.specs.Ends.{Reports, ReportsAs, TellsNoRun, Writes};
+ghost use Rattle.folly_query.specs.Reports.{asked_by};
 
-use crate::parts::{Step, split};
-use crate::write::write_lines;
-use fan_base::{Memory, Sink};
+use crate::parts::{join, split};
+use core_word::Tally;
+use fan_base::{Gate, Memory, Sink};
+use fanout::{FanEnd, FanOutcome, Knobs, fan_run};
 use query_model::Input;
-use query_model::laws::{one_walk_gives_all_replies, one_walk_keeps_counts};
-use query_walk::Walk;
-use shard_index::Shards;
+use query_parts::build_shards;
+use query_words::Settings;
+use run_notes::Notes;
+use shard_index::Shard;
 use std::alloc::Global;
+use std::sync::Wait;
+use std::thread::Threads;
 
-/// What is to be written for an accepted input, answered over so many shards.
-#[tactic(auto, unfolding(query_model::specs::Output::output))]
-pub fn output_text(alloc: Global, input: Input, shards: u32) -> Result<Vec<u8>, Memory>
-    requires limits { IsWithinLimits input.lines shards }
-    requires some { 1 ≤ shards }
-    requires many { shards ≤ 64 }
-    ensures { IfOk result (λ text. text.items ≡ output input) }
-{
-    one_walk_gives_all_replies();
-    let (docs, steps) = split(alloc, input)?;
-    let shards = Shards::build(alloc, &docs, shards)?;
-    drop(docs);
-    walk_over(alloc, &shards, steps.as_slice())?.finish(alloc)
-}
-
-/// Goes over what is left of the lines.
-fn walk_over(alloc: Global, shards: &Shards, steps: &[Step]) -> Result<Walk, Memory>
-    requires { (lines : List Line) × AreStepsOf lines shards.now steps.now }
-    ensures { (lines : List Line) → AreStepsOf lines shards.now steps.now → IfOk result (λ walk. Follows walk (progress_of lines)) }
-{
-    one_walk_keeps_counts();
-    let mut walk = Walk::new(alloc);
-    for step in steps {
-        take_step(alloc, shards, step, &mut walk)?;
-    }
-    Ok(walk)
-}
-
-/// Takes one step. A query is answered over the documents so far.
-fn take_step(alloc: Global, shards: &Shards, step: &Step, walk: &mut Walk) -> Result<(), Memory>
-    requires shards { StandForSome shards.now }
-    requires room { HasRoomFor walk.old step.now }
-    ensures { (docs : List Doc) (p : Progress) (l : Line) → StandForAll shards.now docs → Follows walk.old p → take (length p.documents) docs ≡ p.documents →
-        step.now ≡ step_of l → OnOk result (Follows walk.new (model.step p l)) }
-{
-    match step {
-        Step::Document => {
-            walk.document();
-            Ok(())
-        }
-        Step::Query(query) => {
-            let reply = shards.answer(&query.ask, walk.documents())?;
-            walk.ask(alloc, query.delay, reply)
-        }
-        Step::Tick(ticks) => walk.tick(alloc, *ticks),
-        Step::Cancel(number) => walk.cancel(alloc, *number),
-    }
-}
-
-/// Why not all replies were written.
-#[derive(Clone, Copy, Debug, PartialEq, Eq)]
-pub enum AnswerEnd {
-    Memory,
-    WriteFault,
-}
-
-/// Writes the replies to the queries of an input, over so many shards.
-pub fn answer<K: Sink>(
+/// Answers the queries of an accepted input over threads, and writes the replies.
+pub fn answer<K: Sink + Send, G: Gate, R: Threads + Wait + Sync>(
+    rt: &R,
     alloc: Global,
     input: Input,
-    shards: u32,
+    settings: Settings,
     sink: &mut K,
-) -> Result<(), AnswerEnd>
+    gate: &G,
+) -> FanEnd
+    requires limits { IsWithinLimits input.lines settings.shards }
+    requires settings { AreSettingsInRange settings }
+    ensures writes { Writes input (shown (K.holds sink.old) (K.faults sink.old)) (shown (K.holds sink.new) (K.faults sink.new)) result.outcome }
+    ensures reports { Reports (asked_by settings input.lines) result }
+    ensures unmade { result.pool ≡ None → TellsNoRun result }
+{
+    let (input, shards) = match with_shards(alloc, input, settings.shards) {
+        Ok(parts) => parts,
+        Err(Memory) => return no_memory(alloc),
+    };
+    let knobs = Knobs {
+        workers: settings.workers,
+        bases: settings.bases,
+        stop_at: settings.stop_at,
+    };
+    fan_run(rt, alloc, &input, shards.as_slice(), knobs, sink, gate)
+}
+
+/// The end of a run that hasn't begun.
+fn no_memory(alloc: Global) -> FanEnd
+    ensures memory { result.outcome ≡ FanOutcome.Memory }
+    ensures nothing { TellsNoRun result }
+{
+    FanEnd {
+        outcome: FanOutcome::Memory,
+        pool: None,
+        queues: Notes::new(alloc),
+        tally: Tally::new(),
+    }
+}
+
+/// The input as it was, and so many shards of its documents.
+fn with_shards(alloc: Global, input: Input, shards: u32) -> Result<(Input, Vec<Shard>), Memory>
     requires limits { IsWithinLimits input.lines shards }
     requires some { 1 ≤ shards }
     requires many { shards ≤ 64 }
-    ensures all { OnOk result (Gains (shown (K.holds sink.old) (K.faults sink.old)) (shown (K.holds sink.new) (K.faults sink.new)) (output input)) }
-    ensures front { OnErr result (GainsFront (shown (K.holds sink.old) (K.faults sink.old)) (shown (K.holds sink.new) (K.faults sink.new)) (output input)) }
-    ensures fault { result ≡ Err AnswerEnd.WriteFault → FaultsRose (K.faults sink.old) (K.faults sink.new) }
+    ensures input { IfOk result (λ made. made.0 ≡ input) }
+    ensures shards { IfOk result (λ made. AreShards made.1.items (docs_of input.lines)) }
+    ensures many { IfOk result (λ made. length made.1.items ≡ shards) }
 {
-    let text = match output_text(alloc, input, shards) {
-        Ok(text) => text,
-        Err(_) => return Err(AnswerEnd::Memory),
-    };
-    match write_lines(sink, text.as_slice()) {
-        Ok(()) => Ok(()),
-        Err(_) => Err(AnswerEnd::WriteFault),
-    }
+    let (docs, others) = split(alloc, input)?;
+    let shards = build_shards(alloc, &docs, shards)?;
+    let input = join(alloc, docs, others)?;
+    Ok((input, shards))
 }

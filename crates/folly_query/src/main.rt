@@ -15,13 +15,14 @@ use std::{env, io};
 
 mod answer;
 mod args;
+mod buffer;
+mod generated;
 mod parts;
 mod read;
 mod report;
 mod run;
 #[cfg(test)]
 mod tests;
-mod write;
 
 /// The words behind the program's name; none of them where they can't be had, and then the status that this ends with.
 fn words<R: Runtime + AllocGlobal>(rt: &R) -> Result<Args, Status> {
@@ -55,7 +56,8 @@ fn main(rt: HostRuntime) -> ExitCode {
             let mut source = StdSource::new(rt.stdin());
             let mut sink = StdSink::new(rt.stdout());
             let gate = OpenGate::new();
-            query_main(&rt, rt.alloc(), &words, &mut source, &mut sink, &gate).status
+            let report = query_main(&rt, rt.alloc(), &words, &mut source, &mut sink, &gate);
+            report.status
         }
         Err(status) => status,
     };

@@ -1,49 +1,75 @@
-ghost use Rattle.std.specs.Prelude.{◌≡◌, ◌++◌, ◌∷◌, [], IfOk, OnOk, map};
+ghost use Rattle.std.specs.Prelude.{◌≡◌, ◌++◌, ◌∷◌, [], IfOk, List, OnOk, Option, map, option_copied};
 ghost use Rattle.std.specs.Option.{option_to_list};
+ghost use Rattle.std.specs.Vec.Iter.{into_iter_items};
+ghost use Rattle.query_model.specs.declared.line.Line.{Line};
 ghost use Rattle.query_model.specs.Documents.{doc_of_line, docs_of};
-ghost use Rattle.folly_query.specs.Steps.{step_of};
+ghost use Rattle.folly_query.specs.Joining.{joined, other_of};
 
 use fan_base::{Doc, Docs, Memory};
-use query_model::{Input, Line, Query};
+use query_model::{Input, Line, Lines};
 use std::alloc::Global;
+use std::vec::IntoIter;
 
-/// What is left of a line once its document is with the others.
-#[derive(Debug, Drop)]
-pub enum Step {
-    Document,
-    Query(Query),
-    Tick(u32),
-    Cancel(u32),
-}
-
-/// The documents, and what is left of each line, in the order of the lines.
-pub fn split(alloc: Global, input: Input) -> Result<(Docs, Vec<Step>), Memory>
+/// The documents, and the other lines, with none in the place of each document.
+pub fn split(alloc: Global, input: Input) -> Result<(Docs, Vec<Option<Line>>), Memory>
     ensures docs { IfOk result (λ parts. parts.0 ≡ docs_of input.lines) }
-    ensures steps { IfOk result (λ parts. parts.1.items ≡ map step_of input.lines) }
+    ensures others { IfOk result (λ parts. parts.1.items ≡ map other_of input.lines) }
 {
     let mut docs = Docs::new(alloc);
-    let mut steps = Vec::new(alloc);
+    let mut others = Vec::new(alloc);
     for line in input.lines.into_vec() {
-        put_line(line, &mut docs, &mut steps)?;
+        put_line(line, &mut docs, &mut others)?;
     }
-    Ok((docs, steps))
+    Ok((docs, others))
+}
+
+/// The lines, with the documents back in their places. A place for which no document is left is left out.
+pub fn join(alloc: Global, docs: Docs, others: Vec<Option<Line>>) -> Result<Input, Memory>
+    ensures { IfOk result (λ input. input.lines ≡ joined others.items docs) }
+{
+    let mut docs = docs.into_vec().into_iter();
+    let mut lines = Vec::new(alloc);
+    for other in others {
+        put_next(other, &mut docs, &mut lines)?;
+    }
+    Ok(Input {
+        lines: Lines::from_vec(lines),
+    })
 }
 
 /// Puts a line behind the others.
-fn put_line(line: Line, docs: &mut Docs, steps: &mut Vec<Step>) -> Result<(), Memory>
+fn put_line(line: Line, docs: &mut Docs, others: &mut Vec<Option<Line>>) -> Result<(), Memory>
     ensures docs { OnOk result (docs.new ≡ docs.old ++ option_to_list (doc_of_line line)) }
-    ensures steps { OnOk result (steps.new.items ≡ steps.old.items ++ step_of line ∷ []) }
+    ensures others { OnOk result (others.new.items ≡ others.old.items ++ other_of line ∷ []) }
 {
-    let step = match line {
+    let other = match line {
         Line::Doc(doc) => {
             push_doc(docs, doc)?;
-            Step::Document
+            None
         }
-        Line::Query(query) => Step::Query(query),
-        Line::Tick(ticks) => Step::Tick(ticks),
-        Line::Cancel(number) => Step::Cancel(number),
+        Line::Query(query) => Some(Line::Query(query)),
+        Line::Tick(ticks) => Some(Line::Tick(ticks)),
+        Line::Cancel(number) => Some(Line::Cancel(number)),
     };
-    push_step(steps, step)
+    push(others, other)
+}
+
+/// Puts the next line behind the others: this one, or else that of the next document.
+fn put_next(
+    other: Option<Line>,
+    docs: &mut IntoIter<Doc>,
+    lines: &mut Vec<Line>,
+) -> Result<(), Memory>
+    ensures { (rest : List (Option Line)) → OnOk result
+        (lines.new.items ++ joined rest (into_iter_items docs.new) ≡ lines.old.items ++ joined (other ∷ rest) (into_iter_items docs.old)) }
+{
+    match other {
+        Some(line) => push(lines, line),
+        None => match docs.next() {
+            Some(doc) => push(lines, Line::Doc(doc)),
+            None => Ok(()),
+        },
+    }
 }
 
 fn push_doc(docs: &mut Docs, doc: Doc) -> Result<(), Memory>
@@ -55,10 +81,10 @@ fn push_doc(docs: &mut Docs, doc: Doc) -> Result<(), Memory>
     }
 }
 
-fn push_step(steps: &mut Vec<Step>, step: Step) -> Result<(), Memory>
-    ensures { OnOk result (steps.new.items ≡ steps.old.items ++ step ∷ []) }
+fn push<X: Drop>(items: &mut Vec<X>, item: X) -> Result<(), Memory>
+    ensures { OnOk result (items.new.items ≡ items.old.items ++ item ∷ []) }
 {
-    match steps.push(step) {
+    match items.push(item) {
         Ok(()) => Ok(()),
         Err(_) => Err(Memory),
     }

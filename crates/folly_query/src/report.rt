@@ -1,4 +1,8 @@
+use core_word::Tally;
+use fanout::{FanEnd, FanOutcome};
 use query_model::BadInput;
+use run_notes::{Notes, PoolNote};
+use std::alloc::Global;
 
 /// How a run ended.
 #[derive(Clone, Copy, Debug, PartialEq, Eq)]
@@ -20,9 +24,59 @@ pub enum Status {
 }
 
 /// What a run tells of itself.
-#[derive(Debug, Drop)]
+#[derive(Drop)]
 pub struct Report {
     pub status: Status,
+    /// What became of the tasks. None where the words or the input weren't accepted, or memory ran out before.
+    pub pool: Option<PoolNote>,
+    /// What the queue of each event base had: of those that gather, by executor, and of the printer's.
+    pub queues: Notes,
+    /// What became of the cores.
+    pub tally: Tally,
+}
+
+impl Report {
+    ghost use Rattle.std.specs.Prelude.{◌≡◌};
+    ghost use Rattle.folly_query.specs.Reports.{TellsNothing, status_of};
+
+    /// The report where nothing was run.
+    pub fn empty(alloc: Global, status: Status) -> Report
+        ensures status { result.status ≡ status }
+        ensures nothing { TellsNothing result }
+    {
+        Report {
+            status,
+            pool: None,
+            queues: Notes::new(alloc),
+            tally: Tally::new(),
+        }
+    }
+
+    /// The report of a run that has ended.
+    pub fn of_run(end: FanEnd) -> Report
+        ensures status { result.status ≡ status_of end.outcome }
+        ensures pool { result.pool ≡ end.pool }
+        ensures queues { result.queues ≡ end.queues }
+        ensures tally { result.tally ≡ end.tally }
+    {
+        let FanEnd {
+            outcome,
+            pool,
+            queues,
+            tally,
+        } = end;
+        let status = match outcome {
+            FanOutcome::Done => Status::Done,
+            FanOutcome::Memory => Status::Memory,
+            FanOutcome::WriteFault => Status::WriteFault,
+        };
+        Report {
+            status,
+            pool,
+            queues,
+            tally,
+        }
+    }
 }
 
 impl Status {

@@ -1,31 +1,32 @@
-ghost use Rattle.std.specs.Prelude.{◌≡◌, ◌≢◌, ◌≤◌, ◌↔◌, ◌⊎◌, IfOk, IfSome, OnOk, OnErr};
-ghost use Rattle.fan_base.specs.Outside.{FaultsRose, shown};
-ghost use Rattle.query_model.specs.Output.{error_text};
-ghost use Rattle.query_words.specs.declared.command.Generation.{Generation};
+ghost use Rattle.std.specs.Prelude.{◌≡◌, ◌≢◌, ◌↔◌, ◌⊎◌, IfSome, None};
+ghost use Rattle.fan_base.specs.Outside.{shown};
 ghost use Rattle.query_words.specs.declared.command.Settings.{Settings};
+ghost use Rattle.query_words.specs.declared.command.Generation.{Generation};
 ghost use Rattle.query_words.specs.Grammar.{IsCommand, IsOutside};
-ghost use Rattle.query_words.specs.Laws.{AreNumbersInRange};
-ghost use Rattle.reply_printer.specs.Passing.{Gains, GainsFront};
-ghost use Rattle.folly_query.specs.Endings.{Comes, EndsAs, SumsUpAs, summary_by};
+ghost use Rattle.query_words.specs.Laws.{AreSettingsInRange};
+ghost use Rattle.folly_query.specs.Endings.{Comes, EndsAs, ReadsAccepted, RefusesAs, SumsUpAs};
+ghost use Rattle.folly_query.specs.Reports.{IsRefusal, TellsNothing};
 
-use crate::answer::{AnswerEnd, answer, output_text};
+use crate::answer::answer;
 use crate::args::Args;
+use crate::generated::sum_up;
 use crate::read::{ReadEnd, read_all};
 use crate::report::{Report, Status};
 use fan_base::{Gate, Memory, Sink, Source};
-use query_gen::laws::generated_is_within_limits;
-use query_gen::{generate, summary_text};
 use query_model::laws::accepted_is_within_limits;
 use query_model::{BadInput, InputFault};
 use query_text::{error_line, read_input};
 use query_words::laws::{commands_are_in_range, words_are_at_most_one_command};
-use query_words::{Command, Generation};
+use query_words::{Command, Settings};
 use reply_printer::write_all;
 use std::alloc::Global;
+use std::sync::Wait;
+use std::thread::Threads;
 
 /// Does what the words ask for. For `run` it reads the source to its end, and writes the replies, or the error line of the first
 /// line that is refused. For `gen` it reads nothing, and writes the line that sums up the replies to the input that is made up.
-pub fn query_main<R, S: Source, K: Sink + Send, G: Gate>(
+/// The replies are made over threads, and the gate is called round each task. It may wait.
+pub fn query_main<S: Source, K: Sink + Send, G: Gate, R: Threads + Wait + Sync>(
     rt: &R,
     alloc: Global,
     words: &Args,
@@ -40,10 +41,10 @@ pub fn query_main<R, S: Source, K: Sink + Send, G: Gate>(
     // Where a read fails or the source has too much, nothing is written.
     ensures unwritten { (result.status ≡ Status.ReadFault) ⊎ (result.status ≡ Status.TooLarge) → sink.new ≡ sink.old }
 
-    // What a run's status says of the source and the sink.
-    ensures ends { (settings : Settings) → IsCommand words.now (Command.Run settings) → EndsAs settings.shards
+    // What a run's status says of the source, the sink and the report.
+    ensures ends { (settings : Settings) → IsCommand words.now (Command.Run settings) → EndsAs settings
         (shown (S.left source.old) (S.faults source.old)) (shown (S.left source.new) (S.faults source.new))
-        (shown (K.holds sink.old) (K.faults sink.old)) (shown (K.holds sink.new) (K.faults sink.new)) result.status }
+        (shown (K.holds sink.old) (K.faults sink.old)) (shown (K.holds sink.new) (K.faults sink.new)) result }
 
     // Which status a run comes to, where the bytes of its source are known.
     ensures comes { (settings : Settings) → IsCommand words.now (Command.Run settings) → IfSome (S.left source.old) (λ bytes. Comes settings.shards bytes
@@ -52,102 +53,71 @@ pub fn query_main<R, S: Source, K: Sink + Send, G: Gate>(
 
     // What the status says where an input is made up. The source is left as it is.
     ensures sums_up { (generation : Generation) (settings : Settings) → IsCommand words.now (Command.Generate generation settings) →
-        SumsUpAs generation (shown (K.holds sink.old) (K.faults sink.old)) (shown (K.holds sink.new) (K.faults sink.new)) result.status }
+        SumsUpAs generation settings (shown (K.holds sink.old) (K.faults sink.old)) (shown (K.holds sink.new) (K.faults sink.new)) result }
     ensures unread { (generation : Generation) (settings : Settings) → IsCommand words.now (Command.Generate generation settings) → source.new ≡ source.old }
+
+    // Where the words or the input are refused nothing runs, and there is a pool only where they are accepted. Without a pool nothing is told.
+    ensures nothing { IsRefusal result.status → TellsNothing result }
+    ensures unmade { result.pool ≡ None → TellsNothing result }
+    ensures pool { (settings : Settings) → IsCommand words.now (Command.Run settings) → IfSome result.pool (λ _. ReadsAccepted settings.shards
+        (shown (S.left source.old) (S.faults source.old)) (shown (S.left source.new) (S.faults source.new))) }
 {
-    let _ = rt;
-    let _ = gate;
     words_are_at_most_one_command();
     commands_are_in_range();
-    let status = match words.command() {
-        Some(Command::Run(settings)) => run(alloc, settings.shards, source, sink),
+    match words.command() {
+        Some(Command::Run(settings)) => run(rt, alloc, settings, source, sink, gate),
         Some(Command::Generate(generation, settings)) => {
-            sum_up(alloc, generation, settings.shards, sink)
+            sum_up(rt, alloc, generation, settings, sink, gate)
         }
-        None => Status::Usage,
-    };
-    Report { status }
+        None => Report::empty(alloc, Status::Usage),
+    }
 }
 
-fn run<S: Source, K: Sink>(alloc: Global, shards: u32, source: &mut S, sink: &mut K) -> Status
-    requires some { 1 ≤ shards }
-    requires many { shards ≤ 64 }
-    ensures ends { EndsAs shards (shown (S.left source.old) (S.faults source.old)) (shown (S.left source.new) (S.faults source.new))
+/// Reads an input, and answers it or refuses it.
+fn run<S: Source, K: Sink + Send, G: Gate, R: Threads + Wait + Sync>(
+    rt: &R,
+    alloc: Global,
+    settings: Settings,
+    source: &mut S,
+    sink: &mut K,
+    gate: &G,
+) -> Report
+    requires { AreSettingsInRange settings }
+    ensures ends { EndsAs settings (shown (S.left source.old) (S.faults source.old)) (shown (S.left source.new) (S.faults source.new))
         (shown (K.holds sink.old) (K.faults sink.old)) (shown (K.holds sink.new) (K.faults sink.new)) result }
-    ensures comes { IfSome (S.left source.old) (λ bytes. Comes shards bytes (shown (S.left source.old) (S.faults source.old))
-        (shown (S.left source.new) (S.faults source.new)) (shown (K.holds sink.old) (K.faults sink.old)) (shown (K.holds sink.new) (K.faults sink.new)) result) }
-    ensures running { result ≢ Status.Usage }
-    ensures unwritten { (result ≡ Status.ReadFault) ⊎ (result ≡ Status.TooLarge) → sink.new ≡ sink.old }
+    ensures comes { IfSome (S.left source.old) (λ bytes. Comes settings.shards bytes (shown (S.left source.old) (S.faults source.old))
+        (shown (S.left source.new) (S.faults source.new)) (shown (K.holds sink.old) (K.faults sink.old)) (shown (K.holds sink.new) (K.faults sink.new)) result.status) }
+    ensures running { result.status ≢ Status.Usage }
+    ensures unwritten { (result.status ≡ Status.ReadFault) ⊎ (result.status ≡ Status.TooLarge) → sink.new ≡ sink.old }
+    ensures nothing { IsRefusal result.status → TellsNothing result }
+    ensures unmade { result.pool ≡ None → TellsNothing result }
+    ensures pool { IfSome result.pool (λ _. ReadsAccepted settings.shards
+        (shown (S.left source.old) (S.faults source.old)) (shown (S.left source.new) (S.faults source.new))) }
 {
     let text = match read_all(alloc, source) {
         Ok(text) => text,
-        Err(ReadEnd::Memory) => return Status::Memory,
-        Err(ReadEnd::Fault) => return Status::ReadFault,
-        Err(ReadEnd::TooLarge) => return Status::TooLarge,
+        Err(ReadEnd::Memory) => return Report::empty(alloc, Status::Memory),
+        Err(ReadEnd::Fault) => return Report::empty(alloc, Status::ReadFault),
+        Err(ReadEnd::TooLarge) => return Report::empty(alloc, Status::TooLarge),
     };
-    let input = match read_input(alloc, text.as_slice(), shards) {
+    let input = match read_input(alloc, text.as_slice(), settings.shards) {
         Ok(input) => input,
-        Err(InputFault::Memory) => return Status::Memory,
-        Err(InputFault::Bad(bad)) => {
-            return match refuse(alloc, &bad, sink) {
-                Ok(()) => Status::BadInput(bad),
-                Err(Memory) => Status::Memory,
-            };
-        }
+        Err(InputFault::Memory) => return Report::empty(alloc, Status::Memory),
+        Err(InputFault::Bad(bad)) => return Report::empty(alloc, refuse(alloc, bad, sink)),
     };
     accepted_is_within_limits();
     drop(text);
-    match answer(alloc, input, shards, sink) {
-        Ok(()) => Status::Done,
-        Err(AnswerEnd::Memory) => Status::Memory,
-        Err(AnswerEnd::WriteFault) => Status::WriteFault,
-    }
+    Report::of_run(answer(rt, alloc, input, settings, sink, gate))
 }
 
-/// Writes the error line, as far as the sink takes it.
-fn refuse<K: Sink>(alloc: Global, bad: &BadInput, sink: &mut K) -> Result<(), Memory>
-    ensures written { OnOk result (Gains (shown (K.holds sink.old) (K.faults sink.old)) (shown (K.holds sink.new) (K.faults sink.new)) (error_text bad.now)
-        ⊎ (GainsFront (shown (K.holds sink.old) (K.faults sink.old)) (shown (K.holds sink.new) (K.faults sink.new)) (error_text bad.now) × FaultsRose (K.faults sink.old) (K.faults sink.new))) }
-    ensures untouched { OnErr result (sink.new ≡ sink.old) }
+/// Writes the error line of a refusal, as far as the sink takes it, and gives the status.
+fn refuse<K: Sink>(alloc: Global, bad: BadInput, sink: &mut K) -> Status
+    ensures ends { RefusesAs bad (shown (K.holds sink.old) (K.faults sink.old)) (shown (K.holds sink.new) (K.faults sink.new)) result }
 {
-    let line = error_line(alloc, bad)?;
-    let _ = write_all(sink, line.as_slice());
-    Ok(())
-}
-
-/// Writes the line that sums up the replies to the input that is made up by these numbers.
-fn sum_up<K: Sink>(alloc: Global, generation: Generation, shards: u32, sink: &mut K) -> Status
-    requires numbers { AreNumbersInRange generation }
-    requires some { 1 ≤ shards }
-    requires many { shards ≤ 64 }
-    ensures ends { SumsUpAs generation (shown (K.holds sink.old) (K.faults sink.old)) (shown (K.holds sink.new) (K.faults sink.new)) result }
-    ensures running { result ≢ Status.Usage }
-{
-    let line = match summary_of(alloc, generation, shards) {
+    let line = match error_line(alloc, &bad) {
         Ok(line) => line,
         Err(Memory) => return Status::Memory,
     };
-    match write_all(sink, line.as_slice()) {
-        Ok(()) => Status::Done,
-        Err(_) => Status::WriteFault,
-    }
-}
-
-/// The line that sums up the replies to the input that is made up by these numbers.
-#[tactic(auto, unfolding(query_model::specs::Generated::summary_line))]
-fn summary_of(alloc: Global, generation: Generation, shards: u32) -> Result<Vec<u8>, Memory>
-    requires numbers { AreNumbersInRange generation }
-    requires some { 1 ≤ shards }
-    requires many { shards ≤ 64 }
-    ensures { IfOk result (λ line. line.items ≡ summary_by generation) }
-{
-    generated_is_within_limits();
-    let Generation {
-        seed,
-        docs,
-        queries,
-    } = generation;
-    let input = generate(alloc, seed, docs, queries)?;
-    let replies = output_text(alloc, input, shards)?;
-    summary_text(alloc, docs, queries, replies.as_slice())
+    let _ = write_all(sink, line.as_slice());
+    Status::BadInput(bad)
 }

@@ -4,7 +4,12 @@ use crate::run::query_main;
 use fan_base::{MemSink, MemSource, OpenGate, Source};
 use std::alloc::{AllocGlobal, Global};
 use std::process::Abort;
+use std::sync::Wait;
 use std::test::Fail;
+use std::thread::Threads;
+
+mod gates;
+mod reports;
 
 /// What must come of words and an input.
 #[derive(Clone, Copy, Debug)]
@@ -33,6 +38,10 @@ fn refused(input: &'static str, output: &'static str) -> Row {
 }
 
 const RED: &str = "doc 7 red apple\ndoc 4 red\nfind red\n";
+
+// 17 times the same query.
+const MANY_RED: &str =
+    "doc 7 red apple\ndoc 4 red\nfind red\nfind red\nfind red\nfind red\nfind red\nfind red\nfind red\nfind red\nfind red\nfind red\nfind red\nfind red\nfind red\nfind red\nfind red\nfind red\nfind red\n";
 
 fn answers() -> [Row; 14] {
     [
@@ -172,24 +181,28 @@ fn args(alloc: Global, words: &str) -> Result<Args, Fail> {
     Ok(args)
 }
 
-fn status_of(
-    alloc: Global,
+fn status_of<R: AllocGlobal + Threads + Wait + Sync>(
+    rt: &R,
     words: &str,
     source: &mut MemSource,
     sink: &mut MemSink,
 ) -> Result<Status, Fail> {
-    let words = args(alloc, words)?;
-    Ok(query_main(&(), alloc, &words, source, sink, &OpenGate::new()).status)
+    let words = args(rt.alloc(), words)?;
+    let report = query_main(rt, rt.alloc(), &words, source, sink, &OpenGate::new());
+    Ok(report.status)
 }
 
 /// Runs each row, over a source and a sink that take few bytes at a time.
-fn check_rows(rt: &(impl AllocGlobal + Abort), rows: &[Row]) -> Result<(), Fail> {
+fn check_rows<R: AllocGlobal + Abort + Threads + Wait + Sync>(
+    rt: &R,
+    rows: &[Row],
+) -> Result<(), Fail> {
     let alloc = rt.alloc();
     for row in rows {
         let input = Vec::from_slice(alloc, row.input.as_bytes())?;
         let mut source = MemSource::new(input, 5, Vec::new(alloc));
         let mut sink = MemSink::new(alloc, 1000, 10, Vec::new(alloc))?;
-        let status = status_of(alloc, row.words, &mut source, &mut sink)?;
+        let status = status_of(rt, row.words, &mut source, &mut sink)?;
         assert_eq!(rt; status.number(), row.status, "{row:?}");
         assert_eq!(rt; sink.bytes(), row.output.as_bytes(), "{row:?}");
     }
@@ -229,9 +242,13 @@ fn a_generated_input_is_summed_up_over_each_number_of_shards(rt: HostRuntime) ->
 }
 
 // The run over two documents and one query, with this source and sink: its status, and what was written.
-fn red(alloc: Global, mut source: MemSource, mut sink: MemSink) -> Result<(Status, Vec<u8>), Fail> {
-    let status = status_of(alloc, "run", &mut source, &mut sink)?;
-    Ok((status, sink.bytes().to_vec(alloc)?))
+fn red<R: AllocGlobal + Threads + Wait + Sync>(
+    rt: &R,
+    mut source: MemSource,
+    mut sink: MemSink,
+) -> Result<(Status, Vec<u8>), Fail> {
+    let status = status_of(rt, "run", &mut source, &mut sink)?;
+    Ok((status, sink.bytes().to_vec(rt.alloc())?))
 }
 
 #[test]
@@ -241,7 +258,7 @@ fn a_read_fails_at_each_call(rt: HostRuntime) -> Result<(), Fail> {
         let input = Vec::from_slice(alloc, RED.as_bytes())?;
         let source = MemSource::new(input, 5, vec![in alloc; call; 1]?);
         let sink = MemSink::new(alloc, 100, 10, Vec::new(alloc))?;
-        let (status, written) = red(alloc, source, sink)?;
+        let (status, written) = red(&rt, source, sink)?;
         assert_eq!(rt; status, Status::ReadFault, "{call}");
         assert!(rt; written.is_empty());
     }
@@ -256,13 +273,13 @@ fn a_write_fails_at_each_byte(rt: HostRuntime) -> Result<(), Fail> {
         let input = Vec::from_slice(alloc, RED.as_bytes())?;
         let source = MemSource::new(input, 100, Vec::new(alloc));
         let sink = MemSink::new(alloc, 100, 1, vec![in alloc; size as u64; 1]?)?;
-        let (status, written) = red(alloc, source, sink)?;
+        let (status, written) = red(&rt, source, sink)?;
         assert_eq!(rt; status, Status::WriteFault, "{size}");
         assert_eq!(rt; written.as_slice(), &output[..size]);
         let input = Vec::from_slice(alloc, RED.as_bytes())?;
         let source = MemSource::new(input, 100, Vec::new(alloc));
         let sink = MemSink::new(alloc, size, 10, Vec::new(alloc))?;
-        let (status, written) = red(alloc, source, sink)?;
+        let (status, written) = red(&rt, source, sink)?;
         assert_eq!(rt; status, Status::WriteFault, "{size}");
         assert_eq!(rt; written.as_slice(), &output[..size]);
     }
@@ -275,7 +292,7 @@ fn an_error_line_is_cut(rt: HostRuntime) -> Result<(), Fail> {
     let input = Vec::from_slice(alloc, b"find (a | b\n")?;
     let mut source = MemSource::new(input, 100, Vec::new(alloc));
     let mut sink = MemSink::new(alloc, 5, 10, Vec::new(alloc))?;
-    let status = status_of(alloc, "run", &mut source, &mut sink)?;
+    let status = status_of(&rt, "run", &mut source, &mut sink)?;
     assert_eq!(rt; status.number(), 3);
     assert_eq!(rt; sink.bytes(), b"error".as_slice());
     Ok(())
@@ -287,7 +304,7 @@ fn nothing_is_read_behind_a_failed_read(rt: HostRuntime) -> Result<(), Fail> {
     let input = Vec::from_slice(alloc, RED.as_bytes())?;
     let mut source = MemSource::new(input, 5, Vec::from_slice(alloc, &[1])?);
     let mut sink = MemSink::new(alloc, 1000, 1000, Vec::new(alloc))?;
-    let status = status_of(alloc, "run", &mut source, &mut sink)?;
+    let status = status_of(&rt, "run", &mut source, &mut sink)?;
     assert_eq!(rt; status, Status::ReadFault);
     let mut left = [0; 5];
     assert_eq!(rt; source.read(&mut left), Ok(5));
@@ -304,7 +321,7 @@ fn too_many_tasks(rt: HostRuntime) -> Result<(), Fail> {
     }
     let mut source = MemSource::new(input.into_bytes(), 70_000, Vec::new(alloc));
     let mut sink = MemSink::new(alloc, 1000, 1000, Vec::new(alloc))?;
-    let status = status_of(alloc, "run --shards 64", &mut source, &mut sink)?;
+    let status = status_of(&rt, "run --shards 64", &mut source, &mut sink)?;
     assert_eq!(rt; status.number(), 3);
     let wanted = b"error line 4097: too many tasks\n".as_slice();
     assert_eq!(rt; sink.bytes(), wanted);
@@ -326,24 +343,28 @@ fn one_hundred_ids_are_listed(rt: HostRuntime) -> Result<(), Fail> {
     output.push_str("\n")?;
     let mut source = MemSource::new(input.into_bytes(), 70_000, Vec::new(alloc));
     let mut sink = MemSink::new(alloc, 1000, 1000, Vec::new(alloc))?;
-    let status = status_of(alloc, "run", &mut source, &mut sink)?;
+    let status = status_of(&rt, "run", &mut source, &mut sink)?;
     assert_eq!(rt; status, Status::Done);
     assert_eq!(rt; sink.bytes(), output.as_bytes());
     Ok(())
 }
 
 // One comment of so many bytes: the status that it comes to, and how many bytes are written.
-fn comment_of(alloc: Global, size: usize) -> Result<(Status, usize), Fail> {
+fn comment_of<R: AllocGlobal + Threads + Wait + Sync>(
+    rt: &R,
+    size: usize,
+) -> Result<(Status, usize), Fail> {
+    let alloc = rt.alloc();
     let input = vec![in alloc; b'#'; size]?;
     let mut source = MemSource::new(input, 70_000, Vec::new(alloc));
     let mut sink = MemSink::new(alloc, 1000, 1000, Vec::new(alloc))?;
-    let status = status_of(alloc, "run", &mut source, &mut sink)?;
+    let status = status_of(rt, "run", &mut source, &mut sink)?;
     Ok((status, sink.bytes().len()))
 }
 
 #[test]
 fn largest_input_and_one_byte_more(rt: HostRuntime) -> Result<(), Fail> {
-    assert_eq!(rt; comment_of(rt.alloc(), 67_108_864)?, (Status::Done, 0));
-    assert_eq!(rt; comment_of(rt.alloc(), 67_108_865)?, (Status::TooLarge, 0));
+    assert_eq!(rt; comment_of(&rt, 67_108_864)?, (Status::Done, 0));
+    assert_eq!(rt; comment_of(&rt, 67_108_865)?, (Status::TooLarge, 0));
     Ok(())
 }

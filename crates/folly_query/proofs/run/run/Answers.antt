@@ -1,14 +1,20 @@
 use Rattle.std.proofs.Common.{Err, sym, ap, subst}
-use Rattle.std.specs.Option.{IfSome}
 use Rattle.fan_base.specs.Outside.{shown}
 use Rattle.query_text.specs.Outcomes.{IsInput, IsRefusal}
-use Rattle.folly_query.specs.declared.report.Status.{Status}
-use Rattle.folly_query.specs.declared.report.Status.TheVariants as status
-use Rattle.folly_query.specs.Endings.{Comes}
+use Rattle.folly_query.specs.Endings.{RefusesAs}
 use Rattle.folly_query.specs.Passing.{ReadsAll}
-use Rattle.folly_query.proofs.EndingLemmas.{known_comes, refused_comes, memory_comes, done_comes, write_fault_comes, answer_memory_ends}
+use Rattle.folly_query.proofs.EndingLemmas.{refusal_comes, refused_ends, run_comes, run_ends}
 use Rattle.folly_query.proofs.run.run.Goals as goal
-use Rattle.folly_query.proofs.run.run.Goals.{in-Ok-refuse, in-Err}
+
+pub returns-in-Err-Bad-clause-ends : goal.returns-in-Err-Bad-clause-ends
+returns-in-Err-Bad-clause-ends g c =
+    let source = shown (g.S.Source.left c.args.source.now) (g.S.Source.faults c.args.source.now) in
+    let source' = shown (g.S.Source.left c.read_all.new.source) (g.S.Source.faults c.read_all.new.source) in
+    let sink = shown (g.K.Sink.holds c.args.sink.now) (g.K.Sink.faults c.args.sink.now) in
+    let sink' = shown (g.K.Sink.holds c.refuse.new.sink) (g.K.Sink.faults c.refuse.new.sink) in
+    let all = subst (λ t. ReadsAll source source' t) (sym c.as_slice.ensures.value) c.in-Ok.ensures.all in
+    refused_ends c.args.settings source source' sink sink' c.as_slice.result.now c.in-Err-Bad.bad c.empty-in-Err-Bad.result c.refuse.result c.empty-in-Err-Bad.ensures.status all
+    (c.in-Err-Bad.ensures.refused c.in-Err-Bad.bad (ap (λ e. Err e) c.in-Err-Bad.field-0-is)) (subst (λ b. RefusesAs b sink sink' c.refuse.result) c.in-Err-Bad.bad-is c.refuse.ensures.ends)
 
 pub returns-in-Err-Bad-clause-comes : goal.returns-in-Err-Bad-clause-comes
 returns-in-Err-Bad-clause-comes g c =
@@ -16,44 +22,29 @@ returns-in-Err-Bad-clause-comes g c =
     let source' = shown (g.S.Source.left c.read_all.new.source) (g.S.Source.faults c.read_all.new.source) in
     let sink = shown (g.K.Sink.holds c.args.sink.now) (g.K.Sink.faults c.args.sink.now) in
     let sink' = shown (g.K.Sink.holds c.refuse.new.sink) (g.K.Sink.faults c.refuse.new.sink) in
-    let comes : Status → Type 0 = λ found. IfSome source.bytes (λ bytes. Comes c.args.shards bytes source source' sink sink' found) in
     let all = subst (λ t. ReadsAll source source' t) (sym c.as_slice.ensures.value) c.in-Ok.ensures.all in
-    elim c.match-refuse.branch [
-      | in-Ok-refuse w ↦ subst comes (sym w.result-is)
-          (known_comes c.args.shards source source' sink sink' (status.BadInput c.in-Err-Bad.bad)
-          (λ bytes known. refused_comes c.args.shards source source' sink sink' bytes c.as_slice.result.now c.in-Err-Bad.bad known all
-          (λ input a. subst (λ e. IsInput (Err e) input) c.in-Err-Bad.field-0-is (c.in-Err-Bad.ensures.accepts input a))
-          (λ other r. subst (λ e. IsRefusal (Err e) other) c.in-Err-Bad.field-0-is (c.in-Err-Bad.ensures.refuses other r))))
-      | in-Err w ↦ subst comes (sym w.result-is)
-          (known_comes c.args.shards source source' sink sink' status.Memory (λ bytes known. memory_comes c.args.shards source source' sink sink' bytes))
-    ]
+    refusal_comes c.args.settings source source' sink sink' c.as_slice.result.now c.in-Err-Bad.bad c.empty-in-Err-Bad.result.status c.refuse.result c.empty-in-Err-Bad.ensures.status all
+    (λ input a. subst (λ e. IsInput (Err e) input) c.in-Err-Bad.field-0-is (c.in-Err-Bad.ensures.accepts input a))
+    (λ other r. subst (λ e. IsRefusal (Err e) other) c.in-Err-Bad.field-0-is (c.in-Err-Bad.ensures.refuses other r))
+    (subst (λ b. RefusesAs b sink sink' c.refuse.result) c.in-Err-Bad.bad-is c.refuse.ensures.ends)
 
-pub returns-in-Ok-answer-clause-comes : goal.returns-in-Ok-answer-clause-comes
-returns-in-Ok-answer-clause-comes g c =
+pub returns-clause-ends : goal.returns-clause-ends
+returns-clause-ends g c =
     let source = shown (g.S.Source.left c.args.source.now) (g.S.Source.faults c.args.source.now) in
     let source' = shown (g.S.Source.left c.read_all.new.source) (g.S.Source.faults c.read_all.new.source) in
     let sink = shown (g.K.Sink.holds c.args.sink.now) (g.K.Sink.faults c.args.sink.now) in
     let sink' = shown (g.K.Sink.holds c.answer.new.sink) (g.K.Sink.faults c.answer.new.sink) in
     let all = subst (λ t. ReadsAll source source' t) (sym c.as_slice.ensures.value) c.in-Ok.ensures.all in
-    known_comes c.args.shards source source' sink sink' status.Done
-    (λ bytes known. done_comes c.args.shards source source' sink sink' bytes c.as_slice.result.now known all (λ bad r. c.in-Ok-read_input.ensures.refuses bad r))
+    run_ends c.args.settings source source' sink sink' c.as_slice.result.now c.in-Ok-read_input.input c.of_run.result c.answer.result
+    (record { status = c.of_run.ensures.status; pool = c.of_run.ensures.pool; queues = c.of_run.ensures.queues; tally = c.of_run.ensures.tally })
+    all c.in-Ok-read_input.ensures.accepted c.answer.ensures.writes c.answer.ensures.reports
 
-pub returns-in-Err-Memory-answer-clause-ends : goal.returns-in-Err-Memory-answer-clause-ends
-returns-in-Err-Memory-answer-clause-ends g c =
+pub returns-clause-comes : goal.returns-clause-comes
+returns-clause-comes g c =
     let source = shown (g.S.Source.left c.args.source.now) (g.S.Source.faults c.args.source.now) in
     let source' = shown (g.S.Source.left c.read_all.new.source) (g.S.Source.faults c.read_all.new.source) in
     let sink = shown (g.K.Sink.holds c.args.sink.now) (g.K.Sink.faults c.args.sink.now) in
     let sink' = shown (g.K.Sink.holds c.answer.new.sink) (g.K.Sink.faults c.answer.new.sink) in
     let all = subst (λ t. ReadsAll source source' t) (sym c.as_slice.ensures.value) c.in-Ok.ensures.all in
-    answer_memory_ends c.args.shards source source' sink sink' c.as_slice.result.now c.in-Ok-read_input.input all c.in-Ok-read_input.ensures.accepted c.in-Err-Memory-answer.ensures.front
-
-pub returns-in-Err-WriteFault-clause-comes : goal.returns-in-Err-WriteFault-clause-comes
-returns-in-Err-WriteFault-clause-comes g c =
-    let source = shown (g.S.Source.left c.args.source.now) (g.S.Source.faults c.args.source.now) in
-    let source' = shown (g.S.Source.left c.read_all.new.source) (g.S.Source.faults c.read_all.new.source) in
-    let sink = shown (g.K.Sink.holds c.args.sink.now) (g.K.Sink.faults c.args.sink.now) in
-    let sink' = shown (g.K.Sink.holds c.answer.new.sink) (g.K.Sink.faults c.answer.new.sink) in
-    let all = subst (λ t. ReadsAll source source' t) (sym c.as_slice.ensures.value) c.in-Ok.ensures.all in
-    known_comes c.args.shards source source' sink sink' status.WriteFault
-    (λ bytes known. write_fault_comes c.args.shards source source' sink sink' bytes c.as_slice.result.now known all (λ bad r. c.in-Ok-read_input.ensures.refuses bad r)
-    (c.in-Err-WriteFault.ensures.fault (ap (λ e. Err e) c.in-Err-WriteFault.field-0-is)))
+    run_comes c.args.settings source source' sink sink' c.as_slice.result.now c.in-Ok-read_input.input c.of_run.result.status c.answer.result.outcome c.of_run.ensures.status all
+    (λ bad r. c.in-Ok-read_input.ensures.refuses bad r) c.answer.ensures.writes

@@ -1,0 +1,4 @@
+pub mod Outcomes
+pub mod Sides
+pub mod Totals
+pub mod Starts

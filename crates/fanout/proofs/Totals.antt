@@ -1,0 +1,46 @@
+-- What was counted, and what a run has to count.
+use Rattle.std.proofs.Common.{◌≡◌, ℕ, Bool, true, false, List, ◌++◌, ◌∷◌, [], length, map, sym, ap, ◌∙◌, subst}
+use Rattle.std.specs.Prelude.{Some}
+use Rattle.std.specs.Bool.{OnTrue}
+use Rattle.event_base.specs.Seen.{NoteSeen}
+use Rattle.query_model.specs.Documents.{queries_of}
+use Rattle.query_model.specs.Order.{replies_of}
+use Rattle.core_word.specs.Count.{Counts}
+use Rattle.fan_model.specs.Answered.{answered_in, tops_in}
+use Rattle.fan_model.specs.Notes.{emptied, notes_of}
+use Rattle.fan_model.specs.Report.{Asking, IsPoolReport}
+use Rattle.fan_model.specs.Tasks.{printer_exec}
+use Rattle.fan_model.specs.Totals.{Totals, core_totals, totals_by}
+use Rattle.run_notes.specs.declared.counting.Counted.{Counted}
+use Rattle.run_notes.specs.declared.notes.PoolNote.{PoolNote}
+use Rattle.run_notes.specs.Counting.{HasCounted, totals_of}
+use Rattle.run_notes.specs.Told.{note_of, told_of}
+use Rattle.run_printing.specs.Ends.{IsWhole}
+use Rattle.fanout.specs.declared.run.FanEnd.{FanEnd}
+use Rattle.fanout.specs.Ends.{IsReported}
+
+pub on_true : (b : Bool) (P : Type 0) → P → OnTrue b P
+on_true true P p = p
+on_true false P p = tt
+
+pub held_true : (b : Bool) (P : Type 0) → b ≡ true → OnTrue b P → P
+held_true b P is on = subst (λ (x : Bool). OnTrue x P) is on
+
+pub cores_are : (asked : Asking) (counted : Counted) (shards : ℕ) (totals : Totals) → HasCounted asked.lines asked.bases counted → shards ≡ asked.shards → totals ≡ totals_by counted.answered counted.tops shards
+    → totals ≡ core_totals asked.lines asked.shards
+unfolding core_totals
+cores_are asked counted shards totals counts as_many is =
+    is ∙ (ap (λ (n : ℕ). totals_by n counted.tops shards) counts.answered ∙ (ap (λ (n : ℕ). totals_by (length (answered_in asked.lines)) n shards) counts.tops ∙ ap (λ (n : ℕ). totals_by (length (answered_in asked.lines)) (tops_in (answered_in asked.lines)) n) as_many))
+
+-- the printer's note is that of a queue that gave a message for each query
+pub printer_note : (asked : Asking) (n : NoteSeen) (counts : Counts) → IsWhole asked.lines (printer_exec asked.bases) n counts → length (replies_of asked.lines) ≡ length (queries_of asked.lines)
+    → note_of n ≡ emptied (printer_exec asked.bases) (length (queries_of asked.lines))
+printer_note asked n counts whole many = (λ i. record { exec = whole.exec i; put = (whole.put ∙ many) i; taken = (whole.taken ∙ many) i; left = whole.left i })
+
+pub reported : (asked : Asking) (end : FanEnd) (note : PoolNote) (notes : List NoteSeen) → end.pool ≡ Some note → IsPoolReport asked (told_of note) → end.queues ≡ notes → map note_of notes ≡ notes_of asked.lines asked.shards asked.bases
+    → totals_of end.tally ≡ core_totals asked.lines asked.shards → IsReported asked end
+reported asked end note notes pool report queues are cores = record {
+  note = note;
+  pool = pool;
+  report = record { pool = report; queues = ap (map note_of) queues ∙ are; cores = cores };
+}

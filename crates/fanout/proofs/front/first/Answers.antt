@@ -1,0 +1,13 @@
+use Rattle.fanout.proofs.front.first.Goals as goal
+
+pub returns : goal.returns
+returns g c = record {
+  added = c.first_phase.ensures.added;
+  pool_is = c.first_phase.ensures.pool;
+  passes = c.first_phase.ensures.passes;
+  stops = c.first_phase.ensures.stops;
+  helped = c.first_phase.ensures.helped;
+  front = c.first_phase.ensures.front;
+  printer = c.first_phase.ensures.printer;
+  keys = c.first_phase.ensures.keys;
+}

@@ -1,0 +1,13 @@
+use Rattle.fanout.proofs.levels.run_named.Goals as goal
+
+pub returns-in_default : goal.returns-in_default
+returns-in_default g c = c.refused.ensures _ _
+
+pub returns-in_default-count : goal.returns-in_default-count
+returns-in_default-count g c = c.refused-in_default-count.ensures _ _
+
+pub returns-in_default-new_homes : goal.returns-in_default-new_homes
+returns-in_default-new_homes g c = c.refused-in_default-new_homes.ensures _ _
+
+pub returns-in_default-keys_of : goal.returns-in_default-keys_of
+returns-in_default-keys_of g c = c.refused-in_default-keys_of.ensures _ _

@@ -1,0 +1,6 @@
+pub mod Ends
+pub mod Plans
+pub mod Homes
+pub mod First
+pub mod Fronts
+pub mod Closing

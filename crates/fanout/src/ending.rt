@@ -1,0 +1,148 @@
+ghost use Rattle.std.specs.Prelude.{◌≡◌, ◌++◌, ◌∷◌, [], true, false};
+ghost use Rattle.std.specs.Bool.{OnTrue};
+ghost use Rattle.fan_base.specs.Outside.{Shown};
+ghost use Rattle.fan_model.specs.Totals.{core_totals};
+ghost use Rattle.run_notes.specs.Counting.{ArePutBy, totals_of};
+ghost use Rattle.run_printing.specs.Ends.{HasPrinted};
+ghost use Rattle.run_setup.specs.Ids.{RunIds};
+ghost use Rattle.fanout.specs.Closing.{IsReadyToClose, outcome_by};
+ghost use Rattle.fanout.specs.Ends.{IsEndOf};
+ghost use Rattle.fanout.specs.Plans.{IsPlanned};
+
+use crate::front::SideEnd;
+use crate::plan::RunPlan;
+use crate::run::{FanEnd, FanOutcome};
+use core_cells::CellPass;
+use core_word::Tally;
+use event_base::QueueNote;
+use fan_model::laws::each_query_has_a_reply;
+use fan_parts::{PrintJob, RunName};
+use run_front::FrontEnds;
+use run_notes::{Notes, cores_agree, notes_are_those_of_the_run, puts_agree};
+use run_phases::FrontLeft;
+use run_plan::laws::turns_are_few;
+use run_printing::{PrintEnd, PrintOutcome, PrintStage};
+use run_setup::{Back, Closed, close_run, nothing_was_refused};
+use run_threads::GatherSlot;
+use std::alloc::Global;
+use std::sync::Wait;
+
+/// Closes all bases, compares what was counted with what the run has to count, and tells how it ended. Where the numbers don't agree, or a
+/// stage notes want of memory, the outcome is want of memory.
+pub(crate) fn put_together<'t, 'd: 't, 'r: 'd, 'i: 'r, 'l, 'g, N: RunName, G, R: Wait>(
+    rt: &R,
+    alloc: Global,
+    plan: &RunPlan<'l, 'g, N, G>,
+    back: Back<'t, 'd, 'r, 'i, N>,
+    gatherers: Vec<GatherSlot<'d, 'r, 'i, N>>,
+    printed: PrintStage<PrintJob<N>>,
+    end: SideEnd<'t, 'd, 'r, 'i, N>,
+) -> FanEnd
+    requires plan { IsPlanned N.asked plan.now.lines.now plan.now.turns.now plan.now.counted.now plan.now.stop plan.now.knobs }
+    requires ready { (ids : RunIds) × IsReadyToClose N.asked ids back gatherers.items printed end }
+    ensures { (start now : Shown) → HasPrinted N.asked.lines start now printed → IsEndOf N.asked start now result }
+{
+    each_query_has_a_reply();
+    turns_are_few();
+    notes_are_those_of_the_run();
+    nothing_was_refused::<N>();
+    let SideEnd { worlds, left } = end;
+    let FrontLeft {
+        note,
+        ends,
+        refused,
+    } = left;
+    let FrontEnds {
+        tasks,
+        printer: poster,
+        tally,
+    } = ends;
+    let queries = plan.turns.len() as u64;
+    let Closed {
+        notes,
+        print,
+        tally: others,
+        refused: missed,
+        passes,
+    } = close_run(rt, back, gatherers, printed, worlds, tasks, poster, queries);
+    let PrintEnd {
+        outcome,
+        queue,
+        tally: printing,
+    } = print;
+    let_go(passes);
+    let tally = tally.merge(others).merge(printing);
+    let agrees = agree(plan, &tally, notes.as_slice());
+    let (queues, listed) = list_notes(alloc, notes, queue);
+    let fine = is_fine(agrees, listed, refused, missed);
+    FanEnd {
+        outcome: outcome_if(fine, outcome),
+        pool: Some(note),
+        queues,
+        tally,
+    }
+}
+
+/// Lets passes of cells go.
+fn let_go<'h, T, C, P>(passes: Vec<CellPass<'h, T, C, P>>) {
+    drop(passes);
+}
+
+/// Whether as many cores were made, handed over, forwarded, freed and used again, and as many messages were put to each gathering base, as so
+/// many answered queries come to.
+fn agree<'l, 'g, N: RunName, G>(
+    plan: &RunPlan<'l, 'g, N, G>,
+    tally: &Tally,
+    notes: &[QueueNote],
+) -> bool
+    requires plan { IsPlanned N.asked plan.now.lines.now plan.now.turns.now plan.now.counted.now plan.now.stop plan.now.knobs }
+    ensures cores { OnTrue result (totals_of tally.now ≡ core_totals N.asked.lines N.asked.shards) }
+    ensures puts { OnTrue result (ArePutBy N.asked.shards plan.now.counted.now.by_base.items notes.now) }
+{
+    let shards = plan.shards.all().len() as u32;
+    cores_agree(plan.counted, shards, tally) && puts_agree(plan.counted, shards, notes)
+}
+
+/// Whether all numbers agree, all notes are listed, and nobody notes want of memory.
+fn is_fine(agrees: bool, listed: bool, refused: bool, missed: bool) -> bool
+    ensures { OnTrue result ((agrees ≡ true) × (listed ≡ true) × (refused ≡ false) × (missed ≡ false)) }
+{
+    agrees && listed && !refused && !missed
+}
+
+/// How the run ended: as printing did, where all is fine; else with want of memory.
+fn outcome_if(fine: bool, outcome: PrintOutcome) -> FanOutcome
+    ensures { result ≡ outcome_by fine outcome }
+{
+    if !fine {
+        return FanOutcome::Memory;
+    }
+    match outcome {
+        PrintOutcome::Done => FanOutcome::Done,
+        PrintOutcome::Memory => FanOutcome::Memory,
+        PrintOutcome::WriteFault => FanOutcome::WriteFault,
+    }
+}
+
+/// These notes, and the printer's behind them, and whether there was memory for all.
+fn list_notes(alloc: Global, gatherers: Vec<QueueNote>, printer: QueueNote) -> (Notes, bool)
+    ensures { OnTrue result.1 (result.0 ≡ gatherers.items ++ printer ∷ []) }
+{
+    let mut notes = Notes::new(alloc);
+    let mut listed = true;
+    for note in gatherers {
+        put_note(&mut notes, note, &mut listed);
+    }
+    put_note(&mut notes, printer, &mut listed);
+    (notes, listed)
+}
+
+/// Puts a note behind the others, or tells that there was no memory for it.
+fn put_note(notes: &mut Notes, note: QueueNote, listed: &mut bool)
+    ensures { OnTrue listed.new ((listed.old ≡ true) × (notes.new ≡ notes.old ++ note ∷ [])) }
+{
+    match notes.push(note) {
+        Ok(()) => {}
+        Err(_) => *listed = false,
+    }
+}

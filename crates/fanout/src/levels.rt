@@ -1,0 +1,281 @@
+ghost use Rattle.std.specs.Prelude.{◌≡◌, ◌<◌, ◌≤◌, false, length};
+ghost use Rattle.std.specs.List.{All};
+ghost use Rattle.core_word.specs.Seen.{SeenHome};
+ghost use Rattle.fan_base.specs.Outside.{shown};
+ghost use Rattle.query_model.specs.Documents.{IsWithinLimits, docs_of};
+ghost use Rattle.fan_model.specs.Answered.{answered_in, tops_in};
+ghost use Rattle.query_parts.specs.Parts.{AreShards};
+ghost use Rattle.fanout.specs.Ends.{AreKnobs, IsEndOf, asking_of};
+ghost use Rattle.fanout.specs.Homes.{AreEnough};
+ghost use Rattle.fanout.specs.Plans.{IsPlanned};
+
+use crate::inside::{FrontHomes, let_go_keys, run_over_cells};
+use crate::plan::RunPlan;
+use crate::run::{FanEnd, Knobs};
+use core_cells::Cells;
+use fan_base::{ExecId, Gate, Memory, Sink};
+use fan_parts::{InnerKey, PartDesk, ReplyHome, ReplyKey, RunName, RunShards, TaskHome};
+use query_model::Lines;
+use run_front::EmptySlots;
+use run_homes::{
+    close_desks, close_reply_homes, close_task_homes, empty_slots, keys_of, new_homes,
+};
+use run_plan::{count, plan, stop_place};
+use shard_index::Shard;
+use std::alloc::Global;
+use std::sync::Wait;
+use std::thread::Threads;
+
+// Homes, or those that were made before memory ran out.
+type MadeReplyHomes<'i, N> = Result<Vec<ReplyHome<'i, N>>, Vec<ReplyHome<'i, N>>>;
+
+type MadeTaskHomes<'d, 'r, 'i, N> = Result<
+    Vec<TaskHome<'d, 'r, 'i, N>>,
+    Vec<TaskHome<'d, 'r, 'i, N>>,
+>;
+
+// The most homes that the cores of tasks have.
+const MOST_CELLS: u64 = 65_536;
+
+/// Plans the run of this name, and makes the homes of its inner cores.
+pub(crate) fn run_named<
+    N: RunName + Send + Sync + 'static,
+    K: Sink + Send,
+    G: Gate,
+    R: Threads + Wait + Sync,
+>(
+    rt: &R,
+    alloc: Global,
+    lines: &Lines,
+    shards: &[Shard],
+    knobs: Knobs,
+    sink: &mut K,
+    gate: &G,
+) -> FanEnd
+    requires asked { N.asked ≡ asking_of lines.now (length shards.now) knobs }
+    requires limits { IsWithinLimits lines.now (length shards.now) }
+    requires shards { AreShards shards.now (docs_of lines.now) }
+    requires few { length shards.now ≤ 64 }
+    requires knobs { AreKnobs knobs }
+    ensures { IsEndOf N.asked (shown (K.holds sink.old) (K.faults sink.old)) (shown (K.holds sink.new) (K.faults sink.new)) result }
+{
+    let Ok(turns) = plan::<N, R>(rt, alloc, ExecId(knobs.bases + 2), lines) else {
+        return FanEnd::refused(alloc);
+    };
+    let Ok(counted) = count(alloc, lines, turns.as_slice(), knobs.bases) else {
+        return FanEnd::refused(alloc);
+    };
+    let Ok(mut homes) = new_homes(alloc, counted.tops as usize) else {
+        return FanEnd::refused(alloc);
+    };
+    let plan = RunPlan::<N, G> {
+        lines,
+        shards: RunShards::new(shards),
+        turns: turns.as_slice(),
+        counted: &counted,
+        stop: stop_place(turns.as_slice(), knobs.stop_at),
+        knobs,
+        gate,
+    };
+    let Ok(inners) = keys_of(alloc, homes.as_mut_slice()) else {
+        return FanEnd::refused(alloc);
+    };
+    over_inner_keys(rt, alloc, &plan, inners, sink)
+}
+
+/// Makes the homes of replies.
+fn over_inner_keys<
+    'i,
+    'l: 'i,
+    'g,
+    N: RunName + Send + Sync + 'static,
+    K: Sink + Send,
+    G: Gate,
+    R: Threads + Wait + Sync,
+>(
+    rt: &R,
+    alloc: Global,
+    plan: &RunPlan<'l, 'g, N, G>,
+    inners: Vec<InnerKey<'i, N>>,
+    sink: &mut K,
+) -> FanEnd
+    requires plan { IsPlanned N.asked plan.now.lines.now plan.now.turns.now plan.now.counted.now plan.now.stop plan.now.knobs }
+    requires inners { tops_in (answered_in N.asked.lines) ≤ length inners.items }
+    ensures { IsEndOf N.asked (shown (K.holds sink.old) (K.faults sink.old)) (shown (K.holds sink.new) (K.faults sink.new)) result }
+{
+    let made: MadeReplyHomes<'i, N> = new_homes(alloc, plan.counted.answered as usize);
+    match made {
+        Ok(mut homes) => {
+            let end = over_reply_homes(rt, alloc, &*plan, homes.as_mut_slice(), inners, sink);
+            close_reply_homes(homes);
+            end
+        }
+        Err(homes) => {
+            close_reply_homes(homes);
+            FanEnd::refused(alloc)
+        }
+    }
+}
+
+/// Takes the keys of the homes of replies.
+fn over_reply_homes<
+    'r,
+    'i: 'r,
+    'l: 'i,
+    'g,
+    N: RunName + Send + Sync + 'static,
+    K: Sink + Send,
+    G: Gate,
+    R: Threads + Wait + Sync,
+>(
+    rt: &R,
+    alloc: Global,
+    plan: &RunPlan<'l, 'g, N, G>,
+    homes: &'r mut [ReplyHome<'i, N>],
+    inners: Vec<InnerKey<'i, N>>,
+    sink: &mut K,
+) -> FanEnd
+    requires plan { IsPlanned N.asked plan.now.lines.now plan.now.turns.now plan.now.counted.now plan.now.stop plan.now.knobs }
+    requires untaken { All (λ (home : SeenHome). home.taken ≡ false) homes.old }
+    requires homes { length (answered_in N.asked.lines) ≤ length homes.old }
+    requires inners { tops_in (answered_in N.asked.lines) ≤ length inners.items }
+    ensures { IsEndOf N.asked (shown (K.holds sink.old) (K.faults sink.old)) (shown (K.holds sink.new) (K.faults sink.new)) result }
+{
+    match keys_of(alloc, homes) {
+        Ok(replies) => over_reply_keys(rt, alloc, &*plan, replies, inners, sink),
+        Err(Memory) => FanEnd::refused(alloc),
+    }
+}
+
+/// Makes the slots of desks.
+fn over_reply_keys<
+    'r,
+    'i: 'r,
+    'l: 'i,
+    'g,
+    N: RunName + Send + Sync + 'static,
+    K: Sink + Send,
+    G: Gate,
+    R: Threads + Wait + Sync,
+>(
+    rt: &R,
+    alloc: Global,
+    plan: &RunPlan<'l, 'g, N, G>,
+    replies: Vec<ReplyKey<'r, 'i, N>>,
+    inners: Vec<InnerKey<'i, N>>,
+    sink: &mut K,
+) -> FanEnd
+    requires plan { IsPlanned N.asked plan.now.lines.now plan.now.turns.now plan.now.counted.now plan.now.stop plan.now.knobs }
+    requires replies { length (answered_in N.asked.lines) ≤ length replies.items }
+    requires inners { tops_in (answered_in N.asked.lines) ≤ length inners.items }
+    ensures { IsEndOf N.asked (shown (K.holds sink.old) (K.faults sink.old)) (shown (K.holds sink.new) (K.faults sink.new)) result }
+{
+    let made: Result<Vec<Option<PartDesk<'r, 'i, N>>>, Memory> = empty_slots(
+        alloc,
+        plan.counted.answered as usize,
+    );
+    match made {
+        Ok(mut slots) => {
+            let homes = FrontHomes {
+                desks: EmptySlots::new(slots.as_mut_slice()),
+                replies,
+                inners,
+            };
+            let end = over_desks(rt, alloc, &*plan, homes, sink);
+            close_desks(slots);
+            end
+        }
+        Err(Memory) => {
+            let_go_keys(replies);
+            FanEnd::refused(alloc)
+        }
+    }
+}
+
+/// Makes the homes of tasks.
+fn over_desks<
+    'd,
+    'r: 'd,
+    'i: 'r,
+    'l: 'i,
+    'g,
+    N: RunName + Send + Sync + 'static,
+    K: Sink + Send,
+    G: Gate,
+    R: Threads + Wait + Sync,
+>(
+    rt: &R,
+    alloc: Global,
+    plan: &RunPlan<'l, 'g, N, G>,
+    homes: FrontHomes<'d, 'r, 'i, N>,
+    sink: &mut K,
+) -> FanEnd
+    requires plan { IsPlanned N.asked plan.now.lines.now plan.now.turns.now plan.now.counted.now plan.now.stop plan.now.knobs }
+    requires homes { AreEnough N.asked homes }
+    ensures { IsEndOf N.asked (shown (K.holds sink.old) (K.faults sink.old)) (shown (K.holds sink.new) (K.faults sink.new)) result }
+{
+    let made: MadeTaskHomes<'d, 'r, 'i, N> = new_homes(alloc, plan.cells());
+    match made {
+        Ok(mut tasks) => {
+            let end = over_task_homes(rt, alloc, &*plan, tasks.as_mut_slice(), homes, sink);
+            close_task_homes(tasks);
+            end
+        }
+        Err(tasks) => {
+            close_task_homes(tasks);
+            homes.end();
+            FanEnd::refused(alloc)
+        }
+    }
+}
+
+/// Makes the cells of the tasks' cores.
+fn over_task_homes<
+    't,
+    'd: 't,
+    'r: 'd,
+    'i: 'r,
+    'l: 'i,
+    'g,
+    N: RunName + Send + Sync + 'static,
+    K: Sink + Send,
+    G: Gate,
+    R: Threads + Wait + Sync,
+>(
+    rt: &R,
+    alloc: Global,
+    plan: &RunPlan<'l, 'g, N, G>,
+    tasks: &'t mut [TaskHome<'d, 'r, 'i, N>],
+    homes: FrontHomes<'d, 'r, 'i, N>,
+    sink: &mut K,
+) -> FanEnd
+    requires plan { IsPlanned N.asked plan.now.lines.now plan.now.turns.now plan.now.counted.now plan.now.stop plan.now.knobs }
+    requires untaken { All (λ (home : SeenHome). home.taken ≡ false) tasks.old }
+    requires tasks { (0 < length tasks.old) × (length tasks.old ≤ 65536) }
+    requires homes { AreEnough N.asked homes }
+    ensures { IsEndOf N.asked (shown (K.holds sink.old) (K.faults sink.old)) (shown (K.holds sink.new) (K.faults sink.new)) result }
+{
+    let Ok((cells, passes)) = Cells::new(rt, alloc, tasks, plan.knobs.workers + 1) else {
+        homes.end();
+        return FanEnd::refused(alloc);
+    };
+    let end = run_over_cells(rt, alloc, &*plan, &cells, passes, homes, sink);
+    let_go(cells);
+    end
+}
+
+/// Lets cells go. Their homes are closed behind it.
+fn let_go<'h, T, C, P>(cells: Cells<'h, T, C, P>) {
+    drop(cells);
+}
+
+impl<'l, 'g, N: RunName, G> RunPlan<'l, 'g, N, G> {
+    /// How many homes the cores of tasks get: as many as there are tasks, 1 to 65,536.
+    fn cells(&self) -> usize
+        ensures { (0 < result) × (result ≤ 65536) }
+    {
+        let shards = self.shards.all().len() as u64;
+        let tasks = self.counted.answered.saturating_mul(shards);
+        tasks.clamp(1, MOST_CELLS) as usize
+    }
+}
