@@ -11,7 +11,7 @@ use core_word::Tally;
 use fan_base::{Gate, Memory, Sink};
 use fanout::{FanEnd, FanOutcome, Knobs, fan_run};
 use query_model::Input;
-use query_parts::build_shards;
+use query_parts::build_shards_beside;
 use query_words::Settings;
 use run_notes::Notes;
 use shard_index::Shard;
@@ -34,7 +34,7 @@ pub fn answer<K: Sink + Send, G: Gate, R: Threads + Wait + Sync>(
     ensures reports { Reports (asked_by settings input.lines) result }
     ensures unmade { result.pool ≡ None → TellsNoRun result }
 {
-    let (input, shards) = match with_shards(alloc, input, settings.shards) {
+    let (input, shards) = match with_shards(rt, alloc, input, settings.shards) {
         Ok(parts) => parts,
         Err(Memory) => return no_memory(alloc),
     };
@@ -59,8 +59,13 @@ fn no_memory(alloc: Global) -> FanEnd
     }
 }
 
-/// The input as it was, and so many shards of its documents.
-fn with_shards(alloc: Global, input: Input, shards: u32) -> Result<(Input, Vec<Shard>), Memory>
+/// The input as it was, and so many shards of its documents, built beside each other.
+fn with_shards<R: Threads + Sync>(
+    rt: &R,
+    alloc: Global,
+    input: Input,
+    shards: u32,
+) -> Result<(Input, Vec<Shard>), Memory>
     requires limits { IsWithinLimits input.lines shards }
     requires some { 1 ≤ shards }
     requires many { shards ≤ 64 }
@@ -69,7 +74,7 @@ fn with_shards(alloc: Global, input: Input, shards: u32) -> Result<(Input, Vec<S
     ensures many { IfOk result (λ made. length made.1.items ≡ shards) }
 {
     let (docs, others) = split(alloc, input)?;
-    let shards = build_shards(alloc, &docs, shards)?;
+    let shards = build_shards_beside(rt, alloc, &docs, shards)?;
     let input = join(alloc, docs, others)?;
     Ok((input, shards))
 }

@@ -12,6 +12,7 @@
 //! So the parts may be made anywhere, and in any order.
 #![tactic(auto)]
 
+pub use building::build_shards_beside;
 pub use laws::{documents_before_are_the_first, marks_are_counts};
 pub use merge::{Merged, merge_parts};
 pub use part::{PartAnswer, answer_part};
@@ -19,6 +20,7 @@ pub use ranking::Ranking;
 pub use whole::{answer_by_parts, build_shards};
 
 mod among;
+mod building;
 mod laws;
 mod merge;
 mod once;

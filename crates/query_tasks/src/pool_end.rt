@@ -1,5 +1,5 @@
 //! How the pool is ended.
-ghost use Rattle.std.specs.Prelude.{◌≡◌, ◌++◌, [], true, false};
+ghost use Rattle.std.specs.Prelude.{◌≡◌, ◌+◌, ◌<◌, ◌++◌, [], true, false, length};
 ghost use Rattle.pool_model.specs.declared.task.Ending.TheVariants.{Joins as PoolJoins, Stops as PoolStops};
 ghost use Rattle.pool_model.specs.Passes.{AreAllEnds, AreAllPasses};
 ghost use Rattle.prio_pool.specs.Begun.{HasBegun};
@@ -64,6 +64,7 @@ pub fn end_pool<'c, 't, 'd: 't, 'r: 'd, 'i: 'r, N: RunName + 'static, R: Wait>(
         AccountsFor (seen_of ending.entry).passes result }
     ensures stopped { result.ran.stopped ≡ is_stop ending.entry }
     ensures joined { is_stop ending.entry ≡ false → (result.returned ≡ []) × (result.missed ≡ false) }
+    ensures missed { result.missed ≡ true → length result.ran.records + length result.returned < result.accepted }
 {
     match ending {
         Ending::Joins(joining) => join_all(rt, alloc, pool, joining, ends, helped, world, &None),
@@ -154,6 +155,7 @@ fn stop_all<'c, 't, 'd: 't, 'r: 'd, 'i: 'r, N: RunName + 'static, R: Wait>(
     ensures account { world.new.refused ≡ false → AllDone (ends.entry.items ++ helped.entry.items) → result.missed ≡ false →
         AccountsFor stopping.entry.passes result }
     ensures stopped { result.ran.stopped ≡ true }
+    ensures missed { result.missed ≡ true → length result.ran.records + length result.returned < result.accepted }
 {
     end_stopped::<ShardTask<'t, 'd, 'r, 'i, N>, TaskWorld<'c, 't, 'd, 'r, 'i, N>, NoneRefused, R>(
         rt, alloc, pool, stopping, ends, helped, world,

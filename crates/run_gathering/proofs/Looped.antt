@@ -1,9 +1,11 @@
 -- What loops of a gathering base keep, one after another.
-use Rattle.std.proofs.Common.{◌≡◌, ℕ, Bool, false, refl, ap, ◌∙◌, subst}
+use Rattle.std.proofs.Common.{◌≡◌, ℕ, Bool, false, [], refl, ap, ◌∙◌, subst}
 use Rattle.core_word.specs.Count.{Counts}
 use Rattle.notify_queue.specs.Ends.{Sending}
+use Rattle.event_base.specs.Closing.{held_by}
 use Rattle.event_base.specs.Laws.{KeepsBase}
-use Rattle.event_base.specs.Seen.{BaseSeen}
+use Rattle.event_base.specs.Looping.{HoldsNoCallback}
+use Rattle.event_base.specs.Seen.{AgendaSeen, BaseSeen}
 use Rattle.fan_parts.specs.Seen.{PosterSeen}
 use Rattle.fan_parts.specs.declared.jobs.GatherJob.{GatherJob}
 use Rattle.fan_parts.specs.declared.jobs.PrintJob.{PrintJob}
@@ -11,6 +13,14 @@ use Rattle.run_gathering.specs.Seen.{GatheringSeen}
 use Rattle.run_gathering.specs.Gathering.{no_counts, HoldsScorings, TookIn}
 use Rattle.run_gathering.specs.Stages.{CameTo, IsSameBase}
 use Rattle.run_gathering.proofs.Firing.{took_none, took_more}
+
+-- no callback and no timer: nothing
+pub holds_nothing : {J : Type 0} (a : AgendaSeen J) → HoldsNoCallback a → a.wheel.timers ≡ [] → held_by a ≡ []
+holds_nothing a none timers =
+    ap (λ l. held_by (record a { before = l })) none.0
+    ∙ (ap (λ l. held_by (record a { before = []; loops = l })) none.1
+    ∙ (ap (λ l. held_by (record a { before = []; loops = []; later = l })) none.2
+    ∙ ap (λ ts. held_by (record a { before = []; loops = []; later = []; wheel = record a.wheel { timers = ts } })) timers))
 
 pub same_base : {J : Type 0} (ticks : ℕ) (old new : BaseSeen J) → KeepsBase ticks old new → IsSameBase old new
 same_base ticks old new keeps = record { exec = keeps.exec; queue = keeps.queue; senders = keeps.senders }

@@ -1,6 +1,6 @@
-ghost use Rattle.std.specs.Prelude.{◌≡◌, false};
+ghost use Rattle.std.specs.Prelude.{◌≡◌, [], false};
 ghost use Rattle.notify_queue.specs.Ends.{AreAllEnds, IsDry};
-ghost use Rattle.event_base.specs.Closing.{AreOn};
+ghost use Rattle.event_base.specs.Closing.{AreOn, held_by};
 ghost use Rattle.event_base.specs.Looping.{HoldsNoCallback};
 ghost use Rattle.fan_model.specs.Tasks.{printer_exec};
 ghost use Rattle.fan_parts.specs.Heads.{gather_head};
@@ -49,6 +49,7 @@ pub fn gather<'s, 'd, 'r: 'd, 'i: 'r, N: RunName, R: Wait>(
     ensures base { IsSameBase base.entry result.base }
     ensures did { CameTo base.entry result.base printer.sender result.printer result.tally result.refused }
     ensures closed { result.refused ≡ false → IsDry result.base.queue × HoldsNoCallback result.base.agenda }
+    ensures empty { result.refused ≡ false → held_by result.base.agenda ≡ [] }
 {
     let mut base = base;
     let mut world = Gathering::new(alloc, shards, printer);
@@ -115,6 +116,7 @@ pub fn close_gathering<'d, 'r: 'd, 'i: 'r, N: RunName, R: Wait>(
     ensures exec { result.queue.exec ≡ stage.entry.base.agenda.exec }
     ensures note { IsDry stage.entry.base.queue → (result.queue.put ≡ result.queue.taken) × (result.queue.left ≡ 0) }
     ensures printer { result.printer ≡ stage.entry.printer }
+    ensures tally { IsDry stage.entry.base.queue → held_by stage.entry.base.agenda ≡ [] → result.tally ≡ stage.entry.tally }
     ensures refused { result.refused ≡ stage.entry.refused }
 {
     let GatherStage {

@@ -1,5 +1,5 @@
 -- Runs that led from world to world, and the records of them.
-use Rattle.std.proofs.Common.{◌≡◌, List, [], ◌∷◌, ◌++◌, map, refl, sym, ap, ◌∙◌, subst, append-nil, append_assoc, arith, All}
+use Rattle.std.proofs.Common.{◌≡◌, ℕ, suc, ◌+◌, ◌<◌, ◌≤◌, Bool, true, false, List, [], ◌∷◌, ◌++◌, map, refl, sym, ap, ◌∙◌, subst, append-nil, append_assoc, arith, All}
 use Rattle.std.proofs.lemmas.List.{map-append}
 use Rattle.std.proofs.lemmas.List.Elements.{All-nil, All-cons}
 use Rattle.fan_base.specs.declared.number.JobId.{JobId}
@@ -69,3 +69,13 @@ module _ {J W : Type 0} (head : J → Head) (runs : JobId → W → Mark → W �
   back_all tasks left records w v so_far none =
       let same : so_far.done ≡ tasks = sym (append-nil so_far.done) ∙ (ap (λ (l : List (Returned J)). so_far.done ++ l) (sym none) ∙ so_far.list) in
       subst (λ (l : List (Returned J)). RanBack head runs l records w v) same so_far.back
+
+-- one record more, or none more for want of memory: so many of all are missing
+pub fewer_more : (was is : Bool) (records after left rest all : ℕ) → (was ≡ true → records + left < all) → (was ≡ false → records + left ≡ all) → left ≡ suc rest
+    → (is ≡ true → was ≡ false → after ≡ records) → after ≤ suc records → is ≡ true → after + rest < all
+fewer_more true is records after left rest all fewer whole next lost few missed = omega (arith, fewer refl, next, few)
+fewer_more false is records after left rest all fewer whole next lost few missed = omega (arith, whole refl, next, lost missed refl)
+
+pub not-false : (b : Bool) → (b ≡ false → ⊥) → b ≡ true
+not-false true h = refl
+not-false false h = absurd (h refl)

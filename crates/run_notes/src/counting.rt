@@ -1,5 +1,4 @@
-ghost use Rattle.std.specs.Prelude.{◌≡◌, ◌≤◌, ◌^◌, All};
-ghost use Rattle.std.specs.Bool.{OnTrue};
+ghost use Rattle.std.specs.Prelude.{◌≡◌, ◌≤◌, ◌^◌, ◌↔◌, All, IsTrue};
 ghost use Rattle.fan_model.specs.Totals.{totals_by};
 ghost use Rattle.run_notes.specs.Counting.{ArePutBy, totals_of};
 
@@ -19,7 +18,7 @@ pub fn cores_agree(counted: &Counted, shards: u32, tally: &Tally) -> bool
     requires answered { counted.now.answered ≤ 2 ^ 32 }
     requires tops { counted.now.tops ≤ 2 ^ 32 }
     requires shards { shards ≤ 64 }
-    ensures { OnTrue result (totals_of tally.now ≡ totals_by counted.now.answered counted.now.tops shards) }
+    ensures { IsTrue result ↔ (totals_of tally.now ≡ totals_by counted.now.answered counted.now.tops shards) }
 {
     let tasks = counted.answered * u64::from(shards);
     tally.made() == tasks + counted.answered + counted.tops
@@ -33,7 +32,7 @@ pub fn cores_agree(counted: &Counted, shards: u32, tally: &Tally) -> bool
 pub fn puts_agree(counted: &Counted, shards: u32, notes: &[QueueNote]) -> bool
     requires counts { All (λ count. count ≤ 2 ^ 32) counted.now.by_base.items }
     requires shards { shards ≤ 64 }
-    ensures { OnTrue result (ArePutBy shards counted.now.by_base.items notes.now) }
+    ensures { IsTrue result ↔ ArePutBy shards counted.now.by_base.items notes.now }
 {
     if notes.len() != counted.by_base.len() {
         return false;

@@ -1,4 +1,4 @@
-ghost use Rattle.std.specs.Prelude.{◌≡◌, ◌++◌, ◌∷◌, [], false, true, length};
+ghost use Rattle.std.specs.Prelude.{◌≡◌, ◌+◌, ◌<◌, ◌≤◌, ◌↔◌, ◌++◌, ◌∷◌, [], false, true, suc, length, IsTrue};
 ghost use Rattle.job_trait.specs.Marks.{IsDone};
 ghost use Rattle.job_trait.specs.Runs.{IsKnownBackwards};
 ghost use Rattle.pool_model.specs.Passes.{AreAllPasses, AreAllEnds};
@@ -6,6 +6,7 @@ ghost use Rattle.run_notes.specs.Accounts.{AccountsFor, AllDone, RanBack, SomeLe
 
 use crate::notes::RunRecords;
 use job_trait::{Job, WorldFact};
+use pool_model::stop_accounts_for_each;
 use prio_pool::{
     HelperEnd, Joining, Pool, PoolEnd, Returned, RunRecord, Runs, Stopping, WorkerEnd,
 };
@@ -77,7 +78,9 @@ pub fn end_stopped<J: Job<W>, W, F: WorldFact<W>, R: Wait>(
     ensures fact { F.holds world.new → F.holds world.old }
     ensures account { F.holds world.new → AllDone (ends.items ++ helped.items) → result.missed ≡ false → AccountsFor stopping.passes result }
     ensures stopped { result.ran.stopped ≡ true }
+    ensures missed { IsTrue result.missed ↔ (length result.ran.records + length result.returned < result.accepted) }
 {
+    stop_accounts_for_each::<J>();
     let PoolEnd {
         accepted,
         ran,
@@ -101,6 +104,8 @@ fn run_back<J: Job<W>, W, R: Wait>(
 ) -> (RunRecords, bool)
     ensures led { SomeLed J.runs world.old world.new }
     ensures back { result.1 ≡ false → RanBack J.head J.runs returned.old result.0 world.old world.new }
+    ensures missed { result.1 ≡ true → length result.0 < length returned.old }
+    ensures whole { result.1 ≡ false → length result.0 ≡ length returned.old }
 {
     let mut records = RunRecords::new(alloc);
     let mut missed = false;
@@ -112,7 +117,9 @@ fn run_back<J: Job<W>, W, R: Wait>(
 
 /// Puts a record behind the others, or notes that it is missing.
 fn keep(records: &mut RunRecords, made: RunRecord, missed: &mut bool)
-    ensures { missed.new ≡ false → (missed.old ≡ false) × (records.new ≡ records.old ++ made ∷ []) }
+    ensures kept { missed.new ≡ false → (missed.old ≡ false) × (records.new ≡ records.old ++ made ∷ []) }
+    ensures lost { missed.new ≡ true → missed.old ≡ false → records.new ≡ records.old }
+    ensures few { length records.new ≤ suc (length records.old) }
 {
     match records.push(made) {
         Ok(()) => {}

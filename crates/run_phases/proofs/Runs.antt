@@ -60,3 +60,8 @@ report_is asked passes notes direct stops accounts early late stopped is joined 
   stopped = stopped ∙ is;
   joined = λ none. ap (map run_of) (joined (sym stopped ∙ none));
 }
+
+pub is_unstopped : (asked : Asking) (turns : List Turn) (stop : Option ℕ) → StopsAt asked turns stop → stop ≡ None → is_stopped asked.stop_at (answered_in asked.lines) ≡ false
+is_unstopped asked turns stop stops none =
+    let at : StopsAt asked turns None = subst (λ (s : Option ℕ). StopsAt asked turns s) none stops in
+    at.stopped

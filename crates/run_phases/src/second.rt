@@ -1,4 +1,4 @@
-ghost use Rattle.std.specs.Prelude.{◌≡◌, ◌≤◌, ◌++◌, ◌∷◌, [], false, map, vec_capacity};
+ghost use Rattle.std.specs.Prelude.{◌≡◌, ◌≤◌, ◌++◌, ◌∷◌, [], None, false, not, map, vec_capacity};
 ghost use Rattle.std.specs.Bool.{OnTrue};
 ghost use Rattle.fan_model.specs.Answered.{answered_in, is_stopped};
 ghost use Rattle.fan_model.specs.Report.{IsPoolReport};
@@ -11,7 +11,7 @@ ghost use Rattle.run_notes.specs.Accounts.{AllDone, runs_added};
 ghost use Rattle.run_notes.specs.Told.{run_of_direct, told_of as told_by};
 ghost use Rattle.run_plan.specs.Turns.{AreTurnsOf};
 ghost use Rattle.run_tasks.specs.Worlds.{AreEndsFor, Follows, StaysPass, told_of};
-ghost use Rattle.run_phases.specs.Phases.{HasKeysBehind, IsDoneBy, StopsAt};
+ghost use Rattle.run_phases.specs.Phases.{HasKeysBehind, IsDoneBy, IsLeftAsItWas, StopsAt};
 
 use crate::first::FrontMid;
 use fan_base::Memory;
@@ -61,6 +61,7 @@ pub fn second_phase<'c, 't, 'd: 't, 'r: 'd, 'i: 'r, N: RunName + 'static, R: Wai
     ensures posters { AreEndsFor (map told_of mid.entry.front.world.posters) result.ends.tasks.posters.items }
     ensures pass { StaysPass mid.entry.front.world.pass result.ends.tasks.pass }
     ensures printer { IsDoneBy mid.entry.front.printer result.ends.printer }
+    ensures joined { stop ≡ None → IsLeftAsItWas mid.entry result.refused result.ends }
 {
     let FrontMid {
         mut front,
@@ -109,6 +110,7 @@ fn turns_behind<'c, 't, 'd: 't, 'r: 'd, 'i: 'r, N: RunName + 'static, R: Wait>(
     ensures direct { OnTrue result (front.new.world.refused ≡ false → map run_of_direct direct.new ≡ late_runs N.asked.lines N.asked.shards N.asked.bases N.asked.stop_at) }
     ensures follows { Follows front.old.world front.new.world }
     ensures printer { told_of front.new.printer ≡ told_of front.old.printer }
+    ensures joined { stop ≡ None → (result ≡ not refused) × (front.new ≡ front.old) }
 {
     if refused {
         return false;

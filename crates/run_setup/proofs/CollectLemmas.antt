@@ -4,6 +4,7 @@ use Rattle.std.specs.List.{All}
 use Rattle.std.proofs.lemmas.List.{length-map}
 use Rattle.std.proofs.lemmas.List.Elements.{All-cons, All-nil, All-push, All-weaker}
 use Rattle.core_cells.specs.Seen.{AreAll, SeenPass}
+use Rattle.core_word.specs.Count.{Counts}
 use Rattle.event_base.specs.Seen.{NoteSeen}
 use Rattle.fan_model.specs.Report.{Asking}
 use Rattle.fan_model.specs.Tasks.{printer_exec}
@@ -15,7 +16,7 @@ use Rattle.run_bases.specs.Columns.{IsColumn}
 use Rattle.run_notes.specs.Counting.{AreEmptied, IsEmptied}
 use Rattle.run_tasks.specs.declared.world.TaskEnds.{TaskEnds}
 use Rattle.run_threads.specs.declared.gatherer.GatherSlot.{GatherSlot}
-use Rattle.run_setup.specs.Closing.{AreColumnsBack, AreGathered, AreTaskEnds, AreWorldEnds, IsFullColumn, IsGatheredSlot, IsPrinterBack, has_refused}
+use Rattle.run_setup.specs.Closing.{AreColumnsBack, AreGathered, AreTaskEnds, AreWorldEnds, IsFullColumn, IsGatheredSlot, IsPrinterBack, has_refused, merged, merged_with, tally_of}
 use Rattle.run_setup.specs.Ids.{RunIds}
 use Rattle.run_setup.specs.Rows.{print_head}
 use Rattle.run_setup.specs.Slots.{IsCellPass}
@@ -31,6 +32,9 @@ notes-all notes all = record { each = λ k d below. all.each k k d below (omega 
 module _ {N : Type 0} {g : Ghosts N} where
   abbrev pub slot_refused : GatherSlot N g → Bool
   slot_refused s = has_refused s.stage
+
+  abbrev pub slot_tally : GatherSlot N g → Counts
+  slot_tally s = tally_of s.stage
 
   -- so many bases are closed, and these are left
   pub record BasesSoFar (asked : Asking) (ids : RunIds) (slots : List (GatherSlot N g)) (columns : List (Column (GatherJob N))) (printer : Column (PrintJob N)) (closed : ℕ) : Type 0 where
@@ -120,3 +124,7 @@ or-assoc false b c = refl
 pub or-none : (a : Bool) → a || false ≡ a
 or-none true = refl
 or-none false = refl
+
+pub merged-append : (counts : Counts) (xs ys : List Counts) → merged_with counts (xs ++ ys) ≡ merged_with (merged_with counts xs) ys
+merged-append counts [] ys = refl
+merged-append counts (x ∷ xs) ys = merged-append (merged counts x) xs ys

@@ -77,6 +77,7 @@ module _ {N : Type 0} {g : Ghosts N} where
           printer = printer-end asked ids (asked.bases - k) did.stage.printer (did.did.posted.queue ∙ ap (λ (p : PosterSeen (PrintJob N)). p.sender.queue) printer)
               (did.did.posted.number ∙ ap (λ (p : PosterSeen (PrintJob N)). p.sender.number) printer);
           dry = λ calm. (did.closed calm).0;
+          empty = did.empty;
         };
         no_base = did.spent_base;
         no_printer = did.spent_printer;

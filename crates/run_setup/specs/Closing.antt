@@ -1,7 +1,9 @@
 -- What stages and worlds have come to once their threads have ended, and what the close makes of it.
-use Rattle.std.specs.Prelude.{◌≡◌, ℕ, ◌+◌, ◌-◌, ◌<◌, ◌||◌, Bool, false, List, Option, Some, None, length, slice_index_or}
+use Rattle.std.specs.Prelude.{◌≡◌, ℕ, ◌+◌, ◌-◌, ◌<◌, ◌||◌, Bool, false, List, [], ◌∷◌, ◌++◌, Option, Some, None, length, map, slice_index_or}
 use Rattle.std.specs.List.{list_any}
+use Rattle.core_word.specs.Count.{Counts, added}
 use Rattle.notify_queue.specs.Ends.{IsDry, QueueId, Sending}
+use Rattle.event_base.specs.Closing.{held_by}
 use Rattle.event_base.specs.Seen.{BaseSeen}
 use Rattle.pool_model.specs.Seen.{EndSeen}
 use Rattle.fan_model.specs.Report.{Asking}
@@ -13,6 +15,7 @@ use Rattle.fan_parts.specs.Heads.{gather_head}
 use Rattle.run_bases.specs.declared.rows.Column.{Column}
 use Rattle.run_bases.specs.Columns.{AreColumns, IsColumn, IsEndOf, exec_at}
 use Rattle.run_gathering.specs.declared.looping.GatherStage.{GatherStage}
+use Rattle.run_gathering.specs.Gathering.{no_counts}
 use Rattle.run_printing.specs.declared.stage.PrintStage.{PrintStage}
 use Rattle.run_tasks.specs.declared.world.TaskEnds.{TaskEnds}
 use Rattle.run_tasks.specs.Seen.{TaskSeen, WorldSeen}
@@ -53,13 +56,15 @@ module _ {N : Type 0} where
     pub as_many : length worlds ≡ ids.workers
     pub each : (k : ℕ) (d : TaskEnds N) → k < ids.workers → AreTaskEnds ids (ids.workers - k) (slice_index_or worlds k d)
 
-  -- the stage of a gathering base that has run: it is the base that was opened, and where it notes no want of memory, nothing is left in its queue
+  -- the stage of a gathering base that has run: it is the base that was opened, and where it notes no want of memory, nothing is left in its queue and
+  -- its agenda
   pub record IsGathered (asked : Asking) (ids : RunIds) (k : ℕ) (stage : GatherStage N) : Type 0 where
     pub exec : stage.base.agenda.exec ≡ exec_at 1 k
     pub queue : (q : QueueId) → stage.base.queue.queue ≡ slice_index_or ids.queues k q
     pub senders : stage.base.queue.senders ≡ ids.workers + 1
     pub printer : IsPrinterEnd asked ids (asked.bases - k) stage.printer
     pub dry : stage.refused ≡ false → IsDry stage.base.queue
+    pub empty : stage.refused ≡ false → held_by stage.base.agenda ≡ []
 
 module _ {N : Type 0} {g : Ghosts N} where
   -- its slot
@@ -93,6 +98,21 @@ module _ {N : Type 0} {g : Ghosts N} where
     pub front_ended : AreTaskEnds ids 0 front
     pub poster_ended : IsPrinterEnd asked ids 0 poster
 
+-- two tallies added up, number by number
+abbrev pub merged : Counts → Counts → Counts
+merged a b = record {
+  made = added a.made b.made;
+  handed = added a.handed b.handed;
+  forwarded = added a.forwarded b.forwarded;
+  freed = added a.freed b.freed;
+  reopened = added a.reopened b.reopened;
+}
+
+-- a tally, and these added to it, one after another
+abbrev pub merged_with : Counts → List Counts → Counts
+merged_with counts [] = counts
+merged_with counts (c ∷ cs) = merged_with (merged counts c) cs
+
 module _ {N : Type 0} where
   -- the columns of the gathering bases, with the ends of the numbers from `low` on
   abbrev pub AreColumnsBack : RunIds → ℕ → List (Column (GatherJob N)) → Type 0
@@ -111,7 +131,16 @@ module _ {N : Type 0} where
   has_refused (Some stage) = stage.refused
   has_refused None = false
 
+  -- what a stage counted
+  abbrev pub tally_of : Option (GatherStage N) → Counts
+  tally_of (Some stage) = stage.tally
+  tally_of None = no_counts
+
 module _ {N : Type 0} {g : Ghosts N} where
   -- whether some stage or some world notes want of memory
   abbrev pub some_refused : List (GatherSlot N g) → List (TaskEnds N) → TaskEnds N → Bool
   some_refused gatherers worlds front = (list_any (λ (w : TaskEnds N). w.refused) worlds || front.refused) || list_any (λ (s : GatherSlot N g). has_refused s.stage) gatherers
+
+  -- the tallies of all worlds and of all gathering bases
+  abbrev pub tallies_of : List (GatherSlot N g) → List (TaskEnds N) → TaskEnds N → List Counts
+  tallies_of gatherers worlds front = map (λ (w : TaskEnds N). w.tally) worlds ++ front.tally ∷ map (λ (s : GatherSlot N g). tally_of s.stage) gatherers

@@ -5,7 +5,8 @@ ghost use Rattle.core_cells.specs.Seen.{AreAll};
 ghost use Rattle.run_notes.specs.Counting.{AreEmptied};
 ghost use Rattle.run_printing.specs.Ends.{HasPrinted, IsDone, IsWhole, LacksSome, Wrote};
 ghost use Rattle.run_setup.specs.Ids.{RunIds};
-ghost use Rattle.run_setup.specs.Closing.{IsAllOf, some_refused};
+ghost use Rattle.run_gathering.specs.Gathering.{no_counts};
+ghost use Rattle.run_setup.specs.Closing.{IsAllOf, merged_with, some_refused, tallies_of};
 
 use crate::cells::TaskCellPass;
 use crate::collecting::{Counted, Gatherers, Worlds};
@@ -61,6 +62,7 @@ pub fn close_run<'t, 'd: 't, 'r: 'd, 'i: 'r, N: RunName, R: Wait>(
     requires all { (ids : RunIds) × IsAllOf N.asked ids back gatherers.items printer worlds.items front poster }
     ensures bases { length result.notes.items ≡ N.asked.bases }
     ensures emptied { result.refused ≡ false → AreEmptied result.notes.items }
+    ensures tally { result.refused ≡ false → result.tally ≡ merged_with no_counts (tallies_of gatherers.entry.items worlds.entry.items front.entry) }
     ensures refused { result.refused ≡ some_refused gatherers.entry.items worlds.entry.items front.entry }
     ensures passes { (ids : RunIds) → IsAllOf N.asked ids back.entry gatherers.entry.items printer worlds.entry.items front.entry poster
         → AreAll ids.cells result.passes.items }

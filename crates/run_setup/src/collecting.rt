@@ -6,7 +6,8 @@ ghost use Rattle.run_bases.specs.Columns.{AreColumns, IsEndRow};
 ghost use Rattle.run_notes.specs.Counting.{AreEmptied, IsEmptied};
 ghost use Rattle.run_setup.specs.Ids.{RunIds};
 ghost use Rattle.run_setup.specs.Closing.{AreColumnsBack, AreGathered, AreTaskEnds, AreWorldEnds, IsFullColumn};
-ghost use Rattle.run_setup.specs.Closing.{IsGatheredSlot, IsPrinterBack, IsPrinterEnd, has_refused};
+ghost use Rattle.run_gathering.specs.Gathering.{no_counts};
+ghost use Rattle.run_setup.specs.Closing.{IsGatheredSlot, IsPrinterBack, IsPrinterEnd, has_refused, merged, merged_with, tally_of};
 
 use crate::cells::TaskCellPass;
 use core_word::Tally;
@@ -44,7 +45,8 @@ pub(crate) struct Gatherers<N: RunName> {
 impl Counted {
     /// Nothing is counted.
     pub(crate) fn new() -> Counted
-        ensures { result.refused ≡ false }
+        ensures tally { result.tally ≡ no_counts }
+        ensures refused { result.refused ≡ false }
     {
         Counted {
             tally: Tally::new(),
@@ -53,7 +55,8 @@ impl Counted {
     }
 
     fn add(&mut self, tally: Tally, refused: bool)
-        ensures { self.new.refused ≡ self.old.refused || refused }
+        ensures tally { self.new.tally ≡ merged self.old.tally tally }
+        ensures refused { self.new.refused ≡ self.old.refused || refused }
     {
         let all = replace(&mut self.tally, Tally::new());
         self.tally = all.merge(tally);
@@ -81,6 +84,7 @@ impl<'t, 'd: 't, 'r: 'd, 'i: 'r, N: RunName> Worlds<'t, 'd, 'r, 'i, N> {
             → AreColumnsBack ids number self.new.columns.items }
         ensures pass { self.new.passes.items ≡ self.old.passes.items ++ ends.entry.pass ∷ [] }
         ensures capacity { vec_capacity self.new.passes ≡ vec_capacity self.old.passes }
+        ensures tally { self.new.counted.tally ≡ merged self.old.counted.tally ends.entry.tally }
         ensures refused { self.new.counted.refused ≡ self.old.counted.refused || ends.entry.refused }
     {
         let TaskEnds {
@@ -102,6 +106,7 @@ impl<'t, 'd: 't, 'r: 'd, 'i: 'r, N: RunName> Worlds<'t, 'd, 'r, 'i, N> {
             → AreColumnsBack ids 1 self.new.columns.items }
         ensures passes { self.new.passes.items ≡ self.old.passes.items ++ map (λ w. w.pass) worlds.entry.items }
         ensures capacity { vec_capacity self.new.passes ≡ vec_capacity self.old.passes }
+        ensures tally { self.new.counted.tally ≡ merged_with self.old.counted.tally (map (λ w. w.tally) worlds.entry.items) }
         ensures refused { self.new.counted.refused ≡ self.old.counted.refused || list_any (λ w. w.refused) worlds.entry.items }
     {
         let mut left = worlds.into_iter();
@@ -121,6 +126,7 @@ fn close_slot<'d, 'r: 'd, 'i: 'r, N: RunName, R: Wait>(
     requires { (ids : RunIds) × (k : ℕ) × IsGatheredSlot N.asked ids k slot × IsFullColumn ids k column }
     ensures emptied { (ids : RunIds) (k : ℕ) → IsGatheredSlot N.asked ids k slot.entry → result.refused ≡ false → IsEmptied (1 + k) result.queue }
     ensures printer { (ids : RunIds) (k : ℕ) → IsGatheredSlot N.asked ids k slot.entry → IsPrinterEnd N.asked ids (N.asked.bases - k) result.printer }
+    ensures tally { (ids : RunIds) (k : ℕ) → IsGatheredSlot N.asked ids k slot.entry → result.refused ≡ false → result.tally ≡ tally_of slot.entry.stage }
     ensures refused { result.refused ≡ has_refused slot.entry.stage }
 {
     let GatherSlot {
@@ -148,6 +154,7 @@ impl<N: RunName> Gatherers<N> {
         ensures capacity { vec_capacity self.new.notes ≡ vec_capacity self.old.notes }
         ensures printer { (ids : RunIds) (low : ℕ) → IsPrinterBack N.asked ids (suc low) self.old.printer
             → IsPrinterEnd N.asked ids low end.printer → IsPrinterBack N.asked ids low self.new.printer }
+        ensures tally { self.new.counted.tally ≡ merged self.old.counted.tally end.tally }
         ensures refused { self.new.counted.refused ≡ self.old.counted.refused || end.refused }
     {
         let GatherEnd {
@@ -177,6 +184,8 @@ impl<N: RunName> Gatherers<N> {
         ensures printer { (ids : RunIds) → length ids.queues ≡ N.asked.bases → AreGathered N.asked ids slots.entry.items
             → AreColumnsBack ids 0 columns.entry.items
             → IsPrinterBack N.asked ids (suc N.asked.bases) self.old.printer → IsPrinterBack N.asked ids 1 self.new.printer }
+        ensures tally { list_any (λ s. has_refused s.stage) slots.entry.items ≡ false →
+            self.new.counted.tally ≡ merged_with self.old.counted.tally (map (λ s. tally_of s.stage) slots.entry.items) }
         ensures refused { self.new.counted.refused ≡ self.old.counted.refused || list_any (λ s. has_refused s.stage) slots.entry.items }
     {
         let mut columns = columns.into_iter();

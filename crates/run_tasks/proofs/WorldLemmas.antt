@@ -1,11 +1,16 @@
 -- Worlds and the ends of their posters.
-use Rattle.std.proofs.Common.{◌≡◌, ℕ, zero, suc, ◌<◌, List, [], ◌∷◌, ◌++◌, false, length, get_or, set, map, refl, sym, ap, subst, ◌∙◌, append_assoc, arith}
+use Rattle.std.proofs.Common.{◌≡◌, inl, inr, ℕ, zero, suc, ◌<◌, List, [], ◌∷◌, ◌++◌, false, length, get_or, set, map, refl, sym, ap, subst, ◌∙◌, append_assoc, arith}
 use Rattle.std.specs.List.{All}
+use Rattle.std.proofs.lemmas.List.{length-map}
 use Rattle.fan_parts.specs.declared.jobs.GatherJob.{GatherJob}
 use Rattle.fan_parts.specs.Heads.{gather_head}
 use Rattle.fan_parts.specs.Seen.{PosterSeen}
 use Rattle.notify_queue.specs.Ends.{Sending}
+use Rattle.core_cells.specs.Seen.{SeenCells, SeenPass, WereFree}
+use Rattle.core_word.specs.Count.{Counts}
+use Rattle.core_word.specs.Seen.{SeenKey}
 use Rattle.run_tasks.specs.Seen.{WorldSeen}
+use Rattle.run_tasks.specs.Leaving.{CountsLeave, CountsTasks, PutsBack, reopened_times, with_reopened}
 use Rattle.job_trait.specs.Marks.{IsDone}
 use Rattle.job_trait.specs.Runs.{Leads, Ran, Through}
 use Rattle.pool_model.specs.Records.{Record, ran_of}
@@ -28,6 +33,27 @@ unfolding AllDone
 done-marks [] done k d within = absurd (omega (arith, within))
 done-marks (r ∷ rs) done zero d within = done.0
 done-marks (r ∷ rs) done (suc k) d within = done-marks rs done.1 k d (omega (arith, within))
+
+-- a key that finds no room, by what the cells' own call says of it
+pub full-back : (key : SeenKey) (cells : SeenCells) (old new : SeenPass) → old.cells ≡ cells → new ≡ old → WereFree cells.size old → PutsBack key old new
+full-back key cells old new of same full = inr (same, subst (λ (c : SeenCells). WereFree c.size old) (sym of) full)
+
+-- once more at the beginning is once more at the end
+reopened-last : (n : ℕ) (counts : Counts) → reopened_times n (with_reopened counts) ≡ with_reopened (reopened_times n counts)
+reopened-last zero counts = refl
+reopened-last (suc n) counts = ap with_reopened (reopened-last n counts)
+
+counts-none : (counts : Counts) → CountsTasks 0 counts counts
+counts-none counts = record { freed = 0; few = omega arith; is = refl }
+
+-- one task before so many
+counts-first : (tasks : ℕ) (a b c : Counts) → CountsLeave a b → CountsTasks tasks b c → CountsTasks (suc tasks) a c
+counts-first tasks a b c (inl same) rest = record { freed = rest.freed; few = omega (arith, rest.few); is = rest.is ∙ ap (reopened_times rest.freed) same }
+counts-first tasks a b c (inr freed) rest = record {
+  freed = suc rest.freed;
+  few = omega (arith, rest.few);
+  is = rest.is ∙ (ap (reopened_times rest.freed) freed ∙ reopened-last rest.freed a);
+}
 
 module _ {N : Type 0} where
   -- a world whose poster at a place has put something
@@ -71,16 +97,22 @@ module _ {N : Type 0} where
   record Led (w : WorldSeen N) (list : List Ran) (v : WorldSeen N) : Type 0 where
     follows : Follows w v
     done : v.refused ≡ false → AllDone list
+    tally : v.refused ≡ false → CountsTasks (length list) w.tally v.tally
 
   -- tasks that lead from world to world
   led : (w v : WorldSeen N) (list : List Ran) → Through (TaskRan {N = N}) w list v → Led w list v
   unfolding AllDone
-  led w v [] same = record { follows = subst (λ (x : WorldSeen N). Follows w x) same (follows-itself w); done = λ _. tt }
+  led w v [] same = record {
+    follows = subst (λ (x : WorldSeen N). Follows w x) same (follows-itself w);
+    done = λ _. tt;
+    tally = λ _. subst (λ (x : WorldSeen N). CountsTasks 0 w.tally x.tally) same (counts-none w.tally);
+  }
   led w v (r ∷ rs) ran =
       let rest = led ran.0 v rs ran.2 in
       record {
         follows = follows-on w ran.0 v ran.1.follows rest.follows;
         done = λ down. (ran.1.done (rest.follows.refused down), rest.done down);
+        tally = λ down. counts-first (length rs) w.tally ran.0.tally v.tally (ran.1.tally (rest.follows.refused down)) (rest.tally down);
       }
 
   pub leads-follow : (w v : WorldSeen N) (list : List Ran) → Leads (TaskRan {N = N}) w list v → Follows w v
@@ -88,3 +120,7 @@ module _ {N : Type 0} where
 
   pub leads-done : (w v : WorldSeen N) (records : List Record) → Leads (TaskRan {N = N}) w (ran_of records) v → v.refused ≡ false → All (λ (r : Record). IsDone r.mark) records
   leads-done w v records leads down = done-marks records ((led w v (ran_of records) leads.through).done down)
+
+  pub leads-tally : (w v : WorldSeen N) (records : List Record) → Leads (TaskRan {N = N}) w (ran_of records) v → v.refused ≡ false → CountsTasks (length records) w.tally v.tally
+  leads-tally w v records leads down =
+      subst (λ (n : ℕ). CountsTasks n w.tally v.tally) (length-map records (λ (r : Record). (r.job, r.mark))) ((led w v (ran_of records) leads.through).tally down)

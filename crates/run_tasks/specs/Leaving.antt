@@ -1,6 +1,6 @@
 -- What leaving a core of a cell does to a pass of the cells and to a tally.
-use Rattle.std.specs.Prelude.{◌≡◌, ◌⊎◌, ℕ, suc, [], ◌∷◌, ◌++◌}
-use Rattle.core_cells.specs.Seen.{SeenPass}
+use Rattle.std.specs.Prelude.{◌≡◌, ◌⊎◌, ℕ, zero, suc, ◌≤◌, [], ◌∷◌, ◌++◌}
+use Rattle.core_cells.specs.Seen.{SeenPass, WereFree}
 use Rattle.core_word.specs.Count.{Counts, raised}
 use Rattle.core_word.specs.Seen.{HomeId, SeenKey}
 
@@ -8,11 +8,26 @@ use Rattle.core_word.specs.Seen.{HomeId, SeenKey}
 abbrev pub with_reopened : Counts → Counts
 with_reopened counts = record counts { freed = raised counts.freed; reopened = raised counts.reopened }
 
--- the pass put the key of the next use of this home, or the free queue was full
+-- the pass put the key of the next use of this home; or it stayed, and as many cells were free as there are
 abbrev pub PutsBack : SeenKey → SeenPass → SeenPass → Type 0
-PutsBack key old new = (new ≡ record old { put = old.put ++ key ∷ [] }) ⊎ (new ≡ old)
+PutsBack key old new = (new ≡ record old { put = old.put ++ key ∷ [] }) ⊎ ((new ≡ old) × WereFree old.cells.size old)
 
 -- The other half of the core hadn't left, and nothing changed; or it had, and the cell was given back.
 abbrev pub LeavesCell : HomeId → ℕ → SeenPass → Counts → SeenPass → Counts → Type 0
 LeavesCell home use_number old count new counts =
     ((new ≡ old) × (counts ≡ count)) ⊎ (PutsBack (record { home = home; use_number = suc use_number }) old new × (counts ≡ with_reopened count))
+
+-- What leaving one core does to a tally: nothing, where the other half hadn't left; or a core was freed, and its home is ready for another use.
+abbrev pub CountsLeave : Counts → Counts → Type 0
+CountsLeave old new = (new ≡ old) ⊎ (new ≡ with_reopened old)
+
+-- so many times a core was freed, and its home is ready for another use
+abbrev pub reopened_times : ℕ → Counts → Counts
+reopened_times zero counts = counts
+reopened_times (suc n) counts = with_reopened (reopened_times n counts)
+
+-- What so many tasks do to a tally: some cores were freed, one a task at most, and their homes are ready for another use. Nothing else is counted.
+pub record CountsTasks (tasks : ℕ) (old new : Counts) : Type 0 where
+  pub freed : ℕ
+  pub few : freed ≤ tasks
+  pub is : new ≡ reopened_times freed old

@@ -12,6 +12,7 @@ use Rattle.fan_parts.specs.declared.jobs.GatherJob.{GatherJob}
 use Rattle.fan_parts.specs.Heads.{gather_head}
 use Rattle.fan_parts.specs.Seen.{PosterSeen}
 use Rattle.run_tasks.specs.Seen.{WorldSeen}
+use Rattle.run_tasks.specs.Leaving.{CountsLeave}
 
 -- which poster it is: its queue, its number there, and the executor of its base
 pub record PosterTold : Type 0 where
@@ -42,10 +43,11 @@ module _ {N : Type 0} where
     pub pass : StaysPass old.pass new.pass
     pub refused : new.refused ≡ false → old.refused ≡ false
 
-  -- what a run of the task with this id does: where the world doesn't note that memory was refused, the run was done
+  -- what a run of the task with this id does: where the world doesn't note that memory was refused, the run was done, and one core was left
   pub record TaskRan (id : JobId) (old : WorldSeen N) (mark : Mark) (new : WorldSeen N) : Type 0 where
     pub follows : Follows old new
     pub done : new.refused ≡ false → IsDone mark
+    pub tally : new.refused ≡ false → CountsLeave old.tally new.tally
 
   -- at each place the end of that poster, all of whose messages have its base's executor
   abbrev pub AreEndsFor : List PosterTold → List (Sending (GatherJob N)) → Type 0

@@ -1,4 +1,4 @@
-ghost use Rattle.std.specs.Prelude.{◌≡◌, List, false};
+ghost use Rattle.std.specs.Prelude.{◌≡◌, List, false, length};
 ghost use Rattle.std.specs.List.{All};
 ghost use Rattle.fan_base.specs.declared.number.Mark.TheVariants as mark;
 ghost use Rattle.fan_model.specs.Report.{Asking};
@@ -6,6 +6,7 @@ ghost use Rattle.fan_model.specs.Tasks.{queue_of, task_run};
 ghost use Rattle.fan_parts.specs.Facts.{IsAskOf};
 ghost use Rattle.run_tasks.specs.Heads.{task_head};
 ghost use Rattle.run_tasks.specs.Seen.{TaskSeen, WorldSeen};
+ghost use Rattle.run_tasks.specs.Leaving.{CountsTasks};
 ghost use Rattle.run_tasks.specs.Worlds.{Follows, TaskRan};
 ghost use Rattle.job_trait.specs.Marks.{IsDone};
 ghost use Rattle.job_trait.specs.Runs.{Leads, Ran};
@@ -23,8 +24,9 @@ pub fn heads_are_runs()
 {}
 
 /// What tasks that ran one after another keep of their world; and where it doesn't note at the end that memory was refused, each of their
-/// records is of a run that was done. This function does nothing: its clauses are the law.
+/// records is of a run that was done, and its tally counts cores that they freed. This function does nothing: its clauses are the law.
 pub fn tasks_keep_their_world<N: RunName>()
     ensures follows { (w v : WorldSeen N) (list : List Ran) → Leads TaskRan w list v → Follows w v }
     ensures done { (w v : WorldSeen N) (records : List Record) → Leads TaskRan w (ran_of records) v → v.refused ≡ false → All (λ r. IsDone r.mark) records }
+    ensures tally { (w v : WorldSeen N) (records : List Record) → Leads TaskRan w (ran_of records) v → v.refused ≡ false → CountsTasks (length records) w.tally v.tally }
 {}

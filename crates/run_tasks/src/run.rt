@@ -14,7 +14,8 @@ use std::sync::Wait;
 impl<'c, 't, 'd: 't, 'r: 'd, 'i: 'r, N: RunName> TaskWorld<'c, 't, 'd, 'r, 'i, N> {
     /// Posts a fire to the base of its callback. Where that finds no memory, the fire is spent.
     pub(crate) fn post<R: Wait>(&mut self, rt: &R, fire: TaskFire<'d, 'r, 'i, N>)
-        ensures { Follows self.old self.new }
+        ensures follows { Follows self.old self.new }
+        ensures tally { self.new.refused ≡ false → self.new.tally ≡ self.old.tally }
     {
         let base = fire.callback().exec().0 - 1;
         match self.posters[base as usize].post(rt, GatherJob::Task(fire)) {

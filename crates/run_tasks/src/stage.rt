@@ -1,6 +1,7 @@
-ghost use Rattle.std.specs.Prelude.{◌≡◌, false, map};
+ghost use Rattle.std.specs.Prelude.{◌≡◌, false, length, map};
 ghost use Rattle.std.specs.List.{All};
 ghost use Rattle.job_trait.specs.Marks.{IsDone};
+ghost use Rattle.run_tasks.specs.Leaving.{CountsTasks};
 ghost use Rattle.run_tasks.specs.Worlds.{AreEndsFor, Follows, StaysPass, told_of};
 
 use crate::task::ShardTask;
@@ -27,6 +28,7 @@ pub fn work_tasks<'c, 't, 'd: 't, 'r: 'd, 'i: 'r, N: RunName + 'static, G: Gate,
     requires { pass.pool ≡ pool.now.id }
     ensures end { (result.end.pool ≡ pass.entry.pool) × (result.end.number ≡ pass.entry.number) }
     ensures marks { result.ends.refused ≡ false → All (λ r. IsDone r.mark) result.end.records }
+    ensures tally { result.ends.refused ≡ false → CountsTasks (length result.end.records) world.entry.tally result.ends.tally }
     ensures refused { result.ends.refused ≡ false → world.entry.refused ≡ false }
     ensures posters { AreEndsFor (map told_of world.entry.posters) result.ends.posters.items }
     ensures pass { StaysPass world.entry.pass result.ends.pass }
@@ -52,6 +54,7 @@ fn work_on<'c, 't, 'd: 't, 'r: 'd, 'i: 'r, N: RunName + 'static, G: Gate, R: Wai
     requires { pass.pool ≡ pool.now.id }
     ensures end { (result.pool ≡ pass.entry.pool) × (result.number ≡ pass.entry.number) }
     ensures marks { world.new.refused ≡ false → All (λ r. IsDone r.mark) result.records }
+    ensures tally { world.new.refused ≡ false → CountsTasks (length result.records) world.old.tally world.new.tally }
     ensures follows { Follows world.old world.new }
 {
     pool.work(rt, pass, world, gate)

@@ -1,6 +1,8 @@
 //! What the front does with the core of a task: it begins it in a free cell, and sets its callback.
-ghost use Rattle.std.specs.Prelude.{◌≡◌, IfSome, IfNone, true};
-ghost use Rattle.run_tasks.specs.Leaving.{LeavesCell};
+ghost use Rattle.std.specs.Prelude.{◌≡◌, IfSome, IfNone, true, false};
+ghost use Rattle.core_cells.specs.Seen.{WereFree};
+ghost use Rattle.core_word.specs.Count.{raised};
+ghost use Rattle.run_tasks.specs.Leaving.{CountsLeave, LeavesCell};
 ghost use Rattle.run_tasks.specs.Worlds.{Follows};
 
 use crate::leave::leave_cell;
@@ -26,7 +28,9 @@ impl<'c, 't, 'd: 't, 'r: 'd, 'i: 'r, N: RunName> TaskWorld<'c, 't, 'd, 'r, 'i, N
     >
         ensures follows { Follows self.old self.new }
         ensures core { IfSome result (λ halves. (halves.0.no ≡ no) × (halves.1.no ≡ no) × (halves.0.home ≡ halves.1.home) × (halves.0.use_number ≡ halves.1.use_number)) }
+        ensures counted { IfSome result (λ halves. self.new.tally ≡ record self.old.tally { made = raised self.old.tally.made }) }
         ensures none { IfNone result (self.new ≡ self.old) }
+        ensures empty { IfNone result (WereFree 0 self.old.pass) }
     {
         match self.cells.core(rt, &mut self.pass, no, &mut self.tally) {
             Ok(halves) => Some(halves),
@@ -41,7 +45,8 @@ impl<'c, 't, 'd: 't, 'r: 'd, 'i: 'r, N: RunName> TaskWorld<'c, 't, 'd, 'r, 'i, N
         consumer: TaskConsumer<'t, 'd, 'r, 'i, N>,
         callback: PartCallback<'d, 'r, 'i, N>,
     )
-        ensures { Follows self.old self.new }
+        ensures follows { Follows self.old self.new }
+        ensures tally { self.new.refused ≡ false → CountsLeave self.old.tally self.new.tally }
     {
         let (met, left) = consumer.set_callback_inline(callback);
         leave_by_consumer(rt, self.cells, &mut self.pass, left, &mut self.tally);

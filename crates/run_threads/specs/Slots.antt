@@ -1,5 +1,5 @@
 -- Slots of stages, before and after their runs.
-use Rattle.std.specs.Prelude.{◌≡◌, ℕ, List, Option, Some, None, false, map}
+use Rattle.std.specs.Prelude.{◌≡◌, ℕ, List, [], Option, Some, None, false, length, map}
 use Rattle.std.specs.List.{All}
 use Rattle.fan_base.specs.Outside.{shown}
 use Rattle.query_model.specs.declared.line.Line.{Line}
@@ -8,6 +8,7 @@ use Rattle.fan_base.specs.declared.number.Mark.{Mark}
 use Rattle.job_trait.specs.Marks.{IsDone}
 use Rattle.job_trait.specs.Runs.{Leads}
 use Rattle.notify_queue.specs.Ends.{IsDry}
+use Rattle.event_base.specs.Closing.{held_by}
 use Rattle.event_base.specs.Looping.{HoldsNoCallback}
 use Rattle.event_base.specs.Seen.{BaseSeen}
 use Rattle.pool_model.specs.Records.{ran_of}
@@ -24,6 +25,7 @@ use Rattle.run_gathering.specs.Stages.{CameTo, IsSameBase}
 use Rattle.run_printing.specs.declared.stage.PrintStage.{PrintStage}
 use Rattle.run_printing.specs.Ends.{HasPrinted, IsBaseOf, IsNewBase}
 use Rattle.run_tasks.specs.declared.stage.WorkerStage.{WorkerStage}
+use Rattle.run_tasks.specs.Leaving.{CountsTasks}
 use Rattle.run_tasks.specs.Seen.{TaskSeen, WorldSeen}
 use Rattle.run_tasks.specs.Worlds.{AreEndsFor, StaysPass, told_of}
 use Rattle.run_threads.specs.declared.gatherer.GatherSlot.{GatherSlot}
@@ -75,6 +77,7 @@ module _ {N : Type 0} {g : Ghosts N} where
     pub same_base : IsSameBase base stage.base
     pub did : CameTo base stage.base printer.sender stage.printer stage.tally stage.refused
     pub closed : stage.refused ≡ false → IsDry stage.base.queue × HoldsNoCallback stage.base.agenda
+    pub empty : stage.refused ≡ false → held_by stage.base.agenda ≡ []
 
 module _ {J W G : Type 0} where
   -- it has a pass of its pool
@@ -101,8 +104,8 @@ module _ {J W G : Type 0} where
     pub spent : slot.pass ≡ None
 
 module _ {N G : Type 0} where
-  -- What a worker came to: the end is that of its pass; where no want of memory is noted, none was noted before, and each task ran; its
-  -- posters ended, and the pass of the cells is of the same cells.
+  -- What a worker came to: the end is that of its pass; where no want of memory is noted, none was noted before, each task ran, and the tally counts
+  -- the cores that they freed; its posters ended, and the pass of the cells is of the same cells.
   pub record IsStageOf (old : WorkerSlot TaskSeen (WorldSeen N) G) (stage : WorkerStage N) : Type 0 where
     pub pass : WorkerSeen
     pub had : old.pass ≡ Some pass
@@ -110,5 +113,6 @@ module _ {N G : Type 0} where
     pub end_number : stage.end.number ≡ pass.number
     pub marks : stage.ends.refused ≡ false → All (λ r. IsDone r.mark) stage.end.records
     pub refused : stage.ends.refused ≡ false → old.world.refused ≡ false
+    pub tally : stage.ends.refused ≡ false → CountsTasks (length stage.end.records) old.world.tally stage.ends.tally
     pub posters : AreEndsFor (map told_of old.world.posters) stage.ends.posters.items
     pub cells : StaysPass old.world.pass stage.ends.pass

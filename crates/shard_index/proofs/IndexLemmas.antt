@@ -1,51 +1,29 @@
 -- An index of one more document, and what it tells of its first documents.
-use Rattle.std.proofs.Common.{◌≡◌, ℕ, suc, ◌+◌, ◌-◌, ◌*◌, ◌<◌, ◌≤◌, ◌^◌, List, [], ◌∷◌, ◌++◌, length, Bool, true, false, cond, get_or, replicate, refl, sym, ap, ◌∙◌, subst, arith, take, map, zip, append-nil, zero-add}
+use Rattle.std.proofs.Common.{◌≡◌, ℕ, suc, ◌+◌, ◌*◌, ◌<◌, ◌≤◌, ◌^◌, List, [], ◌∷◌, ◌++◌, length, get_or, replicate, refl, sym, ap, ◌∙◌, subst, arith, take, map, zip}
 use Rattle.std.specs.List.{All, AllByRecursion}
 use Rattle.std.proofs.lemmas.List.{length-map, take-map, length-take-le}
 use Rattle.fan_base.specs.declared.doc.Doc.{Doc}
 use Rattle.fan_base.specs.declared.word.Word.{Word}
 use Rattle.query_grammar.specs.Tree.{Tree}
-use Rattle.query_grammar.specs.Truth.{is_among}
 use Rattle.query_model.specs.Answers.{having, hits_of, ranked, times_in}
 use Rattle.query_model.specs.Parts.{weighted_score, weighted_top}
 use Rattle.shard_index.specs.declared.index.Index.{Index}
 use Rattle.shard_index.specs.Counting.{DifferentWords}
-use Rattle.shard_index.specs.Places.{front_of, has_word, holds_in, places_where, repeats_of}
-use Rattle.shard_index.specs.Postings.{Noted, is_last, noted_for, with_words}
+use Rattle.shard_index.specs.declared.reading.Reading.{Reading}
+use Rattle.shard_index.specs.Places.{distinct, front_of, has_word, holds_in, places_where, standing_of}
+use Rattle.word_table.specs.Noted.{HasNoted, noted_at}
+use Rattle.word_table.specs.Numbers.{Knows}
 use Rattle.shard_index.specs.Selections.{hits_where}
-use Rattle.shard_index.specs.Standing.{Indexes}
-use Rattle.shard_index.proofs.PlaceLemmas.{below-repeats, below-where, length-places, not_last, places-below, places-push, repeats-push}
-use Rattle.shard_index.proofs.PostingLemmas.{count_in, none-count}
+use Rattle.shard_index.specs.Standing.{Indexes, Reads}
+use Rattle.shard_index.proofs.PlaceLemmas.{below-standing, distinct-standing, length-places, standing-push}
 use Rattle.shard_index.proofs.ScoreLemmas.{all-take, differ-take, score-fits, score-more, zip-maps}
 use Rattle.shard_index.proofs.TotalLemmas.{all-places, all-rec}
 
 pub many-ids : (index : Index) (docs : List Doc) → Indexes index docs → length index.ids.items ≡ length docs
 many-ids index docs stands = ap length stands.ids ∙ length-map docs (λ d. d.id)
 
--- the next place is noted for no word
-pub fresh-place : (index : Index) (docs : List Doc) (place : ℕ) → Indexes index docs → place ≡ length index.ids.items → (w : Word) → is_last (noted_for index.postings w).0 place ≡ false
-fresh-place index docs place stands is w =
-    (λ i. is_last (stands.noted w i).0 ((is ∙ many-ids index docs stands) i))
-    ∙ not_last (places_where (has_word w) docs) (length docs) (subst (λ (n : ℕ). AllByRecursion (λ x. x < n) (places_where (has_word w) docs)) (zero-add (length docs)) (places-below 0 (has_word w) docs))
-
-pub noted-push : (w : Word) (place : ℕ) (docs : List Doc) (doc : Doc) → place ≡ length docs
-    → with_words doc.words place w (places_where (has_word w) docs, repeats_of w docs) ≡ (places_where (has_word w) (docs ++ doc ∷ []), repeats_of w (docs ++ doc ∷ []))
-noted-push w place docs doc is =
-    by (is_among w doc.words) (none-count w doc.words) ∙ sym (λ i. (places-push (has_word w) docs doc i, repeats-push w docs doc i))
-  where
-    ps : List ℕ
-    ps = places_where (has_word w) docs
-
-    rs : List ℕ
-    rs = repeats_of w docs
-
-    n : ℕ
-    n = count_in w doc.words
-
-    by : (b : Bool) → (b ≡ false → n ≡ 0)
-        → ◌≡◌ {A = Noted} (cond b (ps ++ place ∷ [], rs ++ replicate (n - 1) place) (ps, rs)) (cond b (ps ++ length docs ∷ []) ps, rs ++ replicate (n - 1) (length docs))
-    by true none = λ i. (ps ++ is i ∷ [], rs ++ replicate (n - 1) (is i))
-    by false none = ap (λ xs. (ps, xs)) (sym (append-nil rs) ∙ sym (ap (λ k. rs ++ replicate (k - 1) (length docs)) (none refl)))
+pub many-read : (reading : Reading) (docs : List Doc) → Reads reading docs → length reading.ids.items ≡ length docs
+many-read reading docs reads = ap length reads.ids ∙ length-map docs (λ d. d.id)
 
 map-push : (docs : List Doc) (doc : Doc) → map (λ d. d.id) (docs ++ doc ∷ []) ≡ map (λ d. d.id) docs ++ doc.id ∷ []
 map-push [] doc = refl
@@ -59,24 +37,27 @@ all-push : {A : Type 0} (P : A → Type 0) (xs : List A) (x : A) → AllByRecurs
 all-push P [] x h p = (p, tt)
 all-push P (y ∷ ys) x h p = (h.0, all-push P ys x h.1 p)
 
--- the index of one more document
-pub indexes-push : (old new : Index) (docs : List Doc) (doc : Doc) (place : ℕ) → Indexes old docs → place ≡ length old.ids.items → new.ids.items ≡ old.ids.items ++ doc.id ∷ []
-    → ((w : Word) → noted_for new.postings w ≡ with_words doc.words place w (noted_for old.postings w)) → length doc.words ≤ 1000 → length old.ids.items + 1 < 2 ^ 32 → Indexes new (docs ++ doc ∷ [])
-indexes-push old new docs doc place stands is ids noted short room =
-    let many = many-ids old docs stands in
+-- one more document is read
+pub reads-push : (old new : Reading) (docs : List Doc) (doc : Doc) (place : ℕ) (known : List Word) → Reads old docs → place ≡ length old.ids.items → new.ids.items ≡ old.ids.items ++ doc.id ∷ []
+    → Knows new.dictionary known → HasNoted new.notes known (noted_at (λ w. standing_of w docs) doc.words place) → length doc.words ≤ 1000 → length old.ids.items + 1 < 2 ^ 32 → Reads new (docs ++ doc ∷ [])
+reads-push old new docs doc place known reads is ids knows noted short room =
+    let many = many-read old docs reads in
     record {
-      ids = ids ∙ (ap (λ xs. xs ++ doc.id ∷ []) stands.ids ∙ sym (map-push docs doc));
-      noted = λ w. noted w ∙ (ap (λ n. with_words doc.words place w n) (stands.noted w) ∙ noted-push w place docs doc (is ∙ many));
-      short = all-places (λ d. length d.words ≤ 1000) (docs ++ doc ∷ []) (all-push (λ d. length d.words ≤ 1000) docs doc (all-rec (λ d. length d.words ≤ 1000) docs stands.short) short);
+      known = known;
+      ids = ids ∙ (ap (λ xs. xs ++ doc.id ∷ []) reads.ids ∙ sym (map-push docs doc));
+      knows = knows;
+      noted = subst (λ (f : Word → List ℕ). HasNoted new.notes known f)
+          (λ i w. (ap (λ (n : ℕ). standing_of w docs ++ replicate (times_in doc w) n) (is ∙ many) ∙ sym (standing-push w docs doc)) i) noted;
+      short = all-places (λ d. length d.words ≤ 1000) (docs ++ doc ∷ []) (all-push (λ d. length d.words ≤ 1000) docs doc (all-rec (λ d. length d.words ≤ 1000) docs reads.short) short);
       few = omega (arith, length-push docs doc, many, room);
     }
 
--- the first places of a word
-pub places-front : (index : Index) (docs : List Doc) (front : ℕ) (w : Word) → Indexes index docs → front_of front (noted_for index.postings w).0 ≡ places_where (has_word w) (take front docs)
-places-front index docs front w stands = ap (λ n. front_of front n.0) (stands.noted w) ∙ below-where front (has_word w) docs
+-- where a word stands among the first documents
+pub standing-front : (docs : List Doc) (front : ℕ) (w : Word) (places : List ℕ) → places ≡ standing_of w docs → front_of front places ≡ standing_of w (take front docs)
+standing-front docs front w places is = ap (λ (ps : List ℕ). front_of front ps) is ∙ below-standing front w docs
 
-pub repeats-front : (index : Index) (docs : List Doc) (front : ℕ) (w : Word) → Indexes index docs → front_of front (noted_for index.postings w).1 ≡ repeats_of w (take front docs)
-repeats-front index docs front w stands = ap (λ n. front_of front n.1) (stands.noted w) ∙ below-repeats front w docs
+pub places-front : (docs : List Doc) (front : ℕ) (w : Word) (places below : List ℕ) → places ≡ standing_of w docs → below ≡ front_of front places → distinct below ≡ places_where (has_word w) (take front docs)
+places-front docs front w places below is cut = ap distinct (cut ∙ standing-front docs front w places is) ∙ distinct-standing w (take front docs)
 
 pub ids-front : (index : Index) (docs : List Doc) (front : ℕ) (ids : List ℕ) → Indexes index docs → ids ≡ take front index.ids.items → ids ≡ map (λ d. d.id) (take front docs)
 ids-front index docs front ids stands is = is ∙ (ap (λ xs. take front xs) stands.ids ∙ take-map (λ d. d.id) front docs)

@@ -1,7 +1,7 @@
 mod Sorted
 mod Keeping
+mod WordLemmas
 mod PlaceLemmas
-mod PostingLemmas
 mod JoinLemmas
 mod SelectionLemmas
 mod HitLemmas
@@ -12,3 +12,4 @@ mod IndexLemmas
 mod MergeLemmas
 mod MarkLemmas
 pub mod Crossings
+pub mod FrontLemmas

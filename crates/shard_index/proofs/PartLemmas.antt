@@ -1,13 +1,15 @@
 -- The part of a shard: one more document, and the first documents.
-use Rattle.std.proofs.Common.{◌≡◌, ℕ, zero, suc, ◌+◌, ◌-◌, ◌*◌, ◌/◌, ◌%◌, ◌<◌, ◌≤◌, List, [], ◌∷◌, ◌++◌, length, Bool, true, false, cond, eqb, take, get_or, min, Some, None, zero-add, refl, sym, ap, ◌∙◌, arith, add-zero, inl, inr}
+use Rattle.std.proofs.Common.{◌≡◌, ℕ, zero, suc, ◌+◌, ◌-◌, ◌*◌, ◌/◌, ◌%◌, ◌<◌, ◌≤◌, List, [], ◌∷◌, ◌++◌, length, Bool, true, false, cond, eqb, take, get_or, min, Some, None, zero-add, refl, sym, ap, ◌∙◌, subst, arith, add-zero, inl, inr}
 use Rattle.std.specs.List.{slice_get}
 use Rattle.std.proofs.lemmas.Bool.{cases_lt}
 use Rattle.std.proofs.lemmas.Bool.Decides.{nat_tests}
 use Rattle.std.proofs.lemmas.Grind.{div_ceil_times}
-use Rattle.std.proofs.lemmas.List.{take_more, take_all, length-take-le}
+use Rattle.std.proofs.lemmas.List.{get_or_append_left, get_or_push, length_push, take_more, take_all, length-take-le}
 use Rattle.std.proofs.Math.Nat.{mul-le-mul_right}
 use Rattle.fan_base.specs.declared.doc.Doc.{Doc}
 use Rattle.query_model.specs.Parts.{part_before, part_from, part_of}
+use Rattle.shard_index.specs.declared.shard.Shard.{Shard}
+use Rattle.shard_index.specs.Standing.{StandsFor}
 
 part_from-push : (place shards number : ℕ) (docs : List Doc) (doc : Doc) → part_from place (docs ++ doc ∷ []) shards number ≡ cond (eqb ((place + length docs) % shards) number) (part_from place docs shards number ++ doc ∷ []) (part_from place docs shards number)
 part_from-push place shards number [] doc = ap (λ n. cond (eqb (n % shards) number) (doc ∷ []) []) (sym (add-zero place))
@@ -133,3 +135,15 @@ front-is docs shards number before count front within told counted is =
           ∙ sym (told (take before docs) shards number i within
           ∙ got-behind docs before (i * shards + number) (high i count shards (before - number) number before (mul-le-mul_right shards behind) bounds.0 refl))
     ]
+
+-- one shard more
+pub shards-push : (all new : List Shard) (shard : Shard) (docs : List Doc) (shards number : ℕ) → new ≡ all ++ shard ∷ [] → length all ≡ number → StandsFor shard docs shards number
+    → ((n : ℕ) (s : Shard) → n < length all → StandsFor (get_or all n s) docs shards n) → (n : ℕ) (s : Shard) → n < length new → StandsFor (get_or new n s) docs shards n
+shards-push all new shard docs shards number pushed many stands each n s low = elim (cases_lt n (length all)) [
+  | inl less ↦
+      subst (λ (t : Shard). StandsFor t docs shards n) (sym (ap (λ (ss : List Shard). get_or ss n s) pushed ∙ get_or_append_left all (shard ∷ []) s n less)) (each n s less)
+  | inr more ↦
+      let last : length all ≡ n = omega (arith, more, low, ap length pushed, length_push all shard) in
+      subst (λ (t : Shard). StandsFor t docs shards n) (sym (ap (λ (ss : List Shard). get_or ss n s) pushed ∙ get_or_push all shard s n last))
+      (subst (λ (k : ℕ). StandsFor shard docs shards k) (sym many ∙ last) stands)
+]

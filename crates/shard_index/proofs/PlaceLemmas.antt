@@ -1,13 +1,16 @@
 -- Places of documents: bounds, fronts, one document more, and what stands at them.
-use Rattle.std.proofs.Common.{◌≡◌, ℕ, zero, suc, ◌+◌, ◌-◌, ◌<◌, ◌≤◌, List, [], ◌∷◌, ◌++◌, length, Bool, true, false, cond, eqb, ltb, get_or, replicate, Some, refl, sym, ap, ◌∙◌, arith, take, map, filter, zero-add, add-zero, append_assoc, append-nil}
-use Rattle.std.specs.List.{AllByRecursion, slice_get}
+use Rattle.std.proofs.Common.{◌≡◌, ℕ, zero, suc, ◌+◌, ◌-◌, ◌<◌, ◌≤◌, List, [], ◌∷◌, ◌++◌, length, Bool, true, false, not, cond, eqb, ltb, get_or, replicate, Option, None, Some, refl, sym, ap, ◌∙◌, arith, take, map, filter, zero-add, add-zero, append_assoc, append-nil}
+use Rattle.std.specs.List.{AllByRecursion, fold, slice_get}
 use Rattle.std.specs.Option.{option_eq}
+use Rattle.std.proofs.lemmas.Bool.{false≢true}
 use Rattle.std.proofs.lemmas.Bool.Decides.{nat_tests}
+use Rattle.std.proofs.lemmas.List.{take_more}
 use Rattle.fan_base.specs.declared.doc.Doc.{Doc}
 use Rattle.fan_base.specs.declared.word.Word.{Word}
 use Rattle.query_model.specs.Answers.{times_in}
-use Rattle.shard_index.specs.Places.{front_of, places_from, places_where, repeats_from, repeats_of}
-use Rattle.shard_index.specs.Postings.{is_last}
+use Rattle.shard_index.specs.Places.{distinct, front_of, has_word, is_last, places_from, places_where, standing_from, standing_of, with_place}
+use Rattle.query_grammar.specs.Truth.{is_among}
+use Rattle.shard_index.proofs.WordLemmas.{none-count, some-count}
 
 pub places-above : (m place : ℕ) (test : Doc → Bool) (docs : List Doc) → m < place → AllByRecursion (λ x. m < x) (places_from place test docs)
 places-above m place test [] low = tt
@@ -38,11 +41,11 @@ all-replicate : {A : Type 0} (P : A → Type 0) (n : ℕ) (x : A) → P x → Al
 all-replicate P zero x h = tt
 all-replicate P (suc n) x h = (h, all-replicate P n x h)
 
-pub repeats-below : (place : ℕ) (word : Word) (docs : List Doc) → AllByRecursion (λ x. x < place + length docs) (repeats_from place word docs)
-repeats-below place word [] = tt
-repeats-below place word (d ∷ ds) =
-    all-append (λ x. x < place + suc (length ds)) (replicate (times_in d word - 1) place) (repeats_from (place + 1) word ds)
-    (all-replicate (λ x. x < place + suc (length ds)) (times_in d word - 1) place (omega arith)) (wider (repeats_from (place + 1) word ds) (repeats-below (place + 1) word ds))
+pub standing-below : (place : ℕ) (word : Word) (docs : List Doc) → AllByRecursion (λ x. x < place + length docs) (standing_from place word docs)
+standing-below place word [] = tt
+standing-below place word (d ∷ ds) =
+    all-append (λ x. x < place + suc (length ds)) (replicate (times_in d word) place) (standing_from (place + 1) word ds)
+    (all-replicate (λ x. x < place + suc (length ds)) (times_in d word) place (omega arith)) (wider (standing_from (place + 1) word ds) (standing-below (place + 1) word ds))
   where
     wider : (xs : List ℕ) → AllByRecursion (λ x. x < place + 1 + length ds) xs → AllByRecursion (λ x. x < place + suc (length ds)) xs
     wider [] h = tt
@@ -78,11 +81,11 @@ places-from-above m place test (d ∷ ds) low = by (test d) (places-from-above m
     by true more = (low, more)
     by false more = more
 
-repeats-from-above : (m place : ℕ) (word : Word) (docs : List Doc) → m ≤ place → AllByRecursion (λ x. m ≤ x) (repeats_from place word docs)
-repeats-from-above m place word [] low = tt
-repeats-from-above m place word (d ∷ ds) low =
-    all-append (λ x. m ≤ x) (replicate (times_in d word - 1) place) (repeats_from (place + 1) word ds)
-    (all-replicate (λ x. m ≤ x) (times_in d word - 1) place low) (repeats-from-above m (place + 1) word ds (omega arith))
+pub standing-from-above : (m place : ℕ) (word : Word) (docs : List Doc) → m ≤ place → AllByRecursion (λ x. m ≤ x) (standing_from place word docs)
+standing-from-above m place word [] low = tt
+standing-from-above m place word (d ∷ ds) low =
+    all-append (λ x. m ≤ x) (replicate (times_in d word) place) (standing_from (place + 1) word ds)
+    (all-replicate (λ x. m ≤ x) (times_in d word) place low) (standing-from-above m (place + 1) word ds (omega arith))
 
 -- the places below a front are those of the first documents
 places-front : (place n front : ℕ) (test : Doc → Bool) (docs : List Doc) → front ≡ place + n → front_of front (places_from place test docs) ≡ places_from place test (take n docs)
@@ -103,15 +106,15 @@ front-replicate front place zero xs low = refl
 front-replicate front place (suc n) xs low =
     ap (λ b. cond b (place ∷ front_of front (replicate n place ++ xs)) []) (lt-ltb place front low) ∙ ap (λ ys. place ∷ ys) (front-replicate front place n xs low)
 
-repeats-front : (place n front : ℕ) (word : Word) (docs : List Doc) → front ≡ place + n → front_of front (repeats_from place word docs) ≡ repeats_from place word (take n docs)
-repeats-front place zero front word docs is = none-front front (repeats_from place word docs) (repeats-from-above front place word docs (omega arith))
-repeats-front place (suc n) front word [] is = refl
-repeats-front place (suc n) front word (d ∷ ds) is =
-    front-replicate front place (times_in d word - 1) (repeats_from (place + 1) word ds) (omega arith)
-    ∙ ap (λ xs. replicate (times_in d word - 1) place ++ xs) (repeats-front (place + 1) n front word ds (omega arith))
+standing-front : (place n front : ℕ) (word : Word) (docs : List Doc) → front ≡ place + n → front_of front (standing_from place word docs) ≡ standing_from place word (take n docs)
+standing-front place zero front word docs is = none-front front (standing_from place word docs) (standing-from-above front place word docs (omega arith))
+standing-front place (suc n) front word [] is = refl
+standing-front place (suc n) front word (d ∷ ds) is =
+    front-replicate front place (times_in d word) (standing_from (place + 1) word ds) (omega arith)
+    ∙ ap (λ xs. replicate (times_in d word) place ++ xs) (standing-front (place + 1) n front word ds (omega arith))
 
-pub below-repeats : (front : ℕ) (word : Word) (docs : List Doc) → front_of front (repeats_of word docs) ≡ repeats_of word (take front docs)
-below-repeats front word docs = repeats-front 0 front front word docs (sym (zero-add front))
+pub below-standing : (front : ℕ) (word : Word) (docs : List Doc) → front_of front (standing_of word docs) ≡ standing_of word (take front docs)
+below-standing front word docs = standing-front 0 front front word docs (sym (zero-add front))
 
 -- one document more
 
@@ -138,14 +141,14 @@ places_from-push place test (d ∷ ds) doc = by (test d) (test doc) (places_from
 pub places-push : (test : Doc → Bool) (docs : List Doc) (doc : Doc) → places_where test (docs ++ doc ∷ []) ≡ cond (test doc) (places_where test docs ++ length docs ∷ []) (places_where test docs)
 places-push test docs doc = places_from-push 0 test docs doc ∙ ap (λ n. cond (test doc) (places_where test docs ++ n ∷ []) (places_where test docs)) (zero-add (length docs))
 
-repeats_from-push : (place : ℕ) (word : Word) (docs : List Doc) (doc : Doc) → repeats_from place word (docs ++ doc ∷ []) ≡ repeats_from place word docs ++ replicate (times_in doc word - 1) (place + length docs)
-repeats_from-push place word [] doc = append-nil (replicate (times_in doc word - 1) place) ∙ ap (λ n. replicate (times_in doc word - 1) n) (sym (add-zero place))
-repeats_from-push place word (d ∷ ds) doc =
-    ap (λ xs. replicate (times_in d word - 1) place ++ xs) (repeats_from-push (place + 1) word ds doc ∙ ap (λ n. repeats_from (place + 1) word ds ++ replicate (times_in doc word - 1) n) (shifted place (length ds)))
-    ∙ sym (append_assoc (replicate (times_in d word - 1) place) (repeats_from (place + 1) word ds) (replicate (times_in doc word - 1) (place + suc (length ds))))
+standing_from-push : (place : ℕ) (word : Word) (docs : List Doc) (doc : Doc) → standing_from place word (docs ++ doc ∷ []) ≡ standing_from place word docs ++ replicate (times_in doc word) (place + length docs)
+standing_from-push place word [] doc = append-nil (replicate (times_in doc word) place) ∙ ap (λ n. replicate (times_in doc word) n) (sym (add-zero place))
+standing_from-push place word (d ∷ ds) doc =
+    ap (λ xs. replicate (times_in d word) place ++ xs) (standing_from-push (place + 1) word ds doc ∙ ap (λ n. standing_from (place + 1) word ds ++ replicate (times_in doc word) n) (shifted place (length ds)))
+    ∙ sym (append_assoc (replicate (times_in d word) place) (standing_from (place + 1) word ds) (replicate (times_in doc word) (place + suc (length ds))))
 
-pub repeats-push : (word : Word) (docs : List Doc) (doc : Doc) → repeats_of word (docs ++ doc ∷ []) ≡ repeats_of word docs ++ replicate (times_in doc word - 1) (length docs)
-repeats-push word docs doc = repeats_from-push 0 word docs doc ∙ ap (λ n. repeats_of word docs ++ replicate (times_in doc word - 1) n) (zero-add (length docs))
+pub standing-push : (word : Word) (docs : List Doc) (doc : Doc) → standing_of word (docs ++ doc ∷ []) ≡ standing_of word docs ++ replicate (times_in doc word) (length docs)
+standing-push word docs doc = standing_from-push 0 word docs doc ∙ ap (λ n. standing_of word docs ++ replicate (times_in doc word) n) (zero-add (length docs))
 
 -- how many pass, and what stands at their places
 
@@ -221,3 +224,90 @@ is_last-push ps p =
 
     shorter : (xs : List ℕ) → length (xs ++ p ∷ []) - 1 ≡ length xs
     shorter xs = omega (arith, many xs)
+
+-- each place but once
+
+with-new : (acc : List ℕ) (place : ℕ) → AllByRecursion (λ x. x < place) acc → with_place acc place ≡ acc ++ place ∷ []
+with-new acc place all = ap (λ (b : Bool). cond b acc (acc ++ place ∷ [])) (not_last acc place all)
+
+with-last : (acc : List ℕ) (place : ℕ) → with_place (acc ++ place ∷ []) place ≡ acc ++ place ∷ []
+with-last acc place = ap (λ (b : Bool). cond b (acc ++ place ∷ []) ((acc ++ place ∷ []) ++ place ∷ [])) (is_last-push acc place)
+
+again : (n place : ℕ) (acc rest : List ℕ) → fold with_place (acc ++ place ∷ []) (replicate n place ++ rest) ≡ fold with_place (acc ++ place ∷ []) rest
+again zero place acc rest = refl
+again (suc n) place acc rest = ap (λ (xs : List ℕ). fold with_place xs (replicate n place ++ rest)) (with-last acc place) ∙ again n place acc rest
+
+wider-push : (place : ℕ) (acc : List ℕ) → AllByRecursion (λ x. x < place) acc → AllByRecursion (λ x. x < place + 1) (acc ++ place ∷ [])
+wider-push place [] all = (omega arith, tt)
+wider-push place (x ∷ xs) all = (omega (arith, all.0), wider-push place xs all.1)
+
+wider-one : (place : ℕ) (acc : List ℕ) → AllByRecursion (λ x. x < place) acc → AllByRecursion (λ x. x < place + 1) acc
+wider-one place [] all = tt
+wider-one place (x ∷ xs) all = (omega (arith, all.0), wider-one place xs all.1)
+
+distinct-step : (word : Word) (place : ℕ) (acc : List ℕ) (d : Doc) (ds : List Doc) → AllByRecursion (λ x. x < place) acc
+    → fold with_place (acc ++ place ∷ []) (standing_from (place + 1) word ds) ≡ (acc ++ place ∷ []) ++ places_from (place + 1) (has_word word) ds
+    → fold with_place acc (standing_from (place + 1) word ds) ≡ acc ++ places_from (place + 1) (has_word word) ds
+    → fold with_place acc (standing_from place word (d ∷ ds)) ≡ acc ++ places_from place (has_word word) (d ∷ ds)
+distinct-step word place acc d ds all more once = by (is_among word d.words) (times_in d word) (some-count word d.words) (none-count word d.words)
+  where
+    rest : List ℕ
+    rest = standing_from (place + 1) word ds
+
+    found : List ℕ
+    found = places_from (place + 1) (has_word word) ds
+
+    by : (b : Bool) (n : ℕ) → (b ≡ true → 1 ≤ n) → (b ≡ false → n ≡ 0) → fold with_place acc (replicate n place ++ rest) ≡ acc ++ cond b (place ∷ found) found
+    by true zero least most = absurd (omega (arith, least refl))
+    by true (suc n) least most =
+        ap (λ (xs : List ℕ). fold with_place xs (replicate n place ++ rest)) (with-new acc place all)
+        ∙ (again n place acc rest ∙ (more ∙ append_assoc acc (place ∷ []) found))
+    by false n least most = ap (λ (k : ℕ). fold with_place acc (replicate k place ++ rest)) (most refl) ∙ once
+
+distinct-from : (word : Word) (place : ℕ) (acc : List ℕ) (docs : List Doc) → AllByRecursion (λ x. x < place) acc → fold with_place acc (standing_from place word docs) ≡ acc ++ places_from place (has_word word) docs
+distinct-from word place acc [] all = sym (append-nil acc)
+distinct-from word place acc (d ∷ ds) all =
+    distinct-step word place acc d ds all (distinct-from word (place + 1) (acc ++ place ∷ []) ds (wider-push place acc all)) (distinct-from word (place + 1) acc ds (wider-one place acc all))
+
+fold-more : (acc xs : List ℕ) (x : ℕ) → fold with_place acc (xs ++ x ∷ []) ≡ with_place (fold with_place acc xs) x
+fold-more acc [] x = refl
+fold-more acc (y ∷ ys) x = fold-more (with_place acc y) ys x
+
+pub distinct-more : (places : List ℕ) (i : ℕ) → i < length places → distinct (take (i + 1) places) ≡ with_place (distinct (take i places)) (get_or places i 0)
+distinct-more places i within = ap distinct (take_more places i 0 within) ∙ fold-more [] (take i places) (get_or places i 0)
+
+-- the place put last is the last
+got : (ps : List ℕ) (p x : ℕ) → option_eq eqb (slice_get (ps ++ p ∷ []) (length ps)) (Some x) ≡ option_eq eqb (Some p) (Some x)
+got [] p x = refl
+got (q ∷ qs) p x = got qs p x
+
+last-pushed : (ps : List ℕ) (p x : ℕ) → is_last (ps ++ p ∷ []) x ≡ option_eq eqb (Some p) (Some x)
+last-pushed ps p x =
+    let at : length (ps ++ p ∷ []) - 1 ≡ length ps = shorter ps in
+    ap (λ k. option_eq eqb (slice_get (ps ++ p ∷ []) k) (Some x)) at ∙ got ps p x
+  where
+    many : (xs : List ℕ) → length (xs ++ p ∷ []) ≡ suc (length xs)
+    many [] = refl
+    many (y ∷ ys) = ap suc (many ys)
+
+    shorter : (xs : List ℕ) → length (xs ++ p ∷ []) - 1 ≡ length xs
+    shorter xs = omega (arith, many xs)
+
+same-last : (o : Option ℕ) (p x : ℕ) → option_eq eqb o (Some p) ≡ true → option_eq eqb o (Some x) ≡ option_eq eqb (Some p) (Some x)
+same-last None p x is = absurd (false≢true is)
+same-last (Some q) p x is = let e : q ≡ p = grind (is, arith, nat_tests) in ap (λ (k : ℕ). eqb k x) e
+
+pub last-is : (ps : List ℕ) (p x : ℕ) → is_last (with_place ps p) x ≡ option_eq eqb (Some p) (Some x)
+last-is ps p x = by (is_last ps p) (same-last (slice_get ps (length ps - 1)) p x)
+  where
+    by : (b : Bool) → (b ≡ true → is_last ps x ≡ option_eq eqb (Some p) (Some x)) → is_last (cond b ps (ps ++ p ∷ [])) x ≡ option_eq eqb (Some p) (Some x)
+    by true same = same refl
+    by false same = last-pushed ps p x
+
+-- a place is put behind where it isn't the last
+pub put-behind : (ps : List ℕ) (p : ℕ) (b : Bool) → is_last ps p ≡ b → ps ++ cond (not b) (p ∷ []) [] ≡ with_place ps p
+put-behind ps p true is = append-nil ps ∙ sym (ap (λ (c : Bool). cond c ps (ps ++ p ∷ [])) is)
+put-behind ps p false is = sym (ap (λ (c : Bool). cond c ps (ps ++ p ∷ [])) is)
+
+pub distinct-standing : (word : Word) (docs : List Doc) → distinct (standing_of word docs) ≡ places_where (has_word word) docs
+distinct-standing word docs = distinct-from word 0 [] docs tt

@@ -10,7 +10,7 @@ use Rattle.query_grammar.specs.Truth.{is_among}
 use Rattle.query_model.specs.Answers.{times_in}
 use Rattle.query_model.specs.Parts.{weighted_score}
 use Rattle.shard_index.specs.Counting.{DifferentWords}
-use Rattle.shard_index.proofs.PostingLemmas.{count_in, count_in-cons}
+use Rattle.shard_index.proofs.WordLemmas.{count_in, count_in-cons}
 
 -- different words stand in a document no more often than it has words
 

@@ -1,14 +1,13 @@
 -- Totals by place: what a weight adds at the places of documents.
-use Rattle.std.proofs.Common.{◌≡◌, ℕ, zero, suc, ◌+◌, ◌-◌, ◌*◌, ◌<◌, ◌≤◌, List, [], ◌∷◌, ◌++◌, length, Bool, true, false, cond, get_or, replicate, refl, sym, ap, ◌∙◌, subst, arith, take, map, set, append_assoc, zero-add}
+use Rattle.std.proofs.Common.{◌≡◌, ℕ, zero, suc, ◌+◌, ◌*◌, ◌<◌, ◌≤◌, List, [], ◌∷◌, ◌++◌, length, Bool, get_or, replicate, refl, sym, ap, ◌∙◌, subst, arith, take, map, set, append_assoc, zero-add}
 use Rattle.std.specs.List.{All, AllByRecursion, fold}
 use Rattle.std.proofs.lemmas.List.{set_at, take_more}
 use Rattle.fan_base.specs.declared.doc.Doc.{Doc}
 use Rattle.fan_base.specs.declared.word.Word.{Word}
 use Rattle.query_model.specs.Answers.{times_in}
-use Rattle.shard_index.specs.Places.{has_word, places_from, places_where, repeats_from, repeats_of}
+use Rattle.shard_index.specs.Places.{places_where, standing_from, standing_of}
 use Rattle.shard_index.specs.Totals.{added_at, raised}
-use Rattle.shard_index.proofs.PlaceLemmas.{places-below, repeats-below}
-use Rattle.shard_index.proofs.PostingLemmas.{none-count, some-count}
+use Rattle.shard_index.proofs.PlaceLemmas.{places-below, standing-below}
 
 length-set : (xs : List ℕ) (i v : ℕ) → length (set xs i v) ≡ length xs
 length-set [] i v = refl
@@ -84,68 +83,26 @@ raised-middle weight xs ys y place is =
     ap (λ n. set (xs ++ y ∷ ys) place (n + weight)) (ap (λ n. get_or (xs ++ y ∷ ys) n 0) is ∙ at-middle xs ys y)
     ∙ set_at xs y ys (y + weight) place (sym is)
 
-added-places : (weight place : ℕ) (test : Doc → Bool) (score : Doc → ℕ) (before : List ℕ) (docs : List Doc) → place ≡ length before
-    → added_at weight (before ++ map score docs) (places_from place test docs) ≡ before ++ map (λ d. cond (test d) (score d + weight) (score d)) docs
-added-places weight place test score before [] is = refl
-added-places weight place test score before (d ∷ ds) is =
-    by (test d) (λ n. added-places weight (place + 1) test score (before ++ n ∷ []) ds (ap (λ k. k + 1) is ∙ grown before n))
-  where
-    rest : List ℕ
-    rest = map (λ d. cond (test d) (score d + weight) (score d)) ds
-
-    by : (b : Bool) → ((n : ℕ) → added_at weight ((before ++ n ∷ []) ++ map score ds) (places_from (place + 1) test ds) ≡ (before ++ n ∷ []) ++ rest)
-        → added_at weight (before ++ score d ∷ map score ds) (cond b (place ∷ places_from (place + 1) test ds) (places_from (place + 1) test ds)) ≡ before ++ cond b (score d + weight) (score d) ∷ rest
-    by true more =
-        ap (λ xs. added_at weight xs (places_from (place + 1) test ds)) (raised-middle weight before (map score ds) (score d) place is ∙ sym (append_assoc before ((score d + weight) ∷ []) (map score ds)))
-        ∙ (more (score d + weight) ∙ append_assoc before ((score d + weight) ∷ []) rest)
-    by false more =
-        ap (λ xs. added_at weight xs (places_from (place + 1) test ds)) (sym (append_assoc before (score d ∷ []) (map score ds)))
-        ∙ (more (score d) ∙ append_assoc before (score d ∷ []) rest)
-
 added-again : (weight n place : ℕ) (xs ys more : List ℕ) (y : ℕ) → place ≡ length xs → added_at weight (xs ++ y ∷ ys) (replicate n place ++ more) ≡ added_at weight (xs ++ (y + n * weight) ∷ ys) more
 added-again weight zero place xs ys more y is = ap (λ k. added_at weight (xs ++ k ∷ ys) more) (let e : y ≡ y + 0 * weight = omega arith in e)
 added-again weight (suc n) place xs ys more y is =
     ap (λ zs. added_at weight zs (replicate n place ++ more)) (raised-middle weight xs ys y place is)
     ∙ (added-again weight n place xs ys more (y + weight) is ∙ ap (λ k. added_at weight (xs ++ k ∷ ys) more) (let e : y + weight + n * weight ≡ y + suc n * weight = omega arith in e))
 
-added-repeats : (weight place : ℕ) (word : Word) (score : Doc → ℕ) (before : List ℕ) (docs : List Doc) → place ≡ length before
-    → added_at weight (before ++ map score docs) (repeats_from place word docs) ≡ before ++ map (λ d. score d + (times_in d word - 1) * weight) docs
-added-repeats weight place word score before [] is = refl
-added-repeats weight place word score before (d ∷ ds) is =
-    let n = score d + (times_in d word - 1) * weight in
-    added-again weight (times_in d word - 1) place before (map score ds) (repeats_from (place + 1) word ds) (score d) is
-    ∙ (ap (λ xs. added_at weight xs (repeats_from (place + 1) word ds)) (sym (append_assoc before (n ∷ []) (map score ds)))
-    ∙ (added-repeats weight (place + 1) word score (before ++ n ∷ []) ds (ap (λ k. k + 1) is ∙ grown before n)
-    ∙ append_assoc before (n ∷ []) (map (λ d. score d + (times_in d word - 1) * weight) ds)))
+added-standing : (weight place : ℕ) (word : Word) (score : Doc → ℕ) (before : List ℕ) (docs : List Doc) → place ≡ length before
+    → added_at weight (before ++ map score docs) (standing_from place word docs) ≡ before ++ map (λ d. score d + (times_in d word) * weight) docs
+added-standing weight place word score before [] is = refl
+added-standing weight place word score before (d ∷ ds) is =
+    let n = score d + (times_in d word) * weight in
+    added-again weight (times_in d word) place before (map score ds) (standing_from (place + 1) word ds) (score d) is
+    ∙ (ap (λ xs. added_at weight xs (standing_from (place + 1) word ds)) (sym (append_assoc before (n ∷ []) (map score ds)))
+    ∙ (added-standing weight (place + 1) word score (before ++ n ∷ []) ds (ap (λ k. k + 1) is ∙ grown before n)
+    ∙ append_assoc before (n ∷ []) (map (λ d. score d + (times_in d word) * weight) ds)))
 
 -- what a word adds in all
-abbrev pub first_part : ℕ → Word → (Doc → ℕ) → Doc → ℕ
-first_part weight word score d = cond (has_word word d) (score d + weight) (score d)
-
-pub added-first : (weight : ℕ) (word : Word) (score : Doc → ℕ) (docs : List Doc) → added_at weight (map score docs) (places_where (has_word word) docs) ≡ map (first_part weight word score) docs
-added-first weight word score docs = added-places weight 0 (has_word word) score [] docs refl
-
-one-word : (weight n s : ℕ) (b : Bool) → (b ≡ true → 1 ≤ n) → (b ≡ false → n ≡ 0) → cond b (s + weight) s + (n - 1) * weight ≡ s + n * weight
-one-word weight zero s true some none = absurd (omega (arith, some refl))
-one-word weight (suc n) s true some none =
-    let one : suc n - 1 ≡ n = omega arith in
-    let sums : s + weight + n * weight ≡ s + suc n * weight = omega arith in
-    ap (λ k. s + weight + k * weight) one ∙ sums
-one-word weight n s false some none =
-    let nothing : s + (0 - 1) * weight ≡ s + 0 * weight = omega arith in
-    ap (λ k. s + (k - 1) * weight) (none refl) ∙ (nothing ∙ sym (ap (λ k. s + k * weight) (none refl)))
-
 pub added-word : (weight : ℕ) (word : Word) (score : Doc → ℕ) (docs : List Doc)
-    → added_at weight (map (first_part weight word score) docs) (repeats_of word docs) ≡ map (λ d. score d + times_in d word * weight) docs
-added-word weight word score docs =
-    added-repeats weight 0 word (first_part weight word score) [] docs refl
-    ∙ (λ i. map (λ d. one-word weight (times_in d word) (score d) (has_word word d) (some-count word d.words) (none-count word d.words) i) docs)
-
--- the first part is within the whole
-pub first-le : (weight : ℕ) (word : Word) (score : Doc → ℕ) (d : Doc) → first_part weight word score d ≤ score d + times_in d word * weight
-first-le weight word score d =
-    let whole = one-word weight (times_in d word) (score d) (has_word word d) (some-count word d.words) (none-count word d.words) in
-    omega (arith, whole)
+    → added_at weight (map score docs) (standing_of word docs) ≡ map (λ d. score d + times_in d word * weight) docs
+added-word weight word score docs = added-standing weight 0 word score [] docs refl
 
 -- facts of all, by recursion and by places
 pub all-rec : {A : Type 0} (P : A → Type 0) (xs : List A) → All P xs → AllByRecursion P xs
@@ -161,29 +118,19 @@ all-map : (f : Doc → ℕ) (n : ℕ) (docs : List Doc) → AllByRecursion (λ d
 all-map f n [] h = tt
 all-map f n (d ∷ ds) h = (h.0, all-map f n ds h.1)
 
-all-lower : (f g : Doc → ℕ) (n : ℕ) (docs : List Doc) → ((d : Doc) → f d ≤ g d) → AllByRecursion (λ d. g d < n) docs → AllByRecursion (λ d. f d < n) docs
-all-lower f g n [] le h = tt
-all-lower f g n (d ∷ ds) le h = (omega (arith, le d, h.0), all-lower f g n ds le h.1)
-
--- what is to be known to add a word, in two parts
-module _ (weight : ℕ) (word : Word) (score : Doc → ℕ) (docs : List Doc) (totals places : List ℕ) (n : ℕ) (room : AllByRecursion (λ d. score d + times_in d word * weight < n) docs) where
-  pub first-fits : totals ≡ map score docs → places ≡ places_where (has_word word) docs → All (λ t. t < n) (added_at weight totals places)
-  first-fits is at =
-      subst (λ (ts : List ℕ). All (λ t. t < n) ts) (sym ((λ i. added_at weight (is i) (at i)) ∙ added-first weight word score docs))
-      (all-places (λ t. t < n) (map (first_part weight word score) docs)
-      (all-map (first_part weight word score) n docs (all-lower (first_part weight word score) (λ d. score d + times_in d word * weight) n docs (first-le weight word score) room)))
-
-  pub second-fits : totals ≡ map (first_part weight word score) docs → places ≡ repeats_of word docs → All (λ t. t < n) (added_at weight totals places)
-  second-fits is at =
-      subst (λ (ts : List ℕ). All (λ t. t < n) ts) (sym ((λ i. added_at weight (is i) (at i)) ∙ added-word weight word score docs))
-      (all-places (λ t. t < n) (map (λ d. score d + times_in d word * weight) docs) (all-map (λ d. score d + times_in d word * weight) n docs room))
+-- what is to be known to add a word
+pub word-fits : (weight : ℕ) (word : Word) (score : Doc → ℕ) (docs : List Doc) (totals places : List ℕ) (n : ℕ) → AllByRecursion (λ d. score d + times_in d word * weight < n) docs
+    → totals ≡ map score docs → places ≡ standing_of word docs → All (λ t. t < n) (added_at weight totals places)
+word-fits weight word score docs totals places n room is at =
+    subst (λ (ts : List ℕ). All (λ t. t < n) ts) (sym ((λ i. added_at weight (is i) (at i)) ∙ added-word weight word score docs))
+    (all-places (λ t. t < n) (map (λ d. score d + times_in d word * weight) docs) (all-map (λ d. score d + times_in d word * weight) n docs room))
 
 pub places-within : (test : Doc → Bool) (docs : List Doc) (places : List ℕ) (n : ℕ) → places ≡ places_where test docs → n ≡ length docs → All (λ p. p < n) places
 places-within test docs places n at many =
     subst (λ (ps : List ℕ). All (λ p. p < n) ps) (sym at) (all-places (λ p. p < n) (places_where test docs)
     (subst (λ (m : ℕ). AllByRecursion (λ p. p < m) (places_where test docs)) (zero-add (length docs) ∙ sym many) (places-below 0 test docs)))
 
-pub repeats-within : (word : Word) (docs : List Doc) (places : List ℕ) (n : ℕ) → places ≡ repeats_of word docs → n ≡ length docs → All (λ p. p < n) places
-repeats-within word docs places n at many =
-    subst (λ (ps : List ℕ). All (λ p. p < n) ps) (sym at) (all-places (λ p. p < n) (repeats_of word docs)
-    (subst (λ (m : ℕ). AllByRecursion (λ p. p < m) (repeats_of word docs)) (zero-add (length docs) ∙ sym many) (repeats-below 0 word docs)))
+pub standing-within : (word : Word) (docs : List Doc) (places : List ℕ) (n : ℕ) → places ≡ standing_of word docs → n ≡ length docs → All (λ p. p < n) places
+standing-within word docs places n at many =
+    subst (λ (ps : List ℕ). All (λ p. p < n) ps) (sym at) (all-places (λ p. p < n) (standing_of word docs)
+    (subst (λ (m : ℕ). AllByRecursion (λ p. p < m) (standing_of word docs)) (zero-add (length docs) ∙ sym many) (standing-below 0 word docs)))

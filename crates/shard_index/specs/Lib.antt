@@ -1,5 +1,4 @@
 pub mod Places
-pub mod Postings
 pub mod Standing
 pub mod Joins
 pub mod Selections

@@ -1,5 +1,7 @@
--- At which places documents stand that pass a test, and documents where a word stands again.
-use Rattle.std.specs.Prelude.{ℕ, ◌+◌, ◌-◌, List, [], ◌∷◌, ◌++◌, Bool, replicate, nat_lt, if◌then◌else◌}
+-- At which places documents stand that pass a test, and where a word stands.
+use Rattle.std.specs.Prelude.{ℕ, ◌+◌, ◌-◌, List, [], ◌∷◌, ◌++◌, length, Bool, replicate, nat_eq, nat_lt, slice_get, Some, if◌then◌else◌}
+use Rattle.std.specs.List.{fold}
+use Rattle.std.specs.Option.{option_eq}
 use Rattle.fan_base.specs.declared.doc.Doc.{Doc}
 use Rattle.fan_base.specs.declared.word.Word.{Word}
 use Rattle.query_grammar.specs.Tree.{Tree}
@@ -22,15 +24,27 @@ places_from place test (doc ∷ docs) =
 abbrev pub places_where : (Doc → Bool) → List Doc → List ℕ
 places_where test docs = places_from 0 test docs
 
--- for each document its place once for each time that the word stands there again
-abbrev pub repeats_from : ℕ → Word → List Doc → List ℕ
-repeats_from place word [] = []
-repeats_from place word (doc ∷ docs) = replicate (times_in doc word - 1) place ++ repeats_from (place + 1) word docs
+-- for each document its place, once for each time that the word stands there
+abbrev pub standing_from : ℕ → Word → List Doc → List ℕ
+standing_from place word [] = []
+standing_from place word (doc ∷ docs) = replicate (times_in doc word) place ++ standing_from (place + 1) word docs
 
-abbrev pub repeats_of : Word → List Doc → List ℕ
-repeats_of word docs = repeats_from 0 word docs
+abbrev pub standing_of : Word → List Doc → List ℕ
+standing_of word docs = standing_from 0 word docs
 
 -- the places from the first on, up to one that isn't below this number
 abbrev pub front_of : ℕ → List ℕ → List ℕ
 front_of front [] = []
 front_of front (place ∷ places) = if nat_lt place front then place ∷ front_of front places else []
+
+-- whether a place is the last of the list
+abbrev pub is_last : List ℕ → ℕ → Bool
+is_last places place = option_eq nat_eq (slice_get places (length places - 1)) (Some place)
+
+-- the list with one place more, where that isn't the last already
+abbrev pub with_place : List ℕ → ℕ → List ℕ
+with_place places place = if is_last places place then places else places ++ place ∷ []
+
+-- the places, each but once where it follows itself
+abbrev pub distinct : List ℕ → List ℕ
+distinct places = fold with_place [] places

@@ -4,20 +4,14 @@ use Rattle.fan_base.specs.declared.doc.Doc.{Doc}
 use Rattle.query_model.specs.declared.reply.Hits.{Hits}
 use Rattle.query_model.specs.Answers.{ids_of}
 use Rattle.query_model.specs.Limits.{most_listed}
-use Rattle.shard_index.specs.declared.selection.Listed.{Listed}
-use Rattle.shard_index.specs.declared.selection.Listed.TheVariants.{Lent, Made}
 use Rattle.shard_index.specs.declared.selection.Selection.{Selection}
 use Rattle.shard_index.specs.declared.selection.Selection.TheVariants.{Those, AllBut}
 use Rattle.shard_index.specs.Places.{places_where}
 
-abbrev pub places_listed : Listed → List ℕ
-places_listed (Lent places) = places.now
-places_listed (Made places) = places.items
-
 -- of these documents the selection is of those that pass the test
 abbrev pub Selects : Selection → (Doc → Bool) → List Doc → Type 0
-Selects (Those listed) test docs = places_listed listed ≡ places_where test docs
-Selects (AllBut listed) test docs = places_listed listed ≡ places_where (λ doc. not (test doc)) docs
+Selects (Those places) test docs = places.items ≡ places_where test docs
+Selects (AllBut places) test docs = places.items ≡ places_where (λ doc. not (test doc)) docs
 
 -- the first 100 ids of the documents that pass a test, and how many pass
 abbrev pub hits_where : (Doc → Bool) → List Doc → Hits

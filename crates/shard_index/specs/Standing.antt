@@ -9,17 +9,29 @@ use Rattle.query_model.specs.Parts.{part_of}
 use Rattle.shard_index.specs.declared.index.Index.{Index}
 use Rattle.shard_index.specs.declared.shard.Shard.{Shard}
 use Rattle.shard_index.specs.declared.shards.Shards.{Shards}
-use Rattle.shard_index.specs.Places.{has_word, places_where, repeats_of}
-use Rattle.shard_index.specs.Postings.{noted_for}
+use Rattle.shard_index.specs.Places.{standing_of}
+use Rattle.shard_index.specs.declared.reading.Reading.{Reading}
+use Rattle.word_table.specs.Noted.{HasNoted, HasPlaces}
+use Rattle.word_table.specs.Numbers.{Knows, words_in}
 
 -- the words of each document are at most 1,000
 abbrev pub AreShort : List Doc → Type 0
 AreShort docs = All (λ doc. length doc.words ≤ most_words) docs
 
--- the index has the ids of these documents in their order, and for each word the places of those with it
+-- of these documents, in their order, the ids are read, and where each word stands
+pub record Reads (reading : Reading) (docs : List Doc) : Type 0 where
+  pub known : List Word
+  pub ids : reading.ids.items ≡ map (λ doc. doc.id) docs
+  pub knows : Knows reading.dictionary known
+  pub noted : HasNoted reading.notes known (λ word. standing_of word docs)
+  pub short : AreShort docs
+  pub few : length docs < 2 ^ 32
+
+-- the index has the ids of these documents in their order, and for each word the places where it stands
 pub record Indexes (index : Index) (docs : List Doc) : Type 0 where
   pub ids : index.ids.items ≡ map (λ doc. doc.id) docs
-  pub noted : (word : Word) → noted_for index.postings word ≡ (places_where (has_word word) docs, repeats_of word docs)
+  pub knows : Knows index.dictionary (words_in index.dictionary)
+  pub places : HasPlaces index.places (words_in index.dictionary) (λ word. standing_of word docs)
   pub short : AreShort docs
   pub few : length docs < 2 ^ 32
 

@@ -1,13 +1,39 @@
-ghost use Rattle.std.specs.Prelude.{◌≡◌};
-ghost use Rattle.shard_index.specs.Places.{front_of};
+ghost use Rattle.std.specs.Prelude.{◌≡◌, ◌+◌, ◌<◌, ◌≤◌, ◌++◌, ◌∷◌, [], IfOk, length, take, nat_lt, if◌then◌else◌};
+ghost use Rattle.std.specs.List.Sorted.{IsPartitionedBy};
+ghost use Rattle.shard_index.specs.Places.{distinct, front_of};
 
-/// The first places of a list, up to the first that isn't below `front`.
+use std::alloc::{AllocError, Global};
+
+/// The first places of a list, up to the first that isn't below `front`. Those below it come first.
 pub fn below(places: &[u32], front: usize) -> &[u32]
-    ensures { result.now ≡ front_of front places.now }
+    ensures { IsPartitionedBy (λ place. nat_lt place front) places.now → result.now ≡ front_of front places.now }
 {
-    let mut end = 0;
-    'places: while end < places.len() && (places[end] as usize) < front {
-        end += 1;
-    }
+    let end = places.partition_point(|place| (*place as usize) < front);
     &places[..end]
+}
+
+/// The places, each but once where it follows itself.
+pub fn distinct(alloc: Global, places: &[u32]) -> Result<Vec<u32>, AllocError>
+    ensures { IfOk result (λ once. once.items ≡ distinct places.now) }
+{
+    let mut once = vec![in alloc; 0; places.len()]?;
+    let mut count = 0;
+    let mut last = None;
+    for place in places {
+        count = put_behind(&mut once, count, last != Some(*place), *place);
+        last = Some(*place);
+    }
+    once.truncate(count);
+    Ok(once)
+}
+
+/// Puts a place behind the first of others, and counts it among them where it is new: so nothing waits for the test.
+fn put_behind(places: &mut Vec<u32>, count: usize, is_new: bool, place: u32) -> usize
+    requires { count < length places.old.items }
+    ensures places { take result places.new.items ≡ take count places.old.items ++ (if is_new then place ∷ [] else []) }
+    ensures many { length places.new.items ≡ length places.old.items }
+    ensures count { result ≤ count + 1 }
+{
+    places[count] = place;
+    count + usize::from(is_new)
 }

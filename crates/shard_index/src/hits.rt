@@ -3,26 +3,26 @@ ghost use Rattle.fan_base.specs.declared.doc.Doc.{Doc};
 ghost use Rattle.query_model.specs.Limits.{most_listed};
 ghost use Rattle.query_model.specs.Sorting.{sorted_by};
 ghost use Rattle.shard_index.specs.Places.{places_where};
-ghost use Rattle.shard_index.specs.Selections.{AreSelected, Selects, hits_where, places_listed};
+ghost use Rattle.shard_index.specs.Selections.{AreSelected, Selects, hits_where};
 
 use crate::best::keep_id;
-use crate::selection::{Listed, Selection, without};
+use crate::selection::{Selection, without};
 use fan_base::Ids;
 use query_model::Hits;
 use query_model::limits::MOST_LISTED;
 use std::alloc::{AllocError, Global};
 
 /// The first 100 ids, ascending, of the selected ones of the documents with these ids, and how many are selected.
-pub fn hits(alloc: Global, ids: &[u32], selection: &Selection<'_>) -> Result<Hits, AllocError>
+pub fn hits(alloc: Global, ids: &[u32], selection: &Selection) -> Result<Hits, AllocError>
     requires { AreSelected ids.now selection.now }
     ensures { (test : Doc → Bool) (docs : List Doc) → ids.now ≡ map (λ doc. doc.id) docs → Selects selection.now test docs
         → IfOk result (λ hits. hits ≡ hits_where test docs) }
 {
     match selection {
-        Selection::Those(listed) => hits_at(alloc, ids, listed.places()),
-        Selection::AllBut(listed) => {
-            let kept = all_but(alloc, ids.len(), listed)?;
-            hits_at(alloc, ids, kept.places())
+        Selection::Those(places) => hits_at(alloc, ids, places.as_slice()),
+        Selection::AllBut(places) => {
+            let kept = all_but(alloc, ids.len(), places.as_slice())?;
+            hits_at(alloc, ids, kept.as_slice())
         }
     }
 }
@@ -33,7 +33,7 @@ fn hits_at(alloc: Global, ids: &[u32], places: &[u32]) -> Result<Hits, AllocErro
     ensures ids { IfOk result (λ hits. hits.ids ≡ take most_listed (sorted_by nat_lt (map (λ place. get_or ids.now place 0) places.now))) }
     ensures total { IfOk result (λ hits. hits.total ≡ length places.now) }
 {
-    let mut kept = Vec::new(alloc);
+    let mut kept = Vec::with_capacity(alloc, places.len().min(MOST_LISTED) + 1)?;
     for place in places {
         keep_id(&mut kept, MOST_LISTED, ids[*place as usize])?;
     }
@@ -44,12 +44,12 @@ fn hits_at(alloc: Global, ids: &[u32], places: &[u32]) -> Result<Hits, AllocErro
 }
 
 /// The places of so many documents but these.
-fn all_but<'a>(alloc: Global, count: usize, left_out: &Listed<'_>) -> Result<Listed<'a>, AllocError>
+fn all_but(alloc: Global, count: usize, left_out: &[u32]) -> Result<Vec<u32>, AllocError>
     requires { count < 2 ^ 32 }
-    ensures { (test : Doc → Bool) (docs : List Doc) → length docs ≡ count → places_listed left_out.now ≡ places_where (λ doc. not (test doc)) docs
-        → IfOk result (λ listed. places_listed listed ≡ places_where test docs) }
+    ensures { (test : Doc → Bool) (docs : List Doc) → length docs ≡ count → left_out.now ≡ places_where (λ doc. not (test doc)) docs
+        → IfOk result (λ places. places.items ≡ places_where test docs) }
 {
-    without(alloc, &Listed::Made(places_below(alloc, count)?), left_out)
+    without(alloc, places_below(alloc, count)?.as_slice(), left_out)
 }
 
 /// All places of so many documents.
@@ -57,7 +57,7 @@ fn places_below(alloc: Global, count: usize) -> Result<Vec<u32>, AllocError>
     requires { count < 2 ^ 32 }
     ensures { IfOk result (λ places. (docs : List Doc) → length docs ≡ count → places.items ≡ places_where (λ _. true) docs) }
 {
-    let mut places = Vec::new(alloc);
+    let mut places = Vec::with_capacity(alloc, count)?;
     for place in 0..count as u32 {
         places.push(place)?;
     }

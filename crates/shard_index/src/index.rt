@@ -1,43 +1,51 @@
-ghost use Rattle.std.specs.Prelude.{◌≡◌, ◌+◌, ◌*◌, ◌<◌, ◌≤◌, ◌^◌, ◌++◌, ◌∷◌, [], ℕ, All, List, IfOk, OnOk, length, map, take, zip};
+ghost use Rattle.std.specs.Prelude.{◌≡◌, ◌+◌, ◌*◌, ◌<◌, ◌≤◌, ◌^◌, ℕ, All, List, IfOk, length, map, take, zip};
 ghost use Rattle.fan_base.specs.declared.doc.Doc.{Doc};
 ghost use Rattle.query_model.specs.Answers.{hits_of, times_in};
-ghost use Rattle.query_model.specs.Limits.{most_words};
 ghost use Rattle.query_model.specs.Parts.{weighted_score, weighted_top};
 ghost use Rattle.shard_index.specs.Counting.{counts_of, DifferentWords};
-ghost use Rattle.shard_index.specs.Places.{holds_in};
+ghost use Rattle.shard_index.specs.Places.{has_word, holds_in, places_where, standing_of};
 ghost use Rattle.shard_index.specs.Selections.{Selects};
-ghost use Rattle.shard_index.specs.Standing.{HasRoom, Indexes};
+ghost use Rattle.shard_index.specs.Standing.{HasRoom, Indexes, Reads};
 
 use crate::counts::Counts;
-use crate::front::below;
+use crate::front::{below, distinct};
 use crate::hits::hits;
 use crate::marks::{count_marks, mark_at, no_marks};
-use crate::postings::{Postings, note_words, places_with, repeats_with};
-use crate::selection::{Listed, Selection, both};
+use crate::reading::Reading;
+use crate::selection::{Selection, both};
 use crate::totals::{add_at, first_scores, zeros};
-use fan_base::{Doc, Numbers, Scores, Word};
+use fan_base::{Numbers, Scores, Word};
 use query_grammar::{Expr, Node};
 use query_model::Hits;
 use std::alloc::{AllocError, Global};
-use std::collections::BTreeMap;
+use word_table::{Dictionary, Sorted};
 
 /// An index of documents in the order of their lines: their ids, and for each word where it stands. It keeps no document.
 /// Each question is asked of the first `front` of the documents.
 #[derive(Drop)]
 pub struct Index {
     ids: Vec<u32>,
-    postings: Postings,
+    dictionary: Dictionary,
+    places: Sorted,
 }
 
 impl Index {
-    /// The index of no documents.
-    pub fn new(alloc: Global) -> Index
-        ensures { Indexes result [] }
+    /// The index of the documents that were read.
+    pub fn of(alloc: Global, reading: Reading) -> Result<Index, AllocError>
+        requires { (docs : List Doc) × Reads reading docs }
+        ensures { (docs : List Doc) → Reads reading docs → IfOk result (λ index. Indexes index docs) }
     {
-        Index {
-            ids: Vec::new(alloc),
-            postings: BTreeMap::new(alloc),
-        }
+        let places = reading.notes.sorted(alloc, &reading.dictionary)?;
+        let Reading {
+            ids,
+            dictionary,
+            ..
+        } = reading;
+        Ok(Index {
+            ids,
+            dictionary,
+            places,
+        })
     }
 
     /// Where it takes memory from.
@@ -52,19 +60,6 @@ impl Index {
         self.ids.len()
     }
 
-    /// Adds a document behind the others.
-    pub fn add(&mut self, alloc: Global, doc: &Doc) -> Result<(), AllocError>
-        requires docs { (docs : List Doc) × Indexes self.old docs }
-        requires room { length self.old.ids.items + 1 < 2 ^ 32 }
-        requires short { length doc.now.words ≤ most_words }
-        ensures { OnOk result ((docs : List Doc) → Indexes self.old docs → Indexes self.new (docs ++ doc.now ∷ [])) }
-    {
-        let place = self.ids.len() as u32;
-        note_words(alloc, &mut self.postings, doc.words.as_slice(), place)?;
-        self.ids.push(doc.id)?;
-        Ok(())
-    }
-
     /// The first 100 ids, ascending, of the documents for which the expression holds, and how many hold.
     pub fn find(&self, alloc: Global, front: usize, e: &Expr) -> Result<Hits, AllocError>
         requires docs { (docs : List Doc) × Indexes self.now docs }
@@ -76,14 +71,12 @@ impl Index {
     }
 
     /// The documents for which the expression holds. It calls itself once for each level of the tree.
-    fn select(&self, alloc: Global, front: usize, e: &Expr) -> Result<Selection<'_>, AllocError>
+    fn select(&self, alloc: Global, front: usize, e: &Expr) -> Result<Selection, AllocError>
+        requires { (docs : List Doc) × Indexes self.now docs }
         ensures { (docs : List Doc) → Indexes self.now docs → IfOk result (λ selection. Selects selection (holds_in e.now) (take front docs)) }
     {
         match e.node() {
-            Node::Word(word) => Ok(Selection::Those(Listed::Lent(below(
-                places_with(&self.postings, word),
-                front,
-            )))),
+            Node::Word(word) => Ok(Selection::Those(self.places_with(alloc, front, word)?)),
             Node::Not(e) => Ok(self.select(alloc, front, e)?.complement()),
             Node::Both(a, b) => both(
                 alloc,
@@ -107,9 +100,9 @@ impl Index {
         let mut with = Vec::new(alloc);
         let mut marks = no_marks(alloc, front)?;
         for word in words {
-            let places = below(places_with(&self.postings, word), front);
+            let places = self.places_with(alloc, front, word)?;
             with.push(places.len() as u64)?;
-            mark_at(&mut marks, places);
+            mark_at(&mut marks, places.as_slice());
         }
         Ok(Counts {
             with: Numbers::from_vec(with),
@@ -167,15 +160,22 @@ impl Index {
         ensures { (docs : List Doc) (score : Doc → ℕ) → Indexes self.now docs → totals.old.items ≡ map score (take front docs)
             → totals.new.items ≡ map (λ doc. score doc + times_in doc word.now * weight) (take front docs) }
     {
-        add_at(
-            totals,
-            below(places_with(&self.postings, word), front),
-            weight,
-        );
-        add_at(
-            totals,
-            below(repeats_with(&self.postings, word), front),
-            weight,
-        );
+        add_at(totals, below(self.standing(word), front), weight);
+    }
+
+    /// The places of the documents with a word, among the first.
+    fn places_with(&self, alloc: Global, front: usize, word: &Word) -> Result<Vec<u32>, AllocError>
+        requires { (docs : List Doc) × Indexes self.now docs }
+        ensures { (docs : List Doc) → Indexes self.now docs → IfOk result (λ places. places.items ≡ places_where (has_word word.now) (take front docs)) }
+    {
+        distinct(alloc, below(self.standing(word), front))
+    }
+
+    /// The places where a word stands, each once for each time.
+    fn standing(&self, word: &Word) -> &[u32]
+        requires { (docs : List Doc) × Indexes self.now docs }
+        ensures { (docs : List Doc) → Indexes self.now docs → result.now ≡ standing_of word.now docs }
+    {
+        self.places.places(&self.dictionary, word)
     }
 }

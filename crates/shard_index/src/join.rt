@@ -16,6 +16,18 @@ pub struct Keep {
     pub second_alone: bool,
 }
 
+impl Keep {
+    /// The most places that are kept of lists of these lengths.
+    fn most(self, first: usize, second: usize) -> usize {
+        match (self.first_alone, self.second_alone) {
+            (false, false) => first.min(second),
+            (true, false) => first,
+            (false, true) => second,
+            (true, true) => first.saturating_add(second),
+        }
+    }
+}
+
 /// Joins two ascending lists of places.
 pub fn join(
     alloc: Global,
@@ -26,7 +38,7 @@ pub fn join(
     ensures { (p q : Doc → Bool) (docs : List Doc) → first.now ≡ places_where p docs → second.now ≡ places_where q docs
         → IfOk result (λ kept. kept.items ≡ places_where (λ doc. keeps keep (p doc) (q doc)) docs) }
 {
-    let mut kept = Vec::new(alloc);
+    let mut kept = Vec::with_capacity(alloc, keep.most(first.len(), second.len()))?;
     let mut i = 0;
     let mut j = 0;
     'places: while i < first.len() && j < second.len() {

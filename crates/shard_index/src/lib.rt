@@ -18,7 +18,7 @@ mod laws;
 mod marks;
 mod merge;
 mod once;
-mod postings;
+mod reading;
 mod selection;
 mod shard;
 mod shards;

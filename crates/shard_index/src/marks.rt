@@ -27,9 +27,7 @@ pub fn count_marks(marks: &[bool]) -> u64
 {
     let mut count = 0;
     for mark in marks {
-        if *mark {
-            count += 1;
-        }
+        count += u64::from(*mark);
     }
     count
 }

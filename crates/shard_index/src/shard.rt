@@ -7,6 +7,7 @@ ghost use Rattle.shard_index.specs.Standing.{AreShort, Stands, StandsFor};
 
 use crate::counts::Counts;
 use crate::index::Index;
+use crate::reading::Reading;
 use fan_base::{Doc, Docs, Memory, Scores, Words};
 use query_grammar::Expr;
 use query_model::Hits;
@@ -31,13 +32,14 @@ impl Shard {
         requires short { AreShort docs.now }
         ensures { IfOk result (λ shard. StandsFor shard docs.now shards no) }
     {
-        let mut index = Index::new(alloc);
+        let mut reading = Reading::new(alloc);
         let docs = docs.as_slice();
         for (place, doc) in docs.iter().enumerate() {
             if place % shards as usize == no as usize {
-                index.add(alloc, doc)?;
+                reading.add(doc)?;
             }
         }
+        let index = Index::of(alloc, reading)?;
         Ok(Shard {
             index,
             shards,

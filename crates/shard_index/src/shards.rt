@@ -37,7 +37,8 @@ impl Shards {
     {
         let mut all = Vec::new(alloc);
         for number in 0..shards {
-            push(&mut all, Shard::build(alloc, docs, shards, number)?)?;
+            let shard = Shard::build(alloc, docs, shards, number)?;
+            push(&mut all, shard)?;
         }
         Ok(Shards {
             alloc,

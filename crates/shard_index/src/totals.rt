@@ -34,7 +34,7 @@ pub fn first_scores(
     requires { length ids.now ≡ length totals.now }
     ensures { IfOk result (λ scores. scores ≡ take k (ranked (zip ids.now totals.now))) }
 {
-    let mut kept = Vec::new(alloc);
+    let mut kept = Vec::with_capacity(alloc, ids.len().min(k).saturating_add(1))?;
     for i in 0..ids.len() {
         if totals[i] > 0 {
             keep_score(&mut kept, k, (ids[i], totals[i]))?;

@@ -1,6 +1,6 @@
-// Drawn documents, whose ids don't come in order, with repeats, beside a look at every document.
+// Drawn documents, whose ids don't come in order, with repeats, one of 1,000 words and one of none, beside a look at every document.
 use crate::documents::{expression, shards_of, words_of};
-use fan_base::{Doc, Docs, Word};
+use fan_base::{Doc, Docs, Word, Words};
 use query_expr::{Expr, holds};
 use query_model::{Ask, Reply};
 use std::alloc::Global;
@@ -28,6 +28,16 @@ fn drawn_docs(alloc: Global) -> Result<Docs, Fail> {
             words,
         })?;
     }
+    // The greatest document, and an empty one.
+    let mut words = Words::new(alloc);
+    for _ in 0..1000 {
+        words.push(Word::new(b"d")?)?;
+    }
+    docs.push(Doc { id: 132, words })?;
+    docs.push(Doc {
+        id: 131,
+        words: Words::new(alloc),
+    })?;
     Ok(docs)
 }
 
@@ -47,12 +57,12 @@ fn ids_holding(alloc: Global, docs: &[Doc], e: &Expr) -> Result<Vec<u32>, Fail> 
 fn shards_find_what_a_look_at_every_document_finds(rt: HostRuntime) -> Result<(), Fail> {
     let alloc = rt.alloc();
     let docs = drawn_docs(alloc)?;
-    for count in [1, 3] {
+    for count in [1, 3, 64] {
         let shards = shards_of(alloc, &docs, count)?;
         for asked in ASKED {
             let e = expression(alloc, asked)?;
             let ask = Ask::Find(expression(alloc, asked)?);
-            for before in 0..132u32 {
+            for before in 0..135u32 {
                 let front = docs.len().min(before as usize);
                 let mut ids = ids_holding(alloc, &docs.as_slice()[..front], &e)?;
                 let total = ids.len() as u64;
@@ -111,12 +121,12 @@ fn key_of(id: u32, score: u64) -> u128 {
 fn shards_rank_as_a_look_at_every_document_does(rt: HostRuntime) -> Result<(), Fail> {
     let alloc = rt.alloc();
     let docs = drawn_docs(alloc)?;
-    for count in [1, 3] {
+    for count in [1, 3, 64] {
         let shards = shards_of(alloc, &docs, count)?;
-        for (asked, k) in [("a", 3), ("c a", 100), ("d e b", 7)] {
+        for (asked, k) in [("a", 3), ("c a", 100), ("d e b", 7), ("d", 200)] {
             let words = words_of(alloc, asked)?;
             let ask = Ask::Top(k, words_of(alloc, asked)?);
-            for before in [0, 1, 2, 30, 64, 130, 131] {
+            for before in [0, 1, 2, 30, 64, 131, 132, 133] {
                 let front = docs.len().min(before as usize);
                 let wanted = best_keys(
                     alloc,

@@ -3,21 +3,44 @@ use super::{RED, args};
 use crate::report::Status;
 use crate::run::query_main;
 use fan_base::{HoldGate, JobId, MemSink, MemSource};
+use std::alloc::AllocGlobal;
+use std::process::Abort;
+use std::sync::Wait;
 use std::test::Fail;
+use std::thread::Threads;
 
+// Looks enough for two workers to meet.
 const TURNS: u64 = 200_000_000;
 
-#[test]
-fn two_workers_run_tasks_at_the_same_time(rt: HostRuntime) -> Result<(), Fail> {
+// Looks for a tenth of a second or so.
+const FEW_TURNS: u64 = 20_000_000;
+
+// Whether the tasks of a query over two shards run at the same time.
+fn tasks_meet<R: AllocGlobal + Abort + Threads + Wait + Sync>(
+    rt: &R,
+    words: &str,
+    turns: u64,
+) -> Result<bool, Fail> {
     let alloc = rt.alloc();
-    let words = args(alloc, "run --shards 2 --workers 2")?;
+    let words = args(alloc, words)?;
     let input = Vec::from_slice(alloc, RED.as_bytes())?;
     let mut source = MemSource::new(input, 100, Vec::new(alloc));
     let mut sink = MemSink::new(alloc, 1000, 1000, Vec::new(alloc))?;
-    let gate = HoldGate::new(JobId(64), JobId(65), TURNS);
-    let report = query_main(&rt, alloc, &words, &mut source, &mut sink, &gate);
+    let gate = HoldGate::new(JobId(64), JobId(65), turns);
+    let report = query_main(rt, alloc, &words, &mut source, &mut sink, &gate);
     assert_eq!(rt; report.status, Status::Done);
     assert_eq!(rt; sink.bytes(), b"1 find 2: 4 7\n".as_slice());
-    assert!(rt; gate.met());
+    Ok(gate.met())
+}
+
+#[test]
+fn two_workers_run_tasks_at_the_same_time(rt: HostRuntime) -> Result<(), Fail> {
+    assert!(rt; tasks_meet(&rt, "run --shards 2 --workers 2", TURNS)?);
+    Ok(())
+}
+
+#[test]
+fn one_worker_runs_tasks_one_after_another(rt: HostRuntime) -> Result<(), Fail> {
+    assert!(rt; !tasks_meet(&rt, "run --shards 2 --workers 1", FEW_TURNS)?);
     Ok(())
 }

@@ -1,4 +1,4 @@
-use Rattle.std.proofs.Common.{◌++◌, List, sym, subst, map, All}
+use Rattle.std.proofs.Common.{◌++◌, List, sym, subst, map, All, arith}
 use Rattle.std.proofs.lemmas.List.{map-append}
 use Rattle.fan_model.specs.Report.{IsEachOnce}
 use Rattle.fan_model.specs.Tasks.{Run}
@@ -6,7 +6,7 @@ use Rattle.pool_model.specs.Seen.{task_of}
 use Rattle.run_notes.specs.Accounts.{runs_added}
 use Rattle.run_notes.specs.Told.{run_of}
 use Rattle.run_notes.proofs.Accounting.{WasDone, done_append, done_of_ends, each_once, records_of_append, runs_append}
-use Rattle.run_notes.proofs.Leading.{known, known_some}
+use Rattle.run_notes.proofs.Leading.{known, known_some, not-false}
 use Rattle.run_notes.proofs.ending.end_stopped.Goals as goal
 
 pub returns-clause-fact : goal.returns-clause-fact
@@ -31,3 +31,12 @@ returns-clause-account g c =
           (each_once c.args.stopping.passes (a.tasks ++ map (task_of g.J.Headed.head) c.stop-accepted.result.returned) (c.stop-accepted.result.ran.records ++ back) a.all
           (runs_append a.tasks _ c.stop-accepted.result.ran.records back a.runs b.ran) each);
     }
+
+pub returns-clause-missed : goal.returns-clause-missed
+returns-clause-missed g c =
+    let s = c.stop-accepted.ensures in
+    let many = (c.stop_accounts_for_each.ensures _ _ _ _ _ c.requires.stopping s.all).many in
+    let back = c.run_back-records.ensures in (
+      λ missed. omega (arith, back.missed missed, many, s.accepted),
+      λ few. not-false c.run_back-records.result.1 (λ whole. omega (arith, back.whole whole, many, s.accepted, few)),
+    )

@@ -1,4 +1,5 @@
-use Rattle.run_notes.proofs.Leading.{some_more, back_more}
+use Rattle.std.proofs.Common.{◌∷◌, [], length, length-append, ap, arith}
+use Rattle.run_notes.proofs.Leading.{some_more, back_more, fewer_more}
 use Rattle.run_notes.proofs.ending.run_back.Goals as goal
 
 pub tasks-preserved : goal.tasks-preserved
@@ -9,7 +10,12 @@ tasks-preserved g c =
     record {
       led = some_more g.J.Job.runs c.args.world.now c.tasks.world c.run_next.new.world r.job r.mark i.led e.3;
       so_far = λ kept.
-          let k = c.keep.ensures kept in
+          let k = c.keep.ensures.kept kept in
           back_more g.J.Headed.head g.J.Job.runs c.args.returned.now c.tasks.returned c.run_next.new.self c.tasks.records c.keep.new.records
           c.args.world.now c.tasks.world c.run_next.new.world e.0 r (i.so_far k.0) e.1 e.2 e.3 k.1;
+      fewer = fewer_more c.tasks.missed c.keep.new.missed (length c.tasks.records) (length c.keep.new.records) (length c.tasks.returned) (length c.run_next.new.self) (length c.args.returned.now) i.fewer i.all
+          (ap length e.1) (λ is was. ap length (c.keep.ensures.lost is was)) c.keep.ensures.few;
+      all = λ kept.
+          let k = c.keep.ensures.kept kept in
+          omega (arith, i.all k.0, ap length k.1, length-append c.tasks.records (r ∷ []), ap length e.1);
     }

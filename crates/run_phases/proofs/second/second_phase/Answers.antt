@@ -2,7 +2,7 @@ use Rattle.std.proofs.Common.{◌≡◌, Bool, true, false, not, List, ◌++◌,
 use Rattle.std.specs.Bool.{OnTrue}
 use Rattle.pool_model.specs.Seen.{EndSeen}
 use Rattle.run_notes.specs.Accounts.{AllDone}
-use Rattle.run_phases.proofs.Runs.{report_is}
+use Rattle.run_phases.proofs.Runs.{is_unstopped, report_is}
 use Rattle.run_phases.proofs.second.second_phase.Goals.{then-missed, else-missed}
 use Rattle.run_phases.proofs.second.second_phase.Goals as goal
 
@@ -27,3 +27,20 @@ returns-clause-report g c fine tasks done = elim c.if-missed.branch [
       let accounts = c.end_pool-accepted.ensures.account world all w.if-missed.false in
       report_is g.N.RunName.asked _ c.end_pool-accepted.result _ _ accounts (c.requires.added unrefused) late c.end_pool-accepted.ensures.stopped c.requires.stops (λ none. (c.end_pool-accepted.ensures.joined none).0)
 ]
+
+not_not : (b : Bool) → not (not b) ≡ b
+not_not true = refl
+not_not false = refl
+
+pub returns-clause-joined : goal.returns-clause-joined
+returns-clause-joined g c none =
+    let unstopped = c.requires.stops ∙ is_unstopped g.N.RunName.asked c.args.turns.now c.args.stop c.requires.stop none in
+    let behind = c.turns_behind-done.ensures.joined none in
+    record {
+      refused_is = elim c.if-missed.branch [
+        | then-missed w ↦ absurd (true≢false (sym w.if-missed.true ∙ (c.end_pool-accepted.ensures.joined unstopped).1))
+        | else-missed w ↦ w.result-is ∙ (ap not behind.0 ∙ not_not _)
+      ];
+      printer = c.end-2.ensures.printer ∙ ap (λ front. front.printer.sender) behind.1;
+      tally = c.end-2.ensures.tallies.1 ∙ ap (λ front. front.tally) behind.1;
+    }

@@ -1,10 +1,13 @@
 use Rattle.std.proofs.Common.{◌+◌, ◌||◌, Bool, length, length-append, map, sym, ap, ◌∙◌, arith, List, [], ◌∷◌, ◌++◌}
 use Rattle.core_cells.specs.Seen.{SeenPass}
+use Rattle.core_word.specs.Count.{Counts}
 use Rattle.std.specs.List.{list_any}
 use Rattle.std.proofs.lemmas.List.{length-map}
 use Rattle.fan_model.specs.Tasks.{printer_exec}
+use Rattle.run_gathering.specs.Gathering.{no_counts}
 use Rattle.run_tasks.specs.declared.world.TaskEnds.{TaskEnds}
-use Rattle.run_setup.proofs.CollectLemmas.{all-passes, columns-start, printer-start, slot_refused}
+use Rattle.run_setup.specs.Closing.{merged, merged_with}
+use Rattle.run_setup.proofs.CollectLemmas.{all-passes, columns-start, merged-append, printer-start, slot_refused, slot_tally}
 use Rattle.run_setup.proofs.SlotLemmas.{neither}
 use Rattle.run_setup.proofs.closing.close_run.Goals as goal
 
@@ -64,11 +67,20 @@ close_printing-print-requires-clause-ends g c =
 pub close_printing-print-requires-clause-exec : goal.close_printing-print-requires-clause-exec
 close_printing-print-requires-clause-exec g c = c.requires.all.1.printed.exec
 
+pub returns-clause-tally : goal.returns-clause-tally
+returns-clause-tally g c = λ calm.
+    let worlds = map (λ (w : TaskEnds g.row.N.Denot). w.tally) c.args.worlds.items in
+    let bases = map slot_tally c.args.gatherers.items in
+    let none = (neither c.put.new.self.counted.refused (list_any slot_refused c.args.gatherers.items) (sym c.close_all.ensures.refused ∙ calm)).1 in
+    let theirs = c.put_all.ensures.tally ∙ ap (λ (t : Counts). merged_with t worlds) c.new.ensures.tally in
+    let all = c.put.ensures.tally ∙ ap (λ (t : Counts). merged t c.args.front.tally) theirs in
+    c.close_all.ensures.tally none ∙ (ap (λ (t : Counts). merged_with t bases) all ∙ sym (merged-append no_counts worlds (c.args.front.tally ∷ bases)))
+
 pub returns-clause-refused : goal.returns-clause-refused
 returns-clause-refused g c =
     let worlds = list_any (λ (w : TaskEnds g.row.N.Denot). w.refused) c.args.worlds.items in
     let bases = list_any slot_refused c.args.gatherers.items in
-    let theirs = c.put_all.ensures.refused ∙ ap (λ (b : Bool). b || worlds) c.new.ensures in
+    let theirs = c.put_all.ensures.refused ∙ ap (λ (b : Bool). b || worlds) c.new.ensures.refused in
     let all = c.put.ensures.refused ∙ ap (λ (b : Bool). b || c.args.front.refused) theirs in
     c.close_all.ensures.refused ∙ ap (λ (b : Bool). b || bases) all
 

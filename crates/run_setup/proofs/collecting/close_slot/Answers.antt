@@ -7,7 +7,7 @@ use Rattle.fan_parts.specs.Heads.{gather_head}
 use Rattle.event_base.specs.Closing.{AreOn}
 use Rattle.notify_queue.specs.Ends.{Sending}
 use Rattle.run_gathering.specs.declared.looping.GatherStage.{GatherStage}
-use Rattle.run_setup.specs.Closing.{IsGathered, IsPrinterEnd, has_refused}
+use Rattle.run_setup.specs.Closing.{IsGathered, IsPrinterEnd, has_refused, tally_of}
 use Rattle.run_setup.proofs.collecting.close_slot.Goals as goal
 
 pub destroy_empty-requires : goal.destroy_empty-requires
@@ -43,6 +43,13 @@ returns-clause-printer g c = λ ids k slot.
     let stage = c.in-Some.stage in
     let is = subst (λ (s : GatherStage g.row.N.Denot). IsGathered g.N.RunName.asked ids k s) (same_Some slot.stage stage (sym slot.has ∙ c.in-Some.is)) slot.is in
     subst (λ (e : Sending (PrintJob g.row.N.Denot)). IsPrinterEnd g.N.RunName.asked ids (g.N.RunName.asked.bases - k) e) (sym c.close_gathering.ensures.printer) is.printer
+
+pub returns-clause-tally : goal.returns-clause-tally
+returns-clause-tally g c = λ ids k slot calm.
+    let stage = c.in-Some.stage in
+    let is = subst (λ (s : GatherStage g.row.N.Denot). IsGathered g.N.RunName.asked ids k s) (same_Some slot.stage stage (sym slot.has ∙ c.in-Some.is)) slot.is in
+    let was = sym c.close_gathering.ensures.refused ∙ calm in
+    c.close_gathering.ensures.tally (is.dry was) (is.empty was) ∙ ap (λ (s : Option (GatherStage g.row.N.Denot)). tally_of s) (sym c.in-Some.is)
 
 pub returns-clause-refused : goal.returns-clause-refused
 returns-clause-refused g c = c.close_gathering.ensures.refused ∙ ap (λ (s : Option (GatherStage g.row.N.Denot)). has_refused s) (sym c.in-Some.is)

@@ -1,11 +1,11 @@
-use Rattle.std.proofs.Common.{arith}
+use Rattle.std.proofs.Common.{ltb, rules, of_calls}
+use Rattle.std.proofs.lemmas.Fn.{always_returns_same}
+use Rattle.shard_index.proofs.FrontLemmas.{end-is}
 use Rattle.shard_index.proofs.PlaceLemmas.{front-is}
 use Rattle.shard_index.proofs.front.below.Goals as goal
-use Rattle.shard_index.proofs.front.below.Goals.{then-places-test+else-places-end, else-places-test}
 
 pub returns : goal.returns
-returns c = front-is c.args.front c.places.end c.args.places.now c.places.invariant.within c.places.invariant.below
-    (λ some. elim c.places-test.branch [
-      | then-places-test+else-places-end w ↦ w.if-places-end.false
-      | else-places-test w ↦ absurd (omega (arith, w.places-test.false))
-    ])
+returns c = λ parted.
+    let key = always_returns_same _ _ _ (λ a r f k. search (rules, of_calls)) in
+    let ends = end-is c.args.front c.partition_point-end.result c.args.places.now (c.partition_point-end.ensures.partitioned (λ place. ltb place c.args.front) key parted) in
+    front-is c.args.front c.partition_point-end.result c.args.places.now c.partition_point-end.ensures.bound ends.0 ends.1

@@ -8,25 +8,26 @@ use Rattle.shard_index.proofs.hits.hits.Goals as goal
 
 pub hits_at-requires : goal.hits_at-requires
 hits_at-requires c =
-    places-within c.requires.test c.requires.docs c.places.result.now (length c.args.ids.now)
-    (c.places.ensures ∙ subst (λ (s : Selection). Selects s c.requires.test c.requires.docs) c.in-Those.is c.requires.selects)
+    places-within c.requires.test c.requires.docs c.as_slice.result.now (length c.args.ids.now)
+    (c.as_slice.ensures.value ∙ subst (λ (s : Selection). Selects s c.requires.test c.requires.docs) c.in-Those.is c.requires.selects)
     (ap length c.requires.ids_are ∙ length-map c.requires.docs (λ d. d.id))
 
 pub hits_at-requires-in-AllBut : goal.hits_at-requires-in-AllBut
 hits_at-requires-in-AllBut c =
     let many = ap length c.requires.ids_are ∙ length-map c.requires.docs (λ d. d.id) in
-    places-within c.requires.test c.requires.docs c.places-in-AllBut.result.now (length c.args.ids.now)
-    (c.places-in-AllBut.ensures ∙ c.in_ok-kept-in-AllBut.ensures c.requires.test c.requires.docs (sym many)
-    (subst (λ (s : Selection). Selects s c.requires.test c.requires.docs) c.in-AllBut.is c.requires.selects)) many
+    places-within c.requires.test c.requires.docs c.as_slice-in-AllBut-2.result.now (length c.args.ids.now)
+    (c.as_slice-in-AllBut-2.ensures.value ∙ c.in_ok-kept-in-AllBut.ensures c.requires.test c.requires.docs (sym many)
+    (c.as_slice-in-AllBut.ensures.value ∙ subst (λ (s : Selection). Selects s c.requires.test c.requires.docs) c.in-AllBut.is c.requires.selects)) many
 
 pub returns-in-Those : goal.returns-in-Those
 returns-in-Those c = λ test docs are selects.
-    hits-ok test docs c.args.ids.now c.places.result.now c.hits_at.result are (c.places.ensures ∙ subst (λ (s : Selection). Selects s test docs) c.in-Those.is selects)
+    hits-ok test docs c.args.ids.now c.as_slice.result.now c.hits_at.result are (c.as_slice.ensures.value ∙ subst (λ (s : Selection). Selects s test docs) c.in-Those.is selects)
     c.hits_at.ensures.ids c.hits_at.ensures.total
 
 pub returns-in_ok-kept-in-AllBut : goal.returns-in_ok-kept-in-AllBut
 returns-in_ok-kept-in-AllBut c = λ test docs are selects.
     let many = ap length are ∙ length-map docs (λ d. d.id) in
-    hits-ok test docs c.args.ids.now c.places-in-AllBut.result.now c.hits_at-in-AllBut.result are
-    (c.places-in-AllBut.ensures ∙ c.in_ok-kept-in-AllBut.ensures test docs (sym many) (subst (λ (s : Selection). Selects s test docs) c.in-AllBut.is selects))
+    hits-ok test docs c.args.ids.now c.as_slice-in-AllBut-2.result.now c.hits_at-in-AllBut.result are
+    (c.as_slice-in-AllBut-2.ensures.value
+    ∙ c.in_ok-kept-in-AllBut.ensures test docs (sym many) (c.as_slice-in-AllBut.ensures.value ∙ subst (λ (s : Selection). Selects s test docs) c.in-AllBut.is selects))
     c.hits_at-in-AllBut.ensures.ids c.hits_at-in-AllBut.ensures.total

@@ -1,12 +1,13 @@
-use Rattle.std.proofs.Common.{◌≡◌, ℕ, ◌-◌, ◌||◌, Bool, suc, List, [], ◌∷◌, length, length-append, sym, ap, ◌∙◌, subst, arith}
+use Rattle.std.proofs.Common.{◌≡◌, ℕ, ◌-◌, ◌||◌, Bool, suc, List, [], ◌∷◌, length, length-append, map, sym, ap, ◌∙◌, subst, arith}
 use Rattle.std.specs.List.{list_any}
 use Rattle.std.specs.Vec.Iter.{into_iter_items}
+use Rattle.core_word.specs.Count.{Counts}
 use Rattle.event_base.specs.Seen.{NoteSeen}
 use Rattle.fan_parts.specs.declared.jobs.GatherJob.{GatherJob}
 use Rattle.run_bases.specs.declared.rows.Column.{Column}
 use Rattle.run_threads.specs.declared.gatherer.GatherSlot.{GatherSlot}
-use Rattle.run_setup.specs.Closing.{AreColumnsBack, AreGathered, IsFullColumn, IsGatheredSlot, IsPrinterBack}
-use Rattle.run_setup.proofs.CollectLemmas.{BasesSoFar, IsEmptiedAt, bases-more, bases-next, bases-none, notes-all, or-assoc, or-none, slot_refused}
+use Rattle.run_setup.specs.Closing.{AreColumnsBack, AreGathered, IsFullColumn, IsGatheredSlot, IsPrinterBack, merged, merged_with}
+use Rattle.run_setup.proofs.CollectLemmas.{BasesSoFar, IsEmptiedAt, bases-more, bases-next, bases-none, notes-all, or-assoc, or-none, slot_refused, slot_tally}
 use Rattle.run_setup.proofs.Each.{EachFrom, each_first, each_none, each_push, none_left}
 use Rattle.run_setup.proofs.SlotLemmas.{neither}
 use Rattle.run_setup.proofs.collecting.Gatherers.close_all.Goals as goal
@@ -23,6 +24,7 @@ loop-slot-init g c =
       room = c.requires.room;
       refused = ap (λ (l : List (GatherSlot g.row.N.Denot g.N.RunName)). c.args.self.now.counted.refused || list_any slot_refused l) same;
       calm = λ all. ap (λ (l : List (GatherSlot g.row.N.Denot g.N.RunName)). list_any slot_refused l) same ∙ all;
+      tally = λ all. ap (λ (l : List (GatherSlot g.row.N.Denot g.N.RunName)). merged_with c.args.self.now.counted.tally (map slot_tally l)) same;
       emptied = λ all. each_none IsEmptiedAt 0 c.args.self.now.notes.items none;
       so_far = λ ids bases are back printer. subst (λ (n : ℕ). BasesSoFar asked ids slots columns c.args.self.now.printer n) (sym none)
           (bases-none asked ids slots columns c.args.self.now.printer bases (subst (λ (l : List (GatherSlot g.row.N.Denot g.N.RunName)). AreGathered asked ids l) (sym same) are)
@@ -80,6 +82,13 @@ loop-slot-preserved g c =
           ∙ (or-assoc self.counted.refused (slot_refused slot) (list_any slot_refused rest)
           ∙ (ap (λ (l : List (GatherSlot g.row.N.Denot g.N.RunName)). self.counted.refused || list_any slot_refused l) (sym next) ∙ i.refused));
       calm = λ all. (neither (slot_refused slot) (list_any slot_refused rest) (ap (λ (l : List (GatherSlot g.row.N.Denot g.N.RunName)). list_any slot_refused l) (sym next) ∙ i.calm all)).1;
+      tally = λ all.
+          let calm = (neither (slot_refused slot) (list_any slot_refused rest) (ap (λ (l : List (GatherSlot g.row.N.Denot g.N.RunName)). list_any slot_refused l) (sym next) ∙ i.calm all)).0 in
+          let so = bases-next asked r.0 (into_iter_items c.loop-slot.left) (slot ∷ rest) (into_iter_items c.loop-slot.columns) (column ∷ rest_columns) self.printer closed next next_columns (i.so_far r.0 r.1 r.2 r.3 r.4) in
+          let slot_is = each_first (IsGatheredSlot asked r.0) closed slot rest so.slots_are in
+          ap (λ (t : Counts). merged_with t (map slot_tally rest))
+          (c.put.ensures.tally ∙ ap (λ (t : Counts). merged self.counted.tally t) (c.close_slot-end.ensures.tally r.0 closed slot_is (c.close_slot-end.ensures.refused ∙ calm)))
+          ∙ (ap (λ (l : List (GatherSlot g.row.N.Denot g.N.RunName)). merged_with self.counted.tally (map slot_tally l)) (sym next) ∙ i.tally all);
       emptied = λ all.
           let calm = (neither (slot_refused slot) (list_any slot_refused rest) (ap (λ (l : List (GatherSlot g.row.N.Denot g.N.RunName)). list_any slot_refused l) (sym next) ∙ i.calm all)).0 in
           let so = bases-next asked r.0 (into_iter_items c.loop-slot.left) (slot ∷ rest) (into_iter_items c.loop-slot.columns) (column ∷ rest_columns) self.printer closed next next_columns (i.so_far r.0 r.1 r.2 r.3 r.4) in
@@ -107,6 +116,11 @@ pub returns-clause-printer : goal.returns-clause-printer
 returns-clause-printer g c = λ ids bases are back printer.
     let none = none_left (into_iter_items c.loop-slot.left) (omega (arith, c.in_default.ensures.cases.0, c.loop-slot.left.rest.ok.0)) in
     subst (λ (l : List (GatherSlot g.row.N.Denot g.N.RunName)). IsPrinterBack g.N.RunName.asked ids (suc (length l)) c.loop-slot.self.printer) none (c.loop-slot.invariant.so_far ids bases are back printer).printer_is
+
+pub returns-clause-tally : goal.returns-clause-tally
+returns-clause-tally g c = λ all.
+    let none = none_left (into_iter_items c.loop-slot.left) (omega (arith, c.in_default.ensures.cases.0, c.loop-slot.left.rest.ok.0)) in
+    ap (λ (l : List (GatherSlot g.row.N.Denot g.N.RunName)). merged_with c.loop-slot.self.counted.tally (map slot_tally l)) (sym none) ∙ c.loop-slot.invariant.tally all
 
 pub returns-clause-refused : goal.returns-clause-refused
 returns-clause-refused g c =

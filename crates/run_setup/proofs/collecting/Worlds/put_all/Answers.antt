@@ -2,8 +2,9 @@ use Rattle.std.proofs.Common.{◌≡◌, ◌++◌, ◌||◌, Bool, suc, List, []
 use Rattle.std.specs.List.{list_any}
 use Rattle.std.specs.Vec.Iter.{into_iter_items}
 use Rattle.core_cells.specs.Seen.{SeenPass}
+use Rattle.core_word.specs.Count.{Counts}
 use Rattle.run_tasks.specs.declared.world.TaskEnds.{TaskEnds}
-use Rattle.run_setup.specs.Closing.{AreColumnsBack, AreTaskEnds, AreWorldEnds}
+use Rattle.run_setup.specs.Closing.{AreColumnsBack, AreTaskEnds, AreWorldEnds, merged_with}
 use Rattle.run_setup.proofs.CollectLemmas.{WorldsSoFar, or-assoc, or-none, worlds-more, worlds-none}
 use Rattle.run_setup.proofs.Each.{down_first, none_left}
 use Rattle.run_setup.proofs.collecting.Worlds.put_all.Goals as goal
@@ -14,6 +15,9 @@ pass_of w = w.pass
 abbrev refused_of : {N : Type 0} → TaskEnds N → Bool
 refused_of w = w.refused
 
+abbrev counts_of : {N : Type 0} → TaskEnds N → Counts
+counts_of w = w.tally
+
 pub loop-world-init : goal.loop-world-init
 loop-world-init g c =
     let items = into_iter_items c.into_iter-left.result in
@@ -23,6 +27,7 @@ loop-world-init g c =
       passes = ap (λ (l : List (TaskEnds g.row.N.Denot)). self.passes.items ++ map pass_of l) same;
       room = omega (arith, ap length same, c.requires.room);
       capacity = refl;
+      tally = ap (λ (l : List (TaskEnds g.row.N.Denot)). merged_with self.counted.tally (map counts_of l)) same;
       refused = ap (λ (l : List (TaskEnds g.row.N.Denot)). self.counted.refused || list_any refused_of l) same;
       so_far = λ ids back are. worlds-none ids items self.columns.items (subst (λ (l : List (TaskEnds g.row.N.Denot)). AreWorldEnds ids l) (sym same) are) back;
     }
@@ -47,6 +52,8 @@ loop-world-preserved g c =
           ∙ (append_assoc self.passes.items (world.pass ∷ []) (map pass_of rest) ∙ (ap (λ (l : List (TaskEnds g.row.N.Denot)). self.passes.items ++ map pass_of l) (sym next) ∙ i.passes));
       room = omega (arith, i.room, ap length next, ap length c.put.ensures.pass, length-append self.passes.items (world.pass ∷ []), c.put.ensures.capacity);
       capacity = c.put.ensures.capacity ∙ i.capacity;
+      tally = ap (λ (t : Counts). merged_with t (map counts_of rest)) c.put.ensures.tally
+          ∙ (ap (λ (l : List (TaskEnds g.row.N.Denot)). merged_with self.counted.tally (map counts_of l)) (sym next) ∙ i.tally);
       refused = ap (λ (b : Bool). b || list_any refused_of rest) c.put.ensures.refused
           ∙ (or-assoc self.counted.refused world.refused (list_any refused_of rest) ∙ (ap (λ (l : List (TaskEnds g.row.N.Denot)). self.counted.refused || list_any refused_of l) (sym next) ∙ i.refused));
       so_far = λ ids back are.
@@ -64,6 +71,11 @@ returns-clause-passes g c =
     let none = none_left (into_iter_items c.loop-world.left) (omega (arith, c.in_default.ensures.cases.0, c.loop-world.left.rest.ok.0)) in
     let passes = c.loop-world.self.passes.items in
     sym (append-nil passes) ∙ (ap (λ (l : List (TaskEnds g.row.N.Denot)). passes ++ map pass_of l) (sym none) ∙ c.loop-world.invariant.passes)
+
+pub returns-clause-tally : goal.returns-clause-tally
+returns-clause-tally g c =
+    let none = none_left (into_iter_items c.loop-world.left) (omega (arith, c.in_default.ensures.cases.0, c.loop-world.left.rest.ok.0)) in
+    ap (λ (l : List (TaskEnds g.row.N.Denot)). merged_with c.loop-world.self.counted.tally (map counts_of l)) (sym none) ∙ c.loop-world.invariant.tally
 
 pub returns-clause-refused : goal.returns-clause-refused
 returns-clause-refused g c =

@@ -3,16 +3,14 @@ use Rattle.std.proofs.lemmas.Result.{IfOk-weaker}
 use Rattle.fan_base.specs.declared.doc.Doc.{Doc}
 use Rattle.query_grammar.specs.Tree.{Tree}
 use Rattle.query_grammar.specs.Nodes.{tree_at}
-use Rattle.shard_index.specs.Places.{front_of, holds_in, places_where}
-use Rattle.shard_index.proofs.IndexLemmas.{places-front}
+use Rattle.shard_index.specs.Places.{holds_in, places_where}
 use Rattle.shard_index.proofs.SelectionLemmas.{Selects-same, or_by_and}
 use Rattle.shard_index.proofs.index.Index.+select.Goals as goal
 
-pub returns-in-Word : goal.returns-in-Word
-returns-in-Word t c = λ docs stands.
-    c.below.ensures ∙ (ap (λ ps. front_of c.args.front ps) c.places_with.ensures
-    ∙ (places-front c.args.self.now docs c.args.front c.in-Word.word stands
-    ∙ ap (λ tree. places_where (holds_in tree) (take c.args.front docs)) (ap tree_at (sym c.in-Word.is) ∙ c.node.ensures)))
+pub returns-in_ok-places_with-in-Word : goal.returns-in_ok-places_with-in-Word
+returns-in_ok-places_with-in-Word t c = λ docs stands.
+    c.in_ok-places_with-in-Word.ensures docs stands
+    ∙ ap (λ tree. places_where (holds_in tree) (take c.args.front docs)) (ap tree_at (sym c.in-Word.is) ∙ c.node.ensures)
 
 pub returns-in_ok-select-in-Both-2 : goal.returns-in_ok-select-in-Both-2
 returns-in_ok-select-in-Both-2 t c = λ docs stands.

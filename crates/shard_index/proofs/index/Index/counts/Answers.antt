@@ -1,4 +1,4 @@
-use Rattle.std.proofs.Common.{◌++◌, ◌∷◌, [], ◌||◌, Bool, ℕ, length, map, take, ap, sym, ◌∙◌}
+use Rattle.std.proofs.Common.{◌≡◌, arith, ◌++◌, ◌∷◌, [], ◌||◌, Bool, ℕ, length, map, take, ap, sym, ◌∙◌}
 use Rattle.std.specs.List.{count_by, list_any}
 use Rattle.std.proofs.lemmas.List.{length-map, map_more, take_all}
 use Rattle.std.proofs.lemmas.List.Folds.{list_any_more}
@@ -6,9 +6,9 @@ use Rattle.fan_base.specs.declared.doc.Doc.{Doc}
 use Rattle.fan_base.specs.declared.word.Word.{Word}
 use Rattle.query_grammar.specs.Truth.{is_among}
 use Rattle.query_model.specs.Answers.{having}
-use Rattle.shard_index.specs.Places.{front_of, has_word}
+use Rattle.shard_index.specs.Places.{has_word}
 use Rattle.shard_index.specs.Totals.{marked_at}
-use Rattle.shard_index.proofs.IndexLemmas.{count-having, many-front, places-front}
+use Rattle.shard_index.proofs.IndexLemmas.{count-having, many-front}
 use Rattle.shard_index.proofs.MarkLemmas.{count-marked, marked-word, no-marks}
 use Rattle.shard_index.proofs.TotalLemmas.{places-within}
 use Rattle.shard_index.proofs.index.Index.counts.Goals as goal
@@ -25,8 +25,8 @@ mark_at-requires c =
     let stands = c.requires.docs.1 in
     let first = take c.args.front docs in
     let mark : Doc → Bool = λ doc. list_any (λ w. is_among w doc.words) (take c.loop-word.word-index c.args.words.now) in
-    places-within (has_word c.word-item.result) first c.below-places.result.now (length c.loop-word.marks.items)
-    (c.below-places.ensures ∙ (ap (λ ps. front_of c.args.front ps) c.places_with.ensures ∙ places-front c.args.self.now docs c.args.front c.word-item.result stands))
+    places-within (has_word c.word-item.result) first c.as_slice.result.now (length c.loop-word.marks.items)
+    (c.as_slice.ensures.value ∙ c.in_ok-places.ensures docs stands)
     (ap length (c.loop-word.invariant.marks docs stands) ∙ length-map first mark)
 
 pub loop-word-preserved : goal.loop-word-preserved
@@ -37,15 +37,15 @@ loop-word-preserved c =
     record {
       with = λ docs stands.
           let f : Word → ℕ = λ w. length (having w (take c.args.front docs)) in
-          let counted = count-having word (take c.args.front docs) c.below-places.result.now
-          (c.below-places.ensures ∙ (ap (λ ps. front_of c.args.front ps) c.places_with.ensures ∙ places-front c.args.self.now docs c.args.front word stands)) in
+          let counted = count-having word (take c.args.front docs) c.in_ok-places.places.items (c.in_ok-places.ensures docs stands) in
+          let many : c.len.result ≡ length c.in_ok-places.places.items = omega (arith, c.len.ensures, c.in_ok-places.places.ok) in
           c.in_ok-push.ensures.items
-          ∙ ((λ k. c.loop-word.invariant.with docs stands k ++ counted k ∷ [])
+          ∙ ((λ k. c.loop-word.invariant.with docs stands k ++ (many ∙ counted) k ∷ [])
           ∙ sym (map_more f words i word c.loop-word-test.true ∙ ap (λ w. map f (take i words) ++ f w ∷ []) (sym c.word-item.is)));
       marks = λ docs stands.
           let first = take c.args.front docs in
           let mark : Doc → Bool = λ doc. list_any (λ w. is_among w doc.words) (take i words) in
-          let at = c.below-places.ensures ∙ (ap (λ ps. front_of c.args.front ps) c.places_with.ensures ∙ places-front c.args.self.now docs c.args.front word stands) in
+          let at = c.as_slice.ensures.value ∙ c.in_ok-places.ensures docs stands in
           c.mark_at.ensures
           ∙ ((λ k. marked_at (c.loop-word.invariant.marks docs stands k) (at k))
           ∙ (marked-word (has_word word) mark first
@@ -59,7 +59,7 @@ returns c = λ docs stands.
     let first = take c.args.front docs in
     let whole = take_all c.loop-word.word-index words c.loop-word-test.false in
     let with = c.from_vec.ensures ∙ (c.loop-word.invariant.with docs stands ∙ ap (λ ws. map (λ w. length (having w first)) ws) whole) in
-    let any = c.count_marks.ensures ∙ (ap (λ ms. count_by (λ b. b) ms) (c.as_slice.ensures.value ∙ c.loop-word.invariant.marks docs stands)
+    let any = c.count_marks.ensures ∙ (ap (λ ms. count_by (λ b. b) ms) (c.as_slice-2.ensures.value ∙ c.loop-word.invariant.marks docs stands)
     ∙ (count-marked (λ doc. list_any (λ w. is_among w doc.words) (take c.loop-word.word-index words)) first
     ∙ ap (λ ws. count_by (λ doc. list_any (λ w. is_among w doc.words) ws) first) whole)) in
     λ k. record { with = with k; any = any k }

@@ -1,7 +1,21 @@
-use Rattle.std.proofs.Common.{ap, ◌∙◌, take}
+use Rattle.std.proofs.Common.{length, ap, ◌∙◌, arith, take, zip}
+use Rattle.std.proofs.lemmas.List.{length-map, length-take-le}
 use Rattle.std.proofs.lemmas.Result.{IfOk-weaker}
-use Rattle.shard_index.proofs.IndexLemmas.{ids-front, top-is}
+use Rattle.query_model.specs.Parts.{weighted_score}
+use Rattle.shard_index.proofs.IndexLemmas.{ids-front, many-front, top-is}
 use Rattle.shard_index.proofs.index.Index.scores.Goals as goal
+
+pub first_scores-requires : goal.first_scores-requires
+first_scores-requires c =
+    let docs = c.requires.docs.0 in
+    let stands = c.requires.docs.1 in
+    omega (
+      arith,
+      length-take-le c.args.front c.deref.result.now (omega (arith, c.requires.front, ap length c.deref.ensures.value)),
+      ap length (c.as_slice.ensures.value ∙ c.in_ok-totals.ensures docs stands),
+      length-map (take c.args.front docs) (weighted_score (zip c.args.words.now c.args.weights.now)),
+      many-front c.args.self.now docs c.args.front stands c.requires.front,
+    )
 
 pub returns : goal.returns
 returns c = λ docs stands.

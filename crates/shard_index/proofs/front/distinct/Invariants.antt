@@ -1,0 +1,12 @@
+use Rattle.std.proofs.Common.{◌≡◌, ℕ, ◌≤◌, length, take, eqb, Some}
+use Rattle.std.specs.Option.{option_eq}
+use Rattle.shard_index.specs.Places.{distinct, is_last}
+use Rattle.shard_index.proofs.front.distinct.Given as goal
+
+abbrev pub invariant-loop-place : goal.invariant-loop-place
+invariant-loop-place l = record {
+  many : length l.once.items ≡ length l.places;
+  count : l.count ≤ l.place-index;
+  first : take l.count l.once.items ≡ distinct (take l.place-index l.places);
+  last : (x : ℕ) → is_last (distinct (take l.place-index l.places)) x ≡ option_eq eqb l.last (Some x);
+}

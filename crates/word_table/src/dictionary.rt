@@ -1,0 +1,131 @@
+ghost use Rattle.std.specs.Prelude.{◌≡◌, ◌≤◌, [], List, IfOk, IfSome, OnOk, length, true};
+ghost use Rattle.fan_base.specs.declared.word.Word.{Word};
+ghost use Rattle.word_table.specs.Numbers.{IsAt, Knows, number_in, with_word};
+
+use crate::hints::Hints;
+use fan_base::Word;
+use std::alloc::{AllocError, Global};
+use std::collections::BTreeMap;
+
+/// Words, each with its number: the first that came has 0, and each new one the next. Most words are found by a hint, by their
+/// hash; where the hint fails, as for words that were chosen so that their hashes agree, an ordered map has them.
+#[derive(Drop)]
+pub struct Dictionary {
+    words: Vec<Word>,
+    numbers: BTreeMap<Word, usize>,
+    hints: Hints,
+}
+
+impl Dictionary {
+    /// No words.
+    pub fn new(alloc: Global) -> Dictionary
+        ensures { Knows result [] }
+    {
+        Dictionary {
+            words: Vec::new(alloc),
+            numbers: BTreeMap::new(alloc),
+            hints: Hints::new(alloc),
+        }
+    }
+
+    /// How many words it has.
+    pub fn len(&self) -> usize
+        ensures { (words : List Word) → Knows self.now words → result ≡ length words }
+    {
+        self.words.len()
+    }
+
+    /// The word's number, or how many words there are where it isn't one of them.
+    pub fn find(&self, word: &Word) -> usize
+        ensures { (words : List Word) → Knows self.now words → result ≡ number_in words word.now }
+    {
+        match self.hinted(word) {
+            Some(number) => number,
+            None => self.looked_up(word),
+        }
+    }
+
+    /// The word's number. A new word gets the next.
+    pub fn number(&mut self, word: &Word) -> Result<usize, AllocError>
+        ensures number { IfOk result (λ number. (words : List Word) → Knows self.old words → number ≡ number_in (with_word words word.now) word.now) }
+        ensures knows { OnOk result ((words : List Word) → Knows self.old words → Knows self.new (with_word words word.now)) }
+    {
+        let guess = self.guess(word);
+        self.number_by(word, guess)
+    }
+
+    /// What is most likely the word's number. Guesses for many words, before any is asked for, are had in less time than one by one.
+    pub fn guess(&self, word: &Word) -> u32 {
+        self.hints.guess(word)
+    }
+
+    /// The word's number, whatever the guess. A new word gets the next.
+    pub fn number_by(&mut self, word: &Word, guess: u32) -> Result<usize, AllocError>
+        ensures number { IfOk result (λ number. (words : List Word) → Knows self.old words → number ≡ number_in (with_word words word.now) word.now) }
+        ensures knows { OnOk result ((words : List Word) → Knows self.old words → Knows self.new (with_word words word.now)) }
+    {
+        let number = self.find_by(word, guess);
+        if number < self.words.len() {
+            return Ok(number);
+        }
+        self.add(word)
+    }
+
+    /// The word's number, whatever the guess, or how many words there are where it isn't one of them.
+    fn find_by(&self, word: &Word, guess: u32) -> usize
+        ensures { (words : List Word) → Knows self.now words → result ≡ number_in words word.now }
+    {
+        let number = guess as usize;
+        if self.is_at(number, word) {
+            return number;
+        }
+        self.find(word)
+    }
+
+    /// Adds a word that is new.
+    fn add(&mut self, word: &Word) -> Result<usize, AllocError>
+        ensures number { IfOk result (λ number. (words : List Word) → Knows self.old words → number ≡ length words) }
+        ensures knows { OnOk result ((words : List Word) → Knows self.old words → length words ≤ number_in words word.now → Knows self.new (with_word words word.now)) }
+    {
+        let alloc = *self.words.allocator();
+        let number = self.words.len();
+        self.numbers.insert(*word, number)?;
+        self.words.push(*word)?;
+        if self.hints.are_full(number) {
+            self.hints.grow(alloc, self.words.as_slice())?;
+        } else {
+            self.hints.put(number, word);
+        }
+        Ok(number)
+    }
+
+    /// The word's number, where a hint tells.
+    fn hinted(&self, word: &Word) -> Option<usize>
+        ensures { IfSome result (λ number. IsAt self.now.words.items number word.now) }
+    {
+        for hint in self.hints.of(word) {
+            let number = *hint as usize;
+            if self.is_at(number, word) {
+                return Some(number);
+            }
+        }
+        None
+    }
+
+    /// Whether a number is the word's.
+    fn is_at(&self, number: usize, word: &Word) -> bool
+        ensures { result ≡ true → IsAt self.now.words.items number word.now }
+    {
+        number < self.words.len() && self.words[number] == *word
+    }
+
+    /// The word's number by the ordered map.
+    fn looked_up(&self, word: &Word) -> usize
+        ensures { (words : List Word) → Knows self.now words → result ≡ number_in words word.now }
+    {
+        match self.numbers.get(word) {
+            Some(number) => *number,
+            None => self.words.len(),
+        }
+    }
+}
