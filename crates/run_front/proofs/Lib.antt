@@ -2,3 +2,5 @@ mod Begun
 mod Keys
 mod Running
 mod Helping
+mod Posting
+mod Counting

@@ -1,2 +1,4 @@
 pub mod Fronts
 pub mod Turns
+pub mod Posted
+pub mod Counted

@@ -1,7 +1,8 @@
-ghost use Rattle.std.specs.Prelude.{◌≡◌};
+ghost use Rattle.std.specs.Prelude.{◌≡◌, ◌++◌, ◌∷◌, [], OnOk};
 ghost use Rattle.query_opening.specs.Turns.{IsCancelled};
 ghost use Rattle.run_tasks.specs.Worlds.{told_of};
 ghost use Rattle.run_front.specs.Fronts.{HasSameKeys, IsFrontOf};
+ghost use Rattle.run_front.specs.Posted.{cancelled_job};
 
 use crate::front::Front;
 use fan_base::{ExecId, Memory, Refused};
@@ -20,6 +21,8 @@ pub(crate) fn cancel_query<'c, 't, 'd: 't, 'r: 'd, 'i: 'r, N: RunName + 'static,
     requires front { IsFrontOf N.asked front.old }
     ensures front { IsFrontOf N.asked front.new }
     ensures printer { told_of front.new.printer ≡ told_of front.old.printer }
+    ensures posted { OnOk result (front.new.printer.sender.sent ≡ front.old.printer.sender.sent ++ cancelled_job N.asked place number ∷ []) }
+    ensures tally { OnOk result (front.new.tally ≡ front.old.tally) }
     ensures world { front.new.world ≡ front.old.world }
     ensures keys { HasSameKeys front.old front.new }
 {

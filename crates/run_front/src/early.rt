@@ -1,6 +1,8 @@
-ghost use Rattle.std.specs.Prelude.{◌≡◌, ◌+◌, ◌<◌, ◌≤◌, [], List, OnOk, length, map, take, drop};
+ghost use Rattle.std.specs.Prelude.{◌≡◌, ◌+◌, ◌<◌, ◌≤◌, [], ℕ, List, OnOk, length, map, take, drop};
+ghost use Rattle.core_word.specs.Count.{Counts};
 ghost use Rattle.fan_model.specs.Comings.{comings_of};
 ghost use Rattle.fan_model.specs.Tasks.{Run, pool_exec, task_runs};
+ghost use Rattle.fan_parts.specs.declared.jobs.PrintJob.{PrintJob};
 ghost use Rattle.front_walk.specs.Following.{IsInput};
 ghost use Rattle.pool_model.specs.Passes.{adds_of};
 ghost use Rattle.query_opening.specs.Turns.{IsBegun};
@@ -9,6 +11,8 @@ ghost use Rattle.run_notes.specs.Told.{run_of_add};
 ghost use Rattle.run_plan.specs.Turns.{AreTurnsOf, begun_in};
 ghost use Rattle.run_tasks.specs.Worlds.{told_of};
 ghost use Rattle.run_front.specs.Fronts.{AreRunsTo, HasKeysFor, IsFrontOf};
+ghost use Rattle.run_front.specs.Counted.{HasMade};
+ghost use Rattle.run_front.specs.Posted.{HasPosted};
 ghost use Rattle.run_front.specs.Turns.{IsTurnAt};
 
 use crate::cancelling::cancel_query;
@@ -54,6 +58,8 @@ pub fn early_turns<'c, 't, 'd: 't, 'r: 'd, 'i: 'r, N: RunName + 'static, G: Gate
     ensures helped { HasHelped front.old.world helper.old front.new.world helper.new }
     ensures front { IsFrontOf N.asked front.new }
     ensures printer { told_of front.new.printer ≡ told_of front.old.printer }
+    ensures posted { (first : List (PrintJob N)) → HasPosted N.asked 0 first front.old.printer → OnOk result (HasPosted N.asked end first front.new.printer) }
+    ensures counted { OnOk result (HasMade N.asked 0 end front.old.tally front.new.tally) }
     ensures keys { OnOk result (HasKeysFor (drop end (comings_of N.asked.lines)) front.new) }
 {
     known_turns::<N>();
@@ -102,6 +108,10 @@ fn early_turn<'c, 't, 'd: 't, 'r: 'd, 'i: 'r, N: RunName + 'static, G: Gate, R: 
     ensures helped { HasHelped front.old.world helper.old front.new.world helper.new }
     ensures front { IsFrontOf N.asked front.new }
     ensures printer { told_of front.new.printer ≡ told_of front.old.printer }
+    ensures posted { (first : List (PrintJob N)) → HasPosted N.asked place first front.old.printer →
+        OnOk result (HasPosted N.asked (place + 1) first front.new.printer) }
+    ensures counted { (start : ℕ) (first : Counts) → start ≤ place → HasMade N.asked start place first front.old.tally →
+        OnOk result (HasMade N.asked start (place + 1) first front.new.tally) }
     ensures keys { OnOk result (HasKeysFor (drop (place + 1) (comings_of N.asked.lines)) front.new) }
 {
     place_by_place();
@@ -139,6 +149,10 @@ fn early_query<'c, 't, 'd: 't, 'r: 'd, 'i: 'r, N: RunName + 'static, G: Gate, R:
     ensures helped { HasHelped front.old.world helper.old front.new.world helper.new }
     ensures front { IsFrontOf N.asked front.new }
     ensures printer { told_of front.new.printer ≡ told_of front.old.printer }
+    ensures posted { (first : List (PrintJob N)) → HasPosted N.asked place first front.old.printer →
+        OnOk result (HasPosted N.asked (place + 1) first front.new.printer) }
+    ensures counted { (start : ℕ) (first : Counts) → start ≤ place → HasMade N.asked start place first front.old.tally →
+        OnOk result (HasMade N.asked start (place + 1) first front.new.tally) }
     ensures keys { OnOk result (HasKeysFor (drop (place + 1) (comings_of N.asked.lines)) front.new) }
 {
     begun_query_is_asked::<N>();

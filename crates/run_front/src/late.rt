@@ -1,12 +1,16 @@
 ghost use Rattle.std.specs.Prelude.{◌≡◌, ◌+◌, ◌≤◌, ◌++◌, List, ℕ, false, OnOk, length, map, drop};
+ghost use Rattle.core_word.specs.Count.{Counts};
 ghost use Rattle.fan_model.specs.Comings.{comings_of};
 ghost use Rattle.fan_model.specs.Tasks.{Run, front_exec, task_runs};
+ghost use Rattle.fan_parts.specs.declared.jobs.PrintJob.{PrintJob};
 ghost use Rattle.front_walk.specs.Following.{IsInput};
 ghost use Rattle.query_opening.specs.Turns.{IsBegun};
 ghost use Rattle.run_notes.specs.Told.{run_of_direct};
 ghost use Rattle.run_plan.specs.Turns.{AreTurnsOf, begun_in};
 ghost use Rattle.run_tasks.specs.Worlds.{Follows, told_of};
 ghost use Rattle.run_front.specs.Fronts.{AreRunsTo, HasKeysFor, IsFrontOf};
+ghost use Rattle.run_front.specs.Counted.{HasMade};
+ghost use Rattle.run_front.specs.Posted.{HasPosted};
 ghost use Rattle.run_front.specs.Turns.{IsTurnAt};
 
 use crate::cancelling::cancel_query;
@@ -41,6 +45,9 @@ pub fn late_turns<'c, 't, 'd: 't, 'r: 'd, 'i: 'r, N: RunName + 'static, R: Wait>
     ensures follows { Follows front.old.world front.new.world }
     ensures front { IsFrontOf N.asked front.new }
     ensures printer { told_of front.new.printer ≡ told_of front.old.printer }
+    ensures posted { (first : List (PrintJob N)) → HasPosted N.asked start first front.old.printer →
+        OnOk result (HasPosted N.asked (length turns.now) first front.new.printer) }
+    ensures counted { OnOk result (HasMade N.asked start (length turns.now) front.old.tally front.new.tally) }
 {
     known_turns::<N>();
     place_by_place();
@@ -68,6 +75,10 @@ fn late_turn<'c, 't, 'd: 't, 'r: 'd, 'i: 'r, N: RunName + 'static, R: Wait>(
     ensures follows { Follows front.old.world front.new.world }
     ensures front { IsFrontOf N.asked front.new }
     ensures printer { told_of front.new.printer ≡ told_of front.old.printer }
+    ensures posted { (first : List (PrintJob N)) → HasPosted N.asked place first front.old.printer →
+        OnOk result (HasPosted N.asked (place + 1) first front.new.printer) }
+    ensures counted { (start : ℕ) (first : Counts) → start ≤ place → HasMade N.asked start place first front.old.tally →
+        OnOk result (HasMade N.asked start (place + 1) first front.new.tally) }
     ensures keys { OnOk result (HasKeysFor (drop (place + 1) (comings_of N.asked.lines)) front.new) }
 {
     place_by_place();
@@ -95,6 +106,10 @@ fn late_query<'c, 't, 'd: 't, 'r: 'd, 'i: 'r, N: RunName + 'static, R: Wait>(
     ensures follows { Follows front.old.world front.new.world }
     ensures front { IsFrontOf N.asked front.new }
     ensures printer { told_of front.new.printer ≡ told_of front.old.printer }
+    ensures posted { (first : List (PrintJob N)) → HasPosted N.asked place first front.old.printer →
+        OnOk result (HasPosted N.asked (place + 1) first front.new.printer) }
+    ensures counted { (start : ℕ) (first : Counts) → start ≤ place → HasMade N.asked start place first front.old.tally →
+        OnOk result (HasMade N.asked start (place + 1) first front.new.tally) }
     ensures keys { OnOk result (HasKeysFor (drop (place + 1) (comings_of N.asked.lines)) front.new) }
 {
     begun_query_is_asked::<N>();

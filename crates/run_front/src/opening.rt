@@ -1,9 +1,9 @@
 ghost use Rattle.std.specs.Prelude.{◌≡◌, ◌+◌, ◌<◌, true, suc, cond, is_some, IfOk, OnOk, drop, length};
+ghost use Rattle.core_word.specs.Count.{raised};
 ghost use Rattle.fan_model.specs.Answered.{is_top};
 ghost use Rattle.fan_model.specs.Comings.{comings_of};
 ghost use Rattle.fan_parts.specs.Facts.{IsAnswerAt};
 ghost use Rattle.query_opening.specs.Turns.{IsBegun, IsDeskOf};
-ghost use Rattle.run_tasks.specs.Worlds.{told_of};
 ghost use Rattle.run_front.specs.Fronts.{HasKeysFor, IsFrontOf};
 
 use crate::front::Front;
@@ -38,7 +38,8 @@ pub(crate) fn open_query<'c, 't, 'd: 't, 'r: 'd, 'i: 'r, N: RunName + 'static, R
     ensures desk { IfOk result (λ opened. IsDeskOf N.asked query.number opened.arrivals.desk) }
     ensures first { IfOk result (λ opened. opened.arrivals.next ≡ 0) }
     ensures front { IsFrontOf N.asked front.new }
-    ensures printer { told_of front.new.printer ≡ told_of front.old.printer }
+    ensures printer { front.new.printer ≡ front.old.printer }
+    ensures tally { OnOk result (front.new.tally ≡ record front.old.tally { made = raised front.old.tally.made }) }
     ensures world { front.new.world ≡ front.old.world }
     ensures keys { OnOk result (HasKeysFor (drop (place + 1) (comings_of N.asked.lines)) front.new) }
 {
@@ -74,6 +75,7 @@ fn begin_end<'c, 't, 'd: 't, 'r: 'd, 'i: 'r, N: RunName + 'static, R: Wait>(
     ensures desks { front.new.desks ≡ front.old.desks }
     ensures front { IsFrontOf N.asked front.new }
     ensures printer { front.new.printer ≡ front.old.printer }
+    ensures tally { front.new.tally ≡ record front.old.tally { made = raised front.old.tally.made } }
     ensures world { front.new.world ≡ front.old.world }
 {
     let Some(key) = front.replies.pop() else {

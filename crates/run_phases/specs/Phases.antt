@@ -19,6 +19,11 @@ abbrev pub StopsAt : Asking → List Turn → Option ℕ → Type 0
 StopsAt asked turns None = IsUnstopped asked.lines asked.stop_at
 StopsAt asked turns (Some place) = IsStopPlace asked.lines asked.stop_at place × (place ≤ length turns)
 
+-- behind how many of the turns all early queries were begun
+abbrev pub early_place : Option ℕ → List Turn → ℕ
+early_place None turns = length turns
+early_place (Some place) turns = place
+
 -- the one adder's pass of this pool, which has added nothing
 pub record IsOneAdder (pool : PoolId) (passes : List PassSeen) : Type 0 where
   pub pass : PassSeen

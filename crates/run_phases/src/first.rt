@@ -1,16 +1,19 @@
-ghost use Rattle.std.specs.Prelude.{◌≡◌, ◌≤◌, ℕ, Some, false, length, take};
+ghost use Rattle.std.specs.Prelude.{◌≡◌, ◌≤◌, ℕ, List, Some, false, length, take};
 ghost use Rattle.fan_model.specs.Answered.{answered_in, early_of, is_stopped};
 ghost use Rattle.fan_model.specs.Comings.{comings_of};
 ghost use Rattle.fan_model.specs.Tasks.{early_runs, pool_exec};
+ghost use Rattle.fan_parts.specs.declared.jobs.PrintJob.{PrintJob};
 ghost use Rattle.front_walk.specs.Following.{IsInput};
 ghost use Rattle.pool_model.specs.Passes.{AreAllPasses};
 ghost use Rattle.query_tasks.specs.Ends.{is_stop, seen_of};
 ghost use Rattle.query_tasks.specs.Starting.{HasHelped};
+ghost use Rattle.run_front.specs.Counted.{HasMade};
 ghost use Rattle.run_front.specs.Fronts.{HasKeysFor, IsFrontOf};
+ghost use Rattle.run_front.specs.Posted.{HasPosted};
 ghost use Rattle.run_notes.specs.Accounts.{runs_added};
 ghost use Rattle.run_plan.specs.Turns.{AreTurnsOf, begun_in};
 ghost use Rattle.run_tasks.specs.Worlds.{told_of};
-ghost use Rattle.run_phases.specs.Phases.{HasKeysBehind, IsOneAdder, StopsAt};
+ghost use Rattle.run_phases.specs.Phases.{HasKeysBehind, IsOneAdder, StopsAt, early_place};
 
 use fan_base::{Gate, Memory};
 use fan_parts::RunName;
@@ -68,6 +71,9 @@ pub fn first_phase<'c, 't, 'd: 't, 'r: 'd, 'i: 'r, N: RunName + 'static, G: Gate
     ensures helped { HasHelped start.entry.front.world start.entry.helper result.front.world result.helper }
     ensures front { IsFrontOf N.asked result.front }
     ensures printer { told_of result.front.printer ≡ told_of start.entry.front.printer }
+    ensures posted { (first : List (PrintJob N)) → HasPosted N.asked 0 first start.entry.front.printer → result.refused ≡ false →
+        HasPosted N.asked (early_place stop turns.now) first result.front.printer }
+    ensures counted { result.refused ≡ false → HasMade N.asked 0 (early_place stop turns.now) start.entry.front.tally result.front.tally }
     ensures keys { result.refused ≡ false → HasKeysBehind N.asked stop result.front }
 {
     let FrontStart {
@@ -111,6 +117,7 @@ fn early_end<N: RunName>(turns: &[Turn], stop: Option<usize>) -> usize
     ensures within { result ≤ length turns.now }
     ensures early { begun_in (take result (comings_of N.asked.lines)) ≡ early_of N.asked.stop_at (answered_in N.asked.lines) }
     ensures place { (place : ℕ) → stop ≡ Some place → result ≡ place }
+    ensures at { result ≡ early_place stop turns.now }
 {
     place_by_place();
     match stop {

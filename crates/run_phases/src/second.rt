@@ -1,12 +1,16 @@
-ghost use Rattle.std.specs.Prelude.{◌≡◌, ◌≤◌, ◌++◌, ◌∷◌, [], None, false, not, map, vec_capacity};
+ghost use Rattle.std.specs.Prelude.{◌≡◌, ◌≤◌, ◌++◌, ◌∷◌, [], ℕ, List, None, Some, false, not, length, map, take, vec_capacity};
 ghost use Rattle.std.specs.Bool.{OnTrue};
 ghost use Rattle.fan_model.specs.Answered.{answered_in, is_stopped};
+ghost use Rattle.fan_model.specs.Comings.{comings_of};
 ghost use Rattle.fan_model.specs.Report.{IsPoolReport};
 ghost use Rattle.fan_model.specs.Tasks.{early_runs, late_runs};
+ghost use Rattle.fan_parts.specs.declared.jobs.PrintJob.{PrintJob};
 ghost use Rattle.front_walk.specs.Following.{IsInput};
 ghost use Rattle.pool_model.specs.Passes.{AreAllEnds, AreAllPasses};
 ghost use Rattle.query_tasks.specs.Ends.{is_stop, seen_of};
+ghost use Rattle.run_front.specs.Counted.{HasMade};
 ghost use Rattle.run_front.specs.Fronts.{IsFrontOf};
+ghost use Rattle.run_front.specs.Posted.{HasPosted, cancelled_from};
 ghost use Rattle.run_notes.specs.Accounts.{AllDone, runs_added};
 ghost use Rattle.run_notes.specs.Told.{run_of_direct, told_of as told_by};
 ghost use Rattle.run_plan.specs.Turns.{AreTurnsOf};
@@ -61,6 +65,10 @@ pub fn second_phase<'c, 't, 'd: 't, 'r: 'd, 'i: 'r, N: RunName + 'static, R: Wai
     ensures posters { AreEndsFor (map told_of mid.entry.front.world.posters) result.ends.tasks.posters.items }
     ensures pass { StaysPass mid.entry.front.world.pass result.ends.tasks.pass }
     ensures printer { IsDoneBy mid.entry.front.printer result.ends.printer }
+    ensures posted { (place : ℕ) (first : List (PrintJob N)) → stop ≡ Some place → HasPosted N.asked place first mid.entry.front.printer →
+        result.refused ≡ false → result.ends.printer.sent ≡ first ++ cancelled_from N.asked 0 (take (length turns.now) (comings_of N.asked.lines)) }
+    ensures counted { (place : ℕ) → stop ≡ Some place → result.refused ≡ false →
+        HasMade N.asked place (length turns.now) mid.entry.front.tally result.ends.tally }
     ensures joined { stop ≡ None → IsLeftAsItWas mid.entry result.refused result.ends }
 {
     let FrontMid {
@@ -110,6 +118,9 @@ fn turns_behind<'c, 't, 'd: 't, 'r: 'd, 'i: 'r, N: RunName + 'static, R: Wait>(
     ensures direct { OnTrue result (front.new.world.refused ≡ false → map run_of_direct direct.new ≡ late_runs N.asked.lines N.asked.shards N.asked.bases N.asked.stop_at) }
     ensures follows { Follows front.old.world front.new.world }
     ensures printer { told_of front.new.printer ≡ told_of front.old.printer }
+    ensures posted { (place : ℕ) (first : List (PrintJob N)) → stop ≡ Some place → HasPosted N.asked place first front.old.printer →
+        OnTrue result (HasPosted N.asked (length turns.now) first front.new.printer) }
+    ensures counted { (place : ℕ) → stop ≡ Some place → OnTrue result (HasMade N.asked place (length turns.now) front.old.tally front.new.tally) }
     ensures joined { stop ≡ None → (result ≡ not refused) × (front.new ≡ front.old) }
 {
     if refused {

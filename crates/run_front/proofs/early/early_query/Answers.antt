@@ -11,6 +11,11 @@ use Rattle.prio_pool.specs.Priority.{queue_in}
 use Rattle.query_tasks.specs.Starting.{adds_for}
 use Rattle.run_notes.specs.Told.{run_of_add}
 use Rattle.run_front.proofs.Running.{added_few, added_runs, queue_is, runs_more}
+use Rattle.fan_parts.specs.Seen.{PosterSeen}
+use Rattle.fan_parts.specs.declared.jobs.PrintJob.{PrintJob}
+use Rattle.run_front.proofs.Counting.{counted_begun}
+use Rattle.run_front.proofs.Posting.{posted_begun}
+use Rattle.run_front.proofs.Running.{on_ok}
 use Rattle.run_front.proofs.early.early_query.Goals as goal
 
 pub prio_at-requires : goal.prio_at-requires
@@ -63,3 +68,19 @@ returns-clause-few g c =
     on_ok_weaker c.start_tasks.result (λ has.
     added_few asked c.in_ok-ask.field-0.ask (queue_in c.args.pool.now.id (to_z w8 (of_z w8 c.priority_of-priority.result))) c.open_query.new.front.shards (adds_of c.args.adder.now) (adds_of c.start_tasks.new.adder)
     has.adds few) c.start_tasks.ensures.added
+
+pub returns-clause-posted : goal.returns-clause-posted
+returns-clause-posted g c = λ first so_far.
+    let asked = g.N.RunName.asked in
+    let b = c.requires.begun in
+    on_ok c.start_tasks.result
+    (posted_begun asked c.args.place b.query first c.args.front.now.printer c.open_query.new.front.printer b.comes.at
+    (ap (λ (p : PosterSeen (PrintJob g.row.N.Denot)). p.sender.sent) c.open_query.ensures.printer) so_far)
+
+pub returns-clause-counted : goal.returns-clause-counted
+returns-clause-counted g c = λ start first within so_far.
+    let asked = g.N.RunName.asked in
+    let b = c.requires.begun in
+    on_ok c.start_tasks.result
+    (counted_begun asked start c.args.place b.query first c.args.front.now.tally c.open_query.new.front.tally
+    (c.place_by_place.ensures.begun asked.lines start c.args.place b.query b.comes within) c.in_ok-ask.ensures.tally so_far)

@@ -18,5 +18,7 @@ loop-place-preserved g c =
       helped = helped_on _ _ _ _ _ _ i.helped e.helped;
       front = e.front;
       printer = e.printer ∙ i.printer;
+      posted = λ first so_far. ok.posted first (i.posted first so_far);
+      counted = ok.counted 0 c.args.front.now.tally (omega arith) i.counted;
       keys = ok.keys;
     }

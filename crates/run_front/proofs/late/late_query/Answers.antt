@@ -9,6 +9,11 @@ use Rattle.fan_parts.specs.Facts.{IsAskOf}
 use Rattle.query_tasks.specs.Starting.{runs_for}
 use Rattle.run_notes.specs.Told.{run_of_direct}
 use Rattle.run_front.proofs.Running.{runs_more}
+use Rattle.fan_parts.specs.Seen.{PosterSeen}
+use Rattle.fan_parts.specs.declared.jobs.PrintJob.{PrintJob}
+use Rattle.run_front.proofs.Counting.{counted_begun}
+use Rattle.run_front.proofs.Posting.{posted_begun}
+use Rattle.run_front.proofs.Running.{on_ok}
 use Rattle.run_front.proofs.late.late_query.Goals as goal
 
 pub prio_at-requires : goal.prio_at-requires
@@ -54,3 +59,19 @@ returns-clause-direct g c = λ start first within so_far.
     runs_more asked (front_exec asked.bases) start c.args.place b.query first (map run_of_direct c.args.direct.now) _
     (c.place_by_place.ensures.begun asked.lines start c.args.place b.query b.comes within)
     (has down ∙ ap (λ (l : List Run). map run_of_direct c.args.direct.now ++ l) runs) so_far) c.run_tasks_here.ensures.direct
+
+pub returns-clause-posted : goal.returns-clause-posted
+returns-clause-posted g c = λ first so_far.
+    let asked = g.N.RunName.asked in
+    let b = c.requires.begun in
+    on_ok c.run_tasks_here.result
+    (posted_begun asked c.args.place b.query first c.args.front.now.printer c.open_query.new.front.printer b.comes.at
+    (ap (λ (p : PosterSeen (PrintJob g.row.N.Denot)). p.sender.sent) c.open_query.ensures.printer) so_far)
+
+pub returns-clause-counted : goal.returns-clause-counted
+returns-clause-counted g c = λ start first within so_far.
+    let asked = g.N.RunName.asked in
+    let b = c.requires.begun in
+    on_ok c.run_tasks_here.result
+    (counted_begun asked start c.args.place b.query first c.args.front.now.tally c.open_query.new.front.tally
+    (c.place_by_place.ensures.begun asked.lines start c.args.place b.query b.comes within) c.in_ok-ask.ensures.tally so_far)
