@@ -10,7 +10,7 @@ use std::sync::Wait;
 const STRING: u64 = 32;
 
 /// How many strings of blocks wait for the senders at most. Those over are freed.
-pub(super) const STRINGS: usize = 64;
+pub(super) const STRINGS: usize = 1_024;
 
 impl<M> Channel<M> {
     /// A block for a sender's next message: one of its own, or of those that the receiver gave back, or a new one.
