@@ -78,7 +78,7 @@ fn run_until_closed<R: Abort + Wait>(
 }
 
 // In a parcel a sender or a receiver can go into a closure, and can be left where it is.
-fn wrapped<X, R: Abort>(rt: &R, alloc: Global, value: X) -> Parcel<X>
+pub(crate) fn wrapped<X, R: Abort>(rt: &R, alloc: Global, value: X) -> Parcel<X>
     ensures { result ≡ value }
 {
     match Parcel::new(alloc, value) {

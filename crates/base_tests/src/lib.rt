@@ -7,7 +7,11 @@ mod again;
 #[cfg(test)]
 mod answers;
 #[cfg(test)]
+mod awake;
+#[cfg(test)]
 mod note;
+#[cfg(test)]
+mod posting;
 #[cfg(test)]
 mod refusals;
 #[cfg(test)]

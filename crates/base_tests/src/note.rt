@@ -97,7 +97,7 @@ pub(crate) fn this_iteration(agenda: &mut Agenda<Note>, note: Note)
     }
 }
 
-fn before_loop(agenda: &mut Agenda<Note>, note: Note)
+pub(crate) fn before_loop(agenda: &mut Agenda<Note>, note: Note)
     requires { note.0.exec ≡ agenda.old.exec }
     ensures same { (agenda.new.exec ≡ agenda.old.exec) × (agenda.new.wheel.tick ≡ agenda.old.wheel.tick) }
     ensures calls { IsReached ⟦<Note as Headed>⟧.head agenda.old agenda.new }

@@ -1,8 +1,8 @@
 // The base's own part: what takes callbacks and due timers off the agenda.
 ghost use Rattle.std.specs.Prelude.{◌≡◌, ◌+◌, ◌<◌, ◌^◌, ◌++◌, map, [], false, IfOk, OnErr, MatchOption, length};
-ghost use Rattle.std.specs.Bool.{OnTrue};
+ghost use Rattle.std.specs.Bool.{OnTrue, OnFalse};
 ghost use Rattle.event_base.specs.Seen.{new_agenda, settled, unmarked};
-ghost use Rattle.event_base.specs.Looping.{HoldsNoCallback};
+ghost use Rattle.event_base.specs.Looping.{HoldsNoCallback, count_of_callbacks};
 ghost use Rattle.event_base.specs.Rounds.{in_phase, ticked, due_next};
 ghost use Rattle.event_base.specs.Closing.{held_by, message_of};
 ghost use Rattle.event_base.specs.Turns.{TakesBefore, TakesLoop};
@@ -68,7 +68,8 @@ impl<J> Agenda<J> {
 
     // Whether no callback is held.
     pub(crate) fn is_idle(&self) -> bool
-        ensures { OnTrue result (HoldsNoCallback self.now) }
+        ensures none { OnTrue result (HoldsNoCallback self.now) }
+        ensures some { OnFalse result (0 < count_of_callbacks self.now) }
     {
         self.before.is_empty() && self.loops.is_empty() && self.later.is_empty()
     }

@@ -1,9 +1,9 @@
 ghost use Rattle.std.specs.Prelude.{◌≡◌, ◌+◌, ◌≤◌, ◌^◌, ◌⊎◌, IfOk, IfErr};
 ghost use Rattle.event_base.specs.Rounds.{Phases, IsWholeRound, IsCutRound, HasNotBegun};
-ghost use Rattle.std.specs.Bool.{OnTrue};
-ghost use Rattle.notify_queue.specs.Ends.{HasEnded, IsDry};
+ghost use Rattle.std.specs.Bool.{OnTrue, OnFalse};
+ghost use Rattle.notify_queue.specs.Ends.{HasEnded, IsDry, FoundLive};
 ghost use Rattle.event_base.specs.Seen.{BaseSeen};
-ghost use Rattle.event_base.specs.Looping.{IsLoop, IsCutLoop, IsRoundBehindLook, Looks};
+ghost use Rattle.event_base.specs.Looping.{HoldsNoCallback, IsLoop, IsCutLoop, IsRoundBehindLook, Looks, MayHaveMore};
 
 use super::EventBase;
 use crate::job::LoopJob;
@@ -113,7 +113,8 @@ impl<J> EventBase<J> {
     where
         J: LoopJob<W>,
         ensures ok { IfOk result (λ found. (did : Phases J)
-            × IsRoundBehindLook J.head J.runs world.old self.old did world.new self.new) }
+            × (one : IsRoundBehindLook J.head J.runs world.old self.old did world.new self.new)
+            × OnFalse found.0 (MayHaveMore self.old one.looked did)) }
         ensures dry { IfOk result (λ found. OnTrue found.0 (IsDry self.new.queue)) }
         ensures memory { IfErr result (λ fault. (looked : BaseSeen J) × Looks self.old looked
             × HasNotBegun 0 world.old looked fault world.new self.new) }
@@ -133,12 +134,14 @@ impl<J> EventBase<J> {
     fn look(&mut self) -> bool
         ensures looks { Looks self.old self.new }
         ensures ended { OnTrue result (HasEnded self.new.queue) }
+        ensures live { OnFalse result (FoundLive self.old.queue self.new.queue) }
     {
         self.queue.ended()
     }
 
-    // Sleeps until something is posted or a poster ends, where that is wanted.
+    // Sleeps until something is posted or a poster ends, where that is wanted, which is never while a callback is held.
     fn sleep_where<R: Wait>(&mut self, rt: &R, wanted: bool)
+        requires { OnTrue wanted (HoldsNoCallback self.old.agenda) }
         ensures { self.new ≡ self.old }
     {
         if wanted {

@@ -1,0 +1,37 @@
+// A callback that posts to its own base while a round begins.
+use super::answers::wrapped;
+use super::note::*;
+use event_base::{Agenda, LoopJob, Poster, calls_in_a_row};
+use fan_base::Mark;
+use std::sync::Wait;
+
+// A poster of the base, by which each callback posts one note, and each note that was posted none.
+struct Posting {
+    poster: Poster<Note>,
+}
+
+impl LoopJob<Posting> for Note {
+    ghost runs = { λ id before mark after. Unit {0} };
+
+    fn run<R: Wait>(self, rt: &R, world: &mut Posting, _agenda: &mut Agenda<Note>) -> Mark {
+        calls_in_a_row::<Note>();
+        if self.0.id.0 == 13 && world.poster.puts() < 1 {
+            let _stamp = world.poster.put(rt, note_on(EXEC, 15));
+        }
+        Mark::Done(self.0.number)
+    }
+}
+
+// A round takes its messages before its first callback runs, so what that one posts waits for the next round.
+#[test]
+fn what_a_callback_posts_runs_in_the_next_round(rt: HostRuntime) {
+    let (mut base, poster) = one_poster(&rt, rt.alloc());
+    let mut world = Posting { poster };
+    before_loop(base.agenda(), note_on(EXEC, 13));
+    let first = round(&rt, &mut base, 0, &mut world);
+    assert_eq!(rt; (first.before, first.messages), (1, 0));
+    let second = round(&rt, &mut base, 0, &mut world);
+    assert_eq!(rt; (second.before, second.messages), (0, 1));
+    let _world = wrapped(&rt, rt.alloc(), world);
+    let _base = wrapped(&rt, rt.alloc(), base);
+}
