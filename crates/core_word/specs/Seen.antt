@@ -72,13 +72,15 @@ pub record SeenReceipt (T C P : Type 0) : Type 0 where
   pub offer : Offer (Try T) P
   pub demand : Demand C
 
--- The husk of a core: how many halves the last leave found attached, and what both halves had set, as the last leaver read it.
+-- The husk of a core: how many halves the last leave found attached, and what both halves had set, as the last leaver read it. Besides, what the last leaver had set and got itself by its own act: for a producer it set the known offer and got the known demand, for a consumer the other way round.
 pub record SeenHusk (T C P : Type 0) : Type 0 where
   pub home : HomeId
   pub use_number : ℕ
   pub count_found : ℕ
   pub offer : Offer (Try T) P
   pub demand : Demand C
+  pub known_offer : Offer (Try T) P
+  pub known_demand : Demand C
 
 -- a result with its callback, the number of the core that handed it over, and whether the callback may run inline
 pub record SeenFire (T C : Type 0) : Type 0 where

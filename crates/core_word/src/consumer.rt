@@ -11,6 +11,7 @@ use crate::rule::{CoreSeat, CoreTable};
 use crate::steps;
 use core_state::{Demand, Half, Offer, Request, State};
 use std::marker::Model;
+use std::snapshot::Snapshot;
 
 /// What setting a callback answers.
 pub enum Met<T, C, P> {
@@ -148,16 +149,18 @@ impl<'h, T, C, P> LeftC<'h, T, C, P> {
         ensures count { MatchLeft result (λ receipt. (receipt.half ≡ Half.Consumer) × (1 < receipt.count_found)) (λ leftover husk. husk.count_found ≡ 1) }
         ensures acts { MatchLeft result (λ receipt. (receipt.demand ≡ self.entry.demand) × (receipt.offer ≡ self.entry.got)) (λ leftover husk. (husk.demand ≡ self.entry.demand) × IsSet husk.offer × GotOffer self.entry.got husk.offer) }
         ensures leftover { IfLast result (λ leftover husk. leftover ≡ leftover_as (leftover_from husk.offer husk.demand)) }
+        ensures known { IfLast result (λ leftover husk. (husk.known_demand ≡ self.entry.demand) × (husk.known_offer ≡ self.entry.got)) }
     {
         let LeftC {
             table,
             mut seat,
             no: _,
         } = self;
+        let before = Snapshot::of(&seat);
         if !steps::leave(table, &mut seat) {
             return Left::First(Receipt::new(table, Half::Consumer, seat));
         }
         let leftover = steps::read_end(table, &mut seat);
-        Left::Last(leftover, Husk::new(table, seat))
+        Left::Last(leftover, Husk::new(table, seat, before))
     }
 }

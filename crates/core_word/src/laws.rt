@@ -60,10 +60,15 @@ pub fn one_husk<'h, T, C, P>(husk: Husk<'h, T, C, P>, other: Husk<'h, T, C, P>)
     requires { husk.home ≡ other.home }
     ensures { ⊥ }
 {
-    let Husk { table, mut seat } = husk;
+    let Husk {
+        table,
+        mut seat,
+        before: _,
+    } = husk;
     let Husk {
         table: other_table,
         seat: mut other,
+        before: _,
     } = other;
     reopen(other_table, &mut other);
     table.join_seat::<Clashes>(&mut seat, other);
@@ -95,6 +100,7 @@ pub fn no_producer_beside_husk<'h, T, C, P>(producer: LeftP<'h, T, C, P>, husk: 
     let Husk {
         table: other_table,
         seat: mut other,
+        before: _,
     } = husk;
     reopen(other_table, &mut other);
     table.join_seat::<Clashes>(&mut seat, other);
@@ -114,6 +120,7 @@ pub fn no_consumer_beside_husk<'h, T, C, P>(consumer: LeftC<'h, T, C, P>, husk: 
     let Husk {
         table: other_table,
         seat: mut other,
+        before: _,
     } = husk;
     reopen(other_table, &mut other);
     table.join_seat::<Clashes>(&mut seat, other);

@@ -9,6 +9,7 @@ use crate::tally::Tally;
 use core_state::Half;
 use fan_base::Try;
 use std::marker::Model;
+use std::snapshot::Snapshot;
 
 /// What is left of a core that both halves have left.
 #[derive(Debug, PartialEq, Eq, Drop)]
@@ -97,6 +98,8 @@ impl<'h, T, C, P> Drop for Receipt<'h, T, C, P> {
 pub struct Husk<'h, T, C, P> {
     pub(crate) table: &'h CoreTable<T, C, P>,
     pub(crate) seat: CoreSeat<T, C, P>,
+    // The seat of the last leaver before it left, for the contracts alone.
+    pub(crate) before: Snapshot<CoreSeat<T, C, P>>,
 }
 
 impl<'h, T, C, P> Model for Husk<'h, T, C, P> {
@@ -106,7 +109,7 @@ impl<'h, T, C, P> Model for Husk<'h, T, C, P> {
 
     ghost Value = { SeenHusk T C P };
 
-    ghost view = { λ h. record { home = h.table.now.table_id; use_number = use_of h.seat.me.0; count_found = count_found h.seat.me.0; offer = offer_in_view h.seat.me.0; demand = demand_in_view h.seat.me.0 } };
+    ghost view = { λ h. record { home = h.table.now.table_id; use_number = use_of h.seat.me.0; count_found = count_found h.seat.me.0; offer = offer_in_view h.seat.me.0; demand = demand_in_view h.seat.me.0; known_offer = offer_in_view h.before.value.me.0; known_demand = demand_in_view h.before.value.me.0 } };
 
     ghost invariant = { λ h. IsHome h.table.now.table_id × Sits h.table.now.table_id h.seat (husk_at (use_of h.seat.me.0) (offer_in_view h.seat.me.0) (demand_in_view h.seat.me.0)) };
 }
@@ -115,19 +118,31 @@ impl<'h, T, C, P> Husk<'h, T, C, P> {
     ghost use Rattle.core_word.specs.Views.{use_of, offer_in_view, demand_in_view};
     ghost use Rattle.core_word.specs.Plays.{IsHome, Sits, husk_at};
 
-    pub(crate) fn new(table: &'h CoreTable<T, C, P>, seat: CoreSeat<T, C, P>) -> Husk<'h, T, C, P>
+    pub(crate) fn new(
+        table: &'h CoreTable<T, C, P>,
+        seat: CoreSeat<T, C, P>,
+        before: Snapshot<CoreSeat<T, C, P>>,
+    ) -> Husk<'h, T, C, P>
         requires home { IsHome table.now.table_id }
         requires sits { Sits table.now.table_id seat (husk_at (use_of seat.me.0) (offer_in_view seat.me.0) (demand_in_view seat.me.0)) }
-        ensures { result ≡ record { home = table.now.table_id; use_number = use_of seat.me.0; count_found = 1; offer = offer_in_view seat.me.0; demand = demand_in_view seat.me.0 } }
+        ensures { result ≡ record { home = table.now.table_id; use_number = use_of seat.me.0; count_found = 1; offer = offer_in_view seat.me.0; demand = demand_in_view seat.me.0; known_offer = offer_in_view before.value.me.0; known_demand = demand_in_view before.value.me.0 } }
     {
-        Husk { table, seat }
+        Husk {
+            table,
+            seat,
+            before,
+        }
     }
 
     /// Frees the core. Its home is used no more. Raises `freed`.
     pub fn end(self, t: &mut Tally)
         ensures { t.new ≡ record t.old { freed = raised t.old.freed } }
     {
-        let Husk { table: _, seat } = self;
+        let Husk {
+            table: _,
+            seat,
+            before: _,
+        } = self;
         drop(seat);
         t.count_freed();
     }
@@ -138,7 +153,11 @@ impl<'h, T, C, P> Husk<'h, T, C, P> {
         ensures key { result ≡ record { home = self.entry.home; use_number = suc self.entry.use_number } }
         ensures tally { t.new ≡ record t.old { freed = raised t.old.freed; reopened = raised t.old.reopened } }
     {
-        let Husk { table, mut seat } = self;
+        let Husk {
+            table,
+            mut seat,
+            before: _,
+        } = self;
         steps::set_back(table, &mut seat);
         steps::attach_both(table, &mut seat);
         t.count_reopened();

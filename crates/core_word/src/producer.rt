@@ -12,6 +12,7 @@ use crate::view::Sight;
 use core_state::{Half, Offer, Request};
 use fan_base::Try;
 use std::marker::Model;
+use std::snapshot::Snapshot;
 
 /// What setting a result answers.
 pub enum Landed<T, C> {
@@ -164,16 +165,18 @@ impl<'h, T, C, P> LeftP<'h, T, C, P> {
         ensures count { MatchLeft result (λ receipt. (receipt.half ≡ Half.Producer) × (1 < receipt.count_found)) (λ leftover husk. husk.count_found ≡ 1) }
         ensures acts { MatchLeft result (λ receipt. (receipt.offer ≡ self.entry.offer) × (receipt.demand ≡ self.entry.got)) (λ leftover husk. (husk.offer ≡ self.entry.offer) × GotDemand self.entry.got husk.demand) }
         ensures leftover { IfLast result (λ leftover husk. leftover ≡ leftover_as (leftover_from husk.offer husk.demand)) }
+        ensures known { IfLast result (λ leftover husk. (husk.known_offer ≡ self.entry.offer) × (husk.known_demand ≡ self.entry.got)) }
     {
         let LeftP {
             table,
             mut seat,
             no: _,
         } = self;
+        let before = Snapshot::of(&seat);
         if !steps::leave(table, &mut seat) {
             return Left::First(Receipt::new(table, Half::Producer, seat));
         }
         let leftover = steps::read_end(table, &mut seat);
-        Left::Last(leftover, Husk::new(table, seat))
+        Left::Last(leftover, Husk::new(table, seat, before))
     }
 }
