@@ -2,13 +2,13 @@
 use Rattle.std.specs.Prelude.{◌≡◌, List, [], ◌∷◌, Bool, true, false, Option, refl}
 use Rattle.std.proofs.Common.{rules, subst}
 use Rattle.fan_base.specs.declared.outcome.Try.{Try}
-use Rattle.core_word.specs.Words.{State, Offer, Demand, IsSet, GotOffer, leftover_from, leftover_as}
+use Rattle.core_word.specs.Words.{State, Offer, Demand, IsSet, leftover_from, leftover_as}
 use Rattle.core_word.specs.Words.state
 use Rattle.core_word.specs.Words.offered
 use Rattle.core_word.specs.Words.demanded
 use Rattle.core_word.specs.Count.{Counts}
 use Rattle.core_word.specs.Seen.{SeenConsumer}
-use Rattle.core_word.specs.Answers.{MeetsAt, MatchLeft, IfLast}
+use Rattle.core_word.specs.Answers.{MeetsAt, IfLast}
 use Rattle.core_word.specs.declared.producer.Landed.{Landed}
 use Rattle.core_word.specs.declared.consumer.Met.{Met}
 use Rattle.core_word.specs.declared.consumer.Met.TheVariants as met
@@ -39,17 +39,16 @@ something_left_from offer demanded.Nothing is_set none same = something_left off
 something_left_from offer (demanded.Callback request) is_set none same = search rules
 
 -- a consumer that gave up and left, which was then settled
-pub given_up : {T C P : Type 0} (gives_up : P → List Stop → Option (Try T) → Type 0) (consumer : SeenConsumer) (demand : Demand C) (got : Offer (Try T) P) (l : Left T C P) (result : Option (Try T)) (old new : Counts)
+pub given_up : {T C P : Type 0} (gives_up : P → List Stop → Option (Try T) → Type 0) (consumer : SeenConsumer) (demand : Demand C) (l : Left T C P) (result : Option (Try T)) (old new : Counts)
     → demand ≡ demanded.Nothing
-    → MatchLeft l (λ receipt. (receipt.demand ≡ demand) × (receipt.offer ≡ got)) (λ left_over husk. (husk.demand ≡ demand) × IsSet husk.offer × GotOffer got husk.offer)
-    → IfLast l (λ left_over husk. left_over ≡ leftover_as (leftover_from husk.offer husk.demand))
+    → IfLast l (λ left_over husk. (husk.demand ≡ demand) × IsSet husk.offer × (left_over ≡ leftover_as (leftover_from husk.offer husk.demand)))
     → Settled gives_up l result old new → GivenUp (GivesUp gives_up) consumer result old new
-given_up gives_up consumer demand got (left.First receipt) result old new act acts ends settled =
+given_up gives_up consumer demand (left.First receipt) result old new act ends settled =
     record { stops = record { core = consumer; found = state.Start; last = false } ∷ []; walk = (refl, (refl, settled.walk.1)); tally = subst (λ stops. new ≡ after_giving_up stops (freed_at false old)) settled.walk.0 settled.tally }
-given_up gives_up consumer demand got (left.Last leftover.Nothing husk) result old new act acts ends settled =
-    let none : husk.demand ≡ demanded.Nothing = rw acts.0 act in
-    absurd (something_left_from husk.offer husk.demand acts.1 none ends)
-given_up gives_up consumer demand got (left.Last (leftover.Outcome outcome) husk) result old new act acts ends settled =
+given_up gives_up consumer demand (left.Last leftover.Nothing husk) result old new act ends settled =
+    let none : husk.demand ≡ demanded.Nothing = rw ends.0 act in
+    absurd (something_left_from husk.offer husk.demand ends.1 none ends.2)
+given_up gives_up consumer demand (left.Last (leftover.Outcome outcome) husk) result old new act ends settled =
     record { stops = record { core = consumer; found = state.OnlyResult; last = true } ∷ []; walk = (refl, (refl, (outcome, settled.walk.1))); tally = subst (λ stops. new ≡ after_giving_up stops (freed_at true old)) settled.walk.0 settled.tally }
-given_up gives_up consumer demand got (left.Last (leftover.Proxy proxy) husk) result old new act acts ends settled =
+given_up gives_up consumer demand (left.Last (leftover.Proxy proxy) husk) result old new act ends settled =
     record { stops = record { core = consumer; found = state.Proxy; last = true } ∷ settled.stops; walk = (refl, (proxy, settled.walk)); tally = settled.tally }

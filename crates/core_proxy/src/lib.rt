@@ -18,6 +18,7 @@
 //! do: it ends the husk, gives a left-over proxy up in the same way, and hands a left-over result out.
 #![tactic(auto)]
 
+mod asker;
 mod consumer;
 mod proxy;
 mod taker;

@@ -3,9 +3,10 @@ ghost use Rattle.std.specs.Prelude.{Bool, true, false, List, Option};
 ghost use Rattle.fan_base.specs.declared.outcome.Try.{Try};
 ghost use Rattle.core_word.specs.Count.{raised};
 ghost use Rattle.core_word.specs.declared.producer.Landed.{Landed};
-ghost use Rattle.core_proxy.specs.Walk.{Stop, Given, GivenUp};
+ghost use Rattle.core_proxy.specs.Walk.{Stop, Given, GivenUp, WentOn, WentToProxy};
+ghost use Rattle.core_proxy.specs.Settling.{GivenOut};
 
-use core_word::{Forward, Landed, Tally};
+use core_word::{Forward, Landed, Leftover, Met, Passed, Tally};
 use fan_base::Try;
 
 /// What takes a callback for a result of type `T`, at once or through proxies.
@@ -42,4 +43,40 @@ pub fn pass_on<T, C, P: Taker<T, C>>(forward: Forward<C, P>, t: &mut Tally) -> L
         return proxy.give_inline(callback, t);
     }
     proxy.give(callback, t)
+}
+
+/// What a callback comes to that its core has met in this way. Of a taker nothing but its own calls says where a walk goes, so
+/// that no body of this can make one up.
+pub(crate) fn go_on<T, C, P: Taker<T, C>>(met: Met<T, C, P>, t: &mut Tally) -> Landed<T, C>
+    ensures { WentOn P.gives met result t.old t.new }
+{
+    match met {
+        Met::Waiting => Landed::Waiting,
+        Met::Fire(fire) => Landed::Fire(fire),
+        Met::Forward(forward) => pass_on(forward, t),
+    }
+}
+
+/// What naming a proxy comes to, in the same way.
+pub(crate) fn go_to<T, C, P: Taker<T, C>>(passed: Passed<C, P>, t: &mut Tally) -> Landed<T, C>
+    ensures { WentToProxy P.gives passed result t.old t.new }
+{
+    match passed {
+        Passed::Waiting => Landed::Waiting,
+        Passed::Forward(forward) => pass_on(forward, t),
+    }
+}
+
+/// What a last leave has left over comes to, in the same way.
+pub(crate) fn give_out<T, C, P: Taker<T, C>>(
+    leftover: Leftover<T, P>,
+    t: &mut Tally,
+) -> Option<Try<T>>
+    ensures { GivenOut P.gives_up leftover result t.old t.new }
+{
+    match leftover {
+        Leftover::Nothing => None,
+        Leftover::Outcome(outcome) => Some(outcome),
+        Leftover::Proxy(proxy) => proxy.give_up(t),
+    }
 }

@@ -3,6 +3,6 @@ use Rattle.core_proxy.proofs.consumer.ConsumerTaker.give_up.Goals as goal
 
 pub returns : goal.returns
 returns g c =
-    let half = c.give_up.result in
-    given_up g.P.Proxy.gives_up c.args.self half.demand half.got c.leave.result c.settle.result c.args.t.now c.settle.new.t
-    c.give_up.ensures.act c.leave.ensures.acts c.leave.ensures.leftover c.settle.ensures
+    let by = c.give_up_by.ensures in
+    given_up g.P.Proxy.gives_up c.args.self by.stopped.acted.demand by.leave c.give_up_by.result c.args.t.now c.give_up_by.new.t
+    by.stopped.act by.stopped.ends by.settled
