@@ -41,6 +41,14 @@ pub record LandsIn {U D Q W : Type 0} (lands : W → SeenFire U D → W → Type
   pub outcome : HandsOutcome unclaims first left_over second
   pub tally : counted second counts now
 
+-- What a run of the job of this chain, with this outcome, does to a world: its continuation ran once on that outcome, and what that came to landed in the world.
+pub record JobRan {K T U D Q W : Type 0} (steps : K → Try T → Step U Q → Type 0) (gives : Q → D → Bool → List Stop → Landed U D → Type 0) (gives_up : Q → List Stop → Option (Try U) → Type 0) (lands : W → SeenFire U D → W → Type 0) (unclaims : W → Try U → W → Type 0) (counted : W → Counts → W → Type 0) (to : SeenProducer) (cont : K) (given : Try T) (before now : W) : Type 0 where
+  pub after : After U D Q
+  pub left_over : Option (Try U)
+  pub counts : Counts
+  pub came : Came steps gives gives_up to cont given after left_over counts
+  pub landed : LandsIn lands unclaims counted after left_over counts before now
+
 -- What a run of a chain's job does to a world, whatever its id: some continuation of the chain's type ran once, and what that came to landed in the world.
 pub record JobRuns {K T U D Q W : Type 0} (steps : K → Try T → Step U Q → Type 0) (gives : Q → D → Bool → List Stop → Landed U D → Type 0) (gives_up : Q → List Stop → Option (Try U) → Type 0) (lands : W → SeenFire U D → W → Type 0) (unclaims : W → Try U → W → Type 0) (counted : W → Counts → W → Type 0) (id : JobId) (before : W) (m : Mark) (now : W) : Type 0 where
   pub to : SeenProducer

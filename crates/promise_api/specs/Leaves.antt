@@ -15,6 +15,7 @@ module _ {T C P : Type 0} where
     pub count : MatchLeft left (λ receipt. (receipt.half ≡ half.Producer) × (1 < receipt.count_found)) (λ leftover husk. husk.count_found ≡ 1)
     pub acts : MatchLeft left (λ receipt. (receipt.offer ≡ acted.offer) × (receipt.demand ≡ acted.got)) (λ leftover husk. (husk.offer ≡ acted.offer) × GotDemand acted.got husk.demand)
     pub leftover : IfLast left (λ leftover husk. leftover ≡ leftover_as (leftover_from husk.offer husk.demand))
+    pub known : IfLast left (λ leftover husk. (husk.known_offer ≡ acted.offer) × (husk.known_demand ≡ acted.got))
     pub last : acted.sight ≡ seen.CallbackLeft → IsLastLeave left
 
   -- a consumer that has acted in this way left
@@ -24,3 +25,4 @@ module _ {T C P : Type 0} where
     pub count : MatchLeft left (λ receipt. (receipt.half ≡ half.Consumer) × (1 < receipt.count_found)) (λ leftover husk. husk.count_found ≡ 1)
     pub acts : MatchLeft left (λ receipt. (receipt.demand ≡ acted.demand) × (receipt.offer ≡ acted.got)) (λ leftover husk. (husk.demand ≡ acted.demand) × IsSet husk.offer × GotOffer acted.got husk.offer)
     pub leftover : IfLast left (λ leftover husk. leftover ≡ leftover_as (leftover_from husk.offer husk.demand))
+    pub known : IfLast left (λ leftover husk. (husk.known_demand ≡ acted.demand) × (husk.known_offer ≡ acted.got))

@@ -36,12 +36,17 @@ where
     Q: Proxy<U, D>,
     W: Landing<U, D>,
 {
-    ghost use Rattle.promise_api.specs.Landings.{JobRuns};
+    ghost use Rattle.job_trait.specs.Marks.{IsMarkOf};
+    ghost use Rattle.promise_api.specs.Landings.{JobRuns, JobRan};
 
     ghost runs = { JobRuns K.steps Q.gives Q.gives_up W.lands W.unclaims W.counts };
 
     /// Runs the chain once, settles its leave, and hands the world what that came to. The mark is always Done(0).
-    fn run<R: Wait>(self, _rt: &R, world: &mut W) -> Mark {
+    fn run<R: Wait>(self, _rt: &R, world: &mut W) -> Mark
+        ensures mark { IsMarkOf 0 result }
+        ensures meaning { JobRuns K.steps Q.gives Q.gives_up W.lands W.unclaims W.counts (record { 0 = self.entry.no }) world.old result world.new }
+        ensures chain { JobRan K.steps Q.gives Q.gives_up W.lands W.unclaims W.counts self.entry.chain.to self.entry.chain.cont self.entry.outcome world.old world.new }
+    {
         let ChainJob {
             no: _,
             outcome,
