@@ -16,3 +16,4 @@ pub mod Finishing
 pub mod Draining
 pub mod Crossings
 pub mod Unused
+pub mod Sleeping

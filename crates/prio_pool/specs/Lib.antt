@@ -1,4 +1,5 @@
 pub mod Priority
+pub mod Sleeping
 pub mod Running
 pub mod Adders
 pub mod Takers

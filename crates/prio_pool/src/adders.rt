@@ -8,6 +8,7 @@ ghost use Rattle.prio_pool.specs.Adders.{MayPush, PushedAt, add_on, and_pushed, 
 use crate::gather::{gather_adders, put_adders};
 use crate::make::Queues;
 use crate::placed::Placed;
+use crate::sleepers::Call;
 use fan_base::{Parcels, Refused};
 use job_trait::Headed;
 use pool_model::Ticket;
@@ -74,14 +75,14 @@ impl<J> Adders<J> {
 }
 
 impl<J: Headed> Adders<J> {
-    /// Pushes a task under the next ticket on this queue, which is the one with this number.
+    /// Pushes a task under the next ticket on this queue, which is the one with this number. A worker is to be woken for it.
     pub fn add<R: Wait>(
         &mut self,
         rt: &R,
         queue: &TaskQueue<Placed<J>>,
         number: usize,
         task: Queued<Placed<J>>,
-    ) -> Result<(), Refused<Queued<Placed<J>>>>
+    ) -> Result<Call, Refused<Queued<Placed<J>>>>
         requires within { number < length self.old.pool.queues }
         requires queue { slice_index_or self.old.pool.queues number queue.now ≡ queue.now }
         requires ticket { task.ticket ≡ record { adder = self.old.number; index = length (adds_of self.old) } }
@@ -93,7 +94,7 @@ impl<J: Headed> Adders<J> {
         match push_at(rt, queue, &mut self.adders, number, task) {
             Ok(()) => {
                 self.count += 1;
-                Ok(())
+                Ok(Call::new())
             }
             Err(refused) => Err(refused),
         }

@@ -7,6 +7,7 @@ ghost use Rattle.prio_pool.specs.Begun.{HasBegun, SetMark};
 use crate::adders::Adders;
 use crate::passes::PoolPass;
 use crate::pool::Pool;
+use crate::sleepers::Told;
 use job_trait::Headed;
 use keep_alive::{Joined, KeepOwner};
 use pool_model::Ending;
@@ -15,13 +16,13 @@ use std::collections::LinkedList;
 use std::marker::Model;
 use std::snapshot::Snapshot;
 use std::sync::Wait;
-use task_queue::{EndMark, OpenSeat, Watch};
+use task_queue::{EndMark, OpenSeat};
 
 /// A pool that is to be joined. It keeps the passes of all adders, so that no task can be added. Contracts see these, which
 /// pool it is, and the count of its keep-alives.
 pub struct Joining<J: Headed> {
     pub(crate) passes: LinkedList<Adders<J>>,
-    pub(crate) begun: Watch,
+    pub(crate) begun: Told,
     pub(crate) joined: Joined,
     pub(crate) pool: Snapshot<Pool<J>>,
 }
@@ -42,7 +43,7 @@ impl<J: Headed> Model for Joining<J> {
 /// A pool that is to be stopped. It keeps the passes of all adders, so that no task can be added. Contracts see the same of it.
 pub struct Stopping<J: Headed> {
     pub(crate) passes: LinkedList<Adders<J>>,
-    pub(crate) begun: Watch,
+    pub(crate) begun: Told,
     pub(crate) joined: Joined,
     pub(crate) pool: Snapshot<Pool<J>>,
 }
@@ -98,14 +99,14 @@ fn gather_parts<J>(
 }
 
 impl<J: Headed> Pool<J> {
-    // Waits for the keep-alives, and marks the pool as ending.
+    // Waits for the keep-alives, marks the pool as ending, and tells its workers.
     fn begin<R: Wait>(
         &self,
         rt: &R,
         owner: KeepOwner,
         passes: Vec<PoolPass<J>>,
         ending: Ending,
-    ) -> (LinkedList<Adders<J>>, Watch, Joined)
+    ) -> (LinkedList<Adders<J>>, Told, Joined)
         requires owner { owner.count ≡ self.now.count }
         requires passes { AreAllPasses self.now.id self.now.adders passes.items }
         ensures passes { result.0 ≡ passes.items }
@@ -113,10 +114,9 @@ impl<J: Headed> Pool<J> {
         ensures count { result.2.count ≡ self.now.count }
     {
         let joined = owner.join(rt);
-        let (list, parts) = gather_parts(self.alloc, &self.mark, passes);
-        let begun = self.mark.begin(parts, ending);
-        self.sleepers.wake_all();
-        (list, begun, joined)
+        let (list, parts) = gather_parts(self.alloc, self.mark.mark(), passes);
+        let begun = self.mark.begin(&joined, parts, ending);
+        (list, self.sleepers.wake_all(begun), joined)
     }
 
     /// Waits until each keep-alive of the pool is released, and begins to join it: its workers end once each queue is found

@@ -76,7 +76,7 @@ impl<J: Headed> Pool<J> {
         let mut records = LinkedList::new(alloc);
         put_workers(
             &queues,
-            &mark,
+            mark.mark(),
             whole,
             &mut gathered,
             &mut begun,
@@ -85,7 +85,7 @@ impl<J: Headed> Pool<J> {
         );
         put_helpers(
             &queues,
-            &mark,
+            mark.mark(),
             whole,
             &mut gathered,
             &mut begun,
@@ -147,7 +147,7 @@ impl<J: Headed> Pool<J> {
             joined: _,
             pool: _,
         } = joining;
-        let (accepted, mut records, mut returned) = self.finish(rt, passes, begun, ends, helped);
+        let (accepted, mut records, mut returned) = self.finish(rt, passes, begun.watch(), ends, helped);
         let more = drain(rt, alloc, &mut returned, world);
         append(&mut records, more);
         PoolEnd {
@@ -181,7 +181,7 @@ impl<J: Headed> Pool<J> {
             joined: _,
             pool: _,
         } = stopping;
-        let (accepted, records, returned) = self.finish(rt, passes, begun, ends, helped);
+        let (accepted, records, returned) = self.finish(rt, passes, begun.watch(), ends, helped);
         PoolEnd {
             accepted,
             ran: Runs::new(records, true),

@@ -26,7 +26,7 @@ pub fn no_adder_is_left<J: Headed>(pool: &Pool<J>, end: WorkerEnd<J>, pass: Pool
         passes: _,
     } = takers;
     let PoolPass { adders: _, seat } = pass;
-    pool.mark.no_part_is_left(watch, seat);
+    pool.mark.mark().no_part_is_left(watch, seat);
 }
 
 /// The passes of a new pool are of this pool, and those of its adders have added nothing and are numbered 0, 1, 2, and so on.

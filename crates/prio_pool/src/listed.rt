@@ -3,13 +3,14 @@ ghost use Rattle.std.specs.Prelude.{◌≡◌, ◌+◌, ◌-◌, ◌<◌, ◌≤
 ghost use Rattle.pool_model.specs.Seen.{PassSeen};
 ghost use Rattle.prio_pool.specs.Made.{counted, makers_of, id_over, with_takers, new_passes, new_takers_from, in_places, IsPlace, worker_seen, helper_seen};
 ghost use Rattle.prio_pool.specs.Passes.{TookNothing};
+ghost use Rattle.prio_pool.specs.Sleeping.{parkers_of, numbers_of};
 
 use crate::adders::Adders;
 use crate::made::{new_place, new_takers};
 use crate::make::{Counts, Makers, Queues};
 use crate::passes::{HelperPass, PoolPass, WorkerPass};
+use crate::sleepers::OwnParker;
 use crate::takers::Takers;
-use crossbeam_utils::sync::Parker;
 use fan_base::Memory;
 use job_trait::Headed;
 use std::alloc::{AllocError, Global};
@@ -96,20 +97,19 @@ pub fn adder_passes<J>(
     list
 }
 
-/// The passes of the workers, each with its parker.
+/// The passes of the workers, each with its own parker.
 pub fn worker_passes<J>(
     mut takers: LinkedList<Takers<J>>,
-    mut parkers: Vec<Parker>,
+    mut parkers: LinkedList<OwnParker>,
     mut list: Vec<WorkerPass<J>>,
 ) -> Vec<WorkerPass<J>>
     requires list { (list.items ≡ []) × (length takers ≤ vec_capacity list) }
-    requires parkers { length takers ≤ length parkers.items }
+    requires parkers { parkers_of parkers ≡ numbers_of takers }
     requires each { All TookNothing takers }
     ensures { result.items ≡ map worker_seen takers }
 {
-    parkers.reverse();
     while let Some(takers) = takers.pop_front() {
-        let Some(parker) = parkers.pop() else {
+        let Some(parker) = parkers.pop_front() else {
             unreachable!()
         };
         list.push_reserved(WorkerPass { takers, parker });

@@ -1,19 +1,20 @@
 // How a pool is made.
 ghost use Rattle.std.specs.Prelude.{◌≡◌, ◌+◌, ◌<◌, ◌≤◌, [], length, vec_capacity, vec_len, IfOk};
+ghost use Rattle.std.specs.List.{range_with_len};
 ghost use Rattle.prio_pool.specs.Made.{HasAll, IsNewPool, IsSize};
+ghost use Rattle.prio_pool.specs.Sleeping.{parkers_of, wakers_of};
 
 use crate::adders::Adders;
 use crate::listed::{adder_passes, helper_passes, more_takers, new_places, worker_passes};
 use crate::make::{Counts, Queues, open_queues};
 use crate::passes::{HelperPass, PoolPass, WorkerPass};
 use crate::pool::Pool;
-use crate::sleepers::Sleepers;
+use crate::sleepers::{OwnParker, OwnWaker, Sleepers, parkers};
 use crate::takers::Takers;
-use crossbeam_utils::sync::{Parker, Unparker};
 use fan_base::{ExecId, Memory};
 use job_trait::Headed;
 use keep_alive::{KeepAlive, KeepOwner};
-use std::alloc::{AllocError, Global};
+use std::alloc::Global;
 use std::collections::LinkedList;
 use std::snapshot::Snapshot;
 use task_queue::{EndMark, OpenSeat};
@@ -81,21 +82,6 @@ impl<J> Rooms<J> {
     }
 }
 
-// The parkers of so many workers.
-fn parkers(alloc: Global, count: u32) -> Result<(Vec<Parker>, Vec<Unparker>), Memory>
-    ensures { IfOk result (λ p. vec_len p.0 ≡ count) }
-{
-    let mut parkers = Vec::new(alloc);
-    let mut wakers = Vec::new(alloc);
-    for _ in 0..count {
-        let parker = Parker::new(alloc)?;
-        let waker = parker.unparker().clone()?;
-        parkers.push(parker).map_err(AllocError::from)?;
-        wakers.push(waker).map_err(AllocError::from)?;
-    }
-    Ok((parkers, wakers))
-}
-
 // All of a pool that may be dropped: its queues, its mark with all parts, and the passes over these.
 #[derive(Drop)]
 struct Inner<J: Headed> {
@@ -160,14 +146,15 @@ fn assemble<J: Headed>(
     size: Size,
     inner: Inner<J>,
     keeping: (KeepOwner, KeepAlive),
-    parking: (Vec<Parker>, Vec<Unparker>),
+    parking: (LinkedList<OwnParker>, Vec<OwnWaker>),
     rooms: Rooms<J>,
 ) -> PoolParts<J>
     requires size { IsSize size }
     requires queues { length inner.queues.items ≡ size.priorities }
     requires all { HasAll size.adders size.workers size.helpers inner.queues.items inner.mark inner.seat inner.places inner.works inner.helps }
     requires keeping { (keeping.0.count ≡ keeping.1.count) × (keeping.1.first_room ≡ keeping.1.room) }
-    requires parking { vec_len parking.0 ≡ size.workers }
+    requires parkers { parkers_of parking.0 ≡ range_with_len 0 size.workers }
+    requires wakers { wakers_of parking.1.items ≡ range_with_len 0 size.workers }
     requires empty { (rooms.adders.items ≡ []) × (rooms.workers.items ≡ []) × (rooms.helpers.items ≡ []) }
     requires room { (vec_capacity rooms.adders ≡ size.adders) × (vec_capacity rooms.workers ≡ size.workers) × (vec_capacity rooms.helpers ≡ size.helpers) }
     ensures { IsNewPool size.exec size.priorities size.adders size.workers size.helpers keeping.1.room result.pool result.owner result.keep result.adders.items result.workers.items result.helpers.items }
@@ -192,7 +179,7 @@ fn assemble<J: Headed>(
     let helpers = helper_passes(alloc, helps, helpers);
     let pool = Pool {
         queues,
-        mark,
+        mark: mark.kept_by(&keep),
         alloc,
         exec: size.exec,
         adders: size.adders,

@@ -7,8 +7,8 @@ ghost use Rattle.prio_pool.specs.Adders.{add_on, and_pushed, entry_of};
 use crate::adders::Adders;
 use crate::placed::Placed;
 use crate::record::RunRecord;
+use crate::sleepers::{Call, OwnParker};
 use crate::takers::Takers;
-use crossbeam_utils::sync::Parker;
 use fan_base::Refused;
 use job_trait::Headed;
 use pool_model::Ticket;
@@ -39,10 +39,11 @@ impl<J> Model for PoolPass<J> {
 /// The right to be a worker. Contracts see its pool and its number. It is spent by [`crate::Pool::work`].
 pub struct WorkerPass<J> {
     pub(crate) takers: Takers<J>,
-    pub(crate) parker: Parker,
+    pub(crate) parker: OwnParker,
 }
 
 impl<J> Model for WorkerPass<J> {
+    ghost use Rattle.std.specs.Prelude.{◌≡◌};
     ghost use Rattle.pool_model.specs.Seen.{WorkerSeen};
     ghost use Rattle.prio_pool.specs.Passes.{TookNothing};
 
@@ -50,7 +51,7 @@ impl<J> Model for WorkerPass<J> {
 
     ghost view = { λ p. record { pool = p.takers.pool; number = p.takers.number } };
 
-    ghost invariant = { λ p. TookNothing p.takers };
+    ghost invariant = { λ p. TookNothing p.takers × (p.parker.number ≡ p.takers.number) };
 }
 
 /// The right to help: to run one task at a time. Contracts see its pool, the list of its records, what it popped from each
@@ -136,14 +137,14 @@ impl<J> PoolPass<J> {
 }
 
 impl<J: Headed> PoolPass<J> {
-    // Pushes a task under the next ticket on this queue, which is the one with this number.
+    // Pushes a task under the next ticket on this queue, which is the one with this number. A worker is to be woken for it.
     pub(crate) fn add_task<R: Wait>(
         &mut self,
         rt: &R,
         queue: &TaskQueue<Placed<J>>,
         number: usize,
         task: Queued<Placed<J>>,
-    ) -> Result<(), Refused<Queued<Placed<J>>>>
+    ) -> Result<Call, Refused<Queued<Placed<J>>>>
         requires within { number < length self.old.pool.queues }
         requires queue { slice_index_or self.old.pool.queues number queue.now ≡ queue.now }
         requires ticket { task.ticket ≡ record { adder = self.old.number; index = length (adds_of self.old) } }

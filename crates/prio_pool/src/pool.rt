@@ -27,13 +27,13 @@ use std::collections::LinkedList;
 use std::marker::Model;
 use std::snapshot::Snapshot;
 use std::sync::Wait;
-use task_queue::{EndMark, Queued, TaskQueue};
+use task_queue::{KeptMark, Queued, TaskQueue};
 
 /// A pool of workers over queues of different priorities. Contracts see which pool it is, the count of its keep-alives, its
 /// executor, and how many passes of each kind it has. It is spent by [`Pool::join`] or [`Pool::stop`].
 pub struct Pool<J: Headed> {
     pub(crate) queues: Vec<TaskQueue<Placed<J>>>,
-    pub(crate) mark: EndMark,
+    pub(crate) mark: KeptMark,
     pub(crate) alloc: Global,
     pub(crate) exec: ExecId,
     pub(crate) adders: u32,
@@ -45,13 +45,15 @@ pub struct Pool<J: Headed> {
 
 impl<J: Headed> Model for Pool<J> {
     ghost use Rattle.std.specs.Prelude.{◌≡◌, ◌+◌, ◌<◌, ◌≤◌, length};
+    ghost use Rattle.std.specs.List.{range_with_len};
     ghost use Rattle.pool_model.specs.Seen.{PoolSeen};
+    ghost use Rattle.prio_pool.specs.Sleeping.{wakers_of};
 
     ghost Value = { PoolSeen };
 
     ghost view = { λ p. record { id = record { queues = p.queues.items; passes = p.adders + p.workers + p.helpers; mark = p.mark.mark }; count = p.keep.value.count; exec = p.exec; adders = p.adders; workers = p.workers; helpers = p.helpers } };
 
-    ghost invariant = { λ p. (0 < length p.queues.items) × (length p.queues.items ≤ 256) × (p.mark.adders ≡ p.adders) × (0 < p.adders) × (p.adders ≤ 64) × (p.workers ≤ 64) × (p.helpers ≤ 64) };
+    ghost invariant = { λ p. (0 < length p.queues.items) × (length p.queues.items ≤ 256) × (p.mark.adders ≡ p.adders) × (0 < p.adders) × (p.adders ≤ 64) × (p.workers ≤ 64) × (p.helpers ≤ 64) × (p.mark.count ≡ p.keep.value.count) × (wakers_of p.sleepers.wakers.items ≡ range_with_len 0 p.workers) };
 }
 
 /// What a help did.
@@ -96,8 +98,8 @@ impl<J: Headed> Pool<J> {
         };
         let number = queue as usize;
         match pass.add_task(rt, &self.queues[number], number, task) {
-            Ok(()) => {
-                self.sleepers.wake_one();
+            Ok(call) => {
+                self.sleepers.wake_one(call);
                 Ok(ticket)
             }
             Err(refused) => Err(refused_job(refused)),
@@ -129,7 +131,7 @@ impl<J: Headed> Pool<J> {
         for _ in rt.forever() {
             match turn(
                 rt,
-                (&self.queues, &self.mark, &self.sleepers),
+                (&self.queues, self.mark.mark(), &self.sleepers),
                 &mut takers,
                 &mut records,
                 true,
@@ -166,7 +168,7 @@ impl<J: Headed> Pool<J> {
     {
         match turn(
             rt,
-            (&self.queues, &self.mark, &self.sleepers),
+            (&self.queues, self.mark.mark(), &self.sleepers),
             &mut pass.takers,
             &mut pass.records,
             false,

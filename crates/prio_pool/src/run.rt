@@ -3,6 +3,7 @@ ghost use Rattle.prio_pool.specs.Running.{RanOnce, task_in};
 
 use crate::placed::Placed;
 use crate::record::RunRecord;
+use crate::sleepers::Awake;
 use fan_base::Gate;
 use job_trait::Job;
 use std::collections::LinkedList;
@@ -29,16 +30,18 @@ pub fn run_task<J: Job<W>, W, R: Wait>(
     place.fill(RunRecord::new(ticket, queue, exec, id, mark))
 }
 
-/// The same between the two calls of a gate.
+/// The same between the two calls of a gate, by a worker or helper that is awake.
 pub fn run_at_gate<J: Job<W>, W, G: Gate, R: Wait>(
     rt: &R,
     queue: u32,
     task: Queued<Placed<J>>,
     world: &mut W,
     gate: &G,
+    awake: Awake,
 ) -> LinkedList<RunRecord>
     ensures { RanOnce J.runs (task_in J.head queue task) world.old world.new result }
 {
+    let _ = awake;
     let id = task.job.job.id();
     gate.before(id);
     let made = run_task(rt, queue, task, world);

@@ -1,49 +1,139 @@
-// Who sleeps, and how one is woken for one task. Nothing that is proved rests on it.
+// Who sleeps, and how one is woken for one task. That a worker wakes is not proved: contracts say which worker each waker is for,
+// and types that who added a task or began an end calls the wakers.
+ghost use Rattle.std.specs.Prelude.{◌≡◌, ◌<◌, IfOk};
+ghost use Rattle.std.specs.List.{range_with_len};
+ghost use Rattle.prio_pool.specs.Sleeping.{parkers_of, wakers_of};
+
 use crossbeam_utils::sync::{Parker, Unparker};
+use fan_base::Memory;
+use std::alloc::{AllocError, Global};
+use std::collections::LinkedList;
+use std::marker::Model;
 use std::sync::Wait;
 use std::sync::atomic::{AtomicU64, Ordering};
 use std::thread;
+use task_queue::Watch;
 
 /// How often a worker that finds no task looks again before it sleeps.
 const LOOKS: u32 = 6;
+
+/// What the worker with this number sleeps on.
+#[derive(Drop)]
+pub struct OwnParker {
+    pub number: u32,
+    parker: Parker,
+}
+
+/// What wakes the worker with this number.
+#[derive(Drop)]
+pub struct OwnWaker {
+    pub number: u32,
+    waker: Unparker,
+}
+
+// The parker of a worker, and what wakes it.
+fn parker(alloc: Global, number: u32) -> Result<(OwnParker, OwnWaker), Memory>
+    ensures { IfOk result (λ p. (p.0.number ≡ number) × (p.1.number ≡ number)) }
+{
+    let parker = Parker::new(alloc)?;
+    let waker = parker.unparker().clone()?;
+    Ok((OwnParker { number, parker }, OwnWaker { number, waker }))
+}
+
+/// The parkers of so many workers, and what wakes each, both in order.
+pub fn parkers(alloc: Global, count: u32) -> Result<(LinkedList<OwnParker>, Vec<OwnWaker>), Memory>
+    ensures parkers { IfOk result (λ p. parkers_of p.0 ≡ range_with_len 0 count) }
+    ensures wakers { IfOk result (λ p. wakers_of p.1.items ≡ range_with_len 0 count) }
+{
+    let mut parkers = LinkedList::new(alloc);
+    let mut wakers = Vec::new(alloc);
+    for number in 0..count {
+        let (parker, waker) = parker(alloc, number)?;
+        parkers.push_back(parker).map_err(AllocError::from)?;
+        wakers.push(waker).map_err(AllocError::from)?;
+    }
+    Ok((parkers, wakers))
+}
+
+/// That a task was added, for which a worker is to be woken. It can't be let go: only [`Sleepers::wake_one`] takes it.
+pub struct Call {
+    _added: (),
+}
+
+impl Call {
+    /// For one task.
+    pub fn new() -> Call {
+        Call { _added: () }
+    }
+}
+
+/// The seat that set the mark of the end, of which all workers were told. Only [`Sleepers::wake_all`] makes one.
+#[derive(Drop)]
+pub struct Told {
+    watch: Watch,
+}
+
+impl Model for Told {
+    ghost use Rattle.task_queue.specs.Marks.{WatchSeen};
+
+    ghost Value = { WatchSeen };
+
+    ghost view = { λ t. t.watch };
+}
+
+impl Told {
+    /// The seat.
+    pub fn watch(self) -> Watch
+        ensures { result ≡ self }
+    {
+        let Told { watch } = self;
+        watch
+    }
+}
 
 /// A bit for each worker that sleeps or is about to, and what wakes each. A worker sets its bit, looks once more, and sleeps
 /// only where it again finds nothing. So either whoever added a task sees the bit, or that look sees the task.
 #[derive(Drop)]
 pub struct Sleepers {
     asleep: AtomicU64,
-    wakers: Vec<Unparker>,
+    pub wakers: Vec<OwnWaker>,
 }
 
 impl Sleepers {
     /// Nobody sleeps.
-    pub fn new(wakers: Vec<Unparker>) -> Sleepers {
+    pub fn new(wakers: Vec<OwnWaker>) -> Sleepers
+        ensures { result.wakers ≡ wakers }
+    {
         Sleepers {
             asleep: AtomicU64::new(0),
             wakers,
         }
     }
 
-    /// Wakes one worker that sleeps, where there is one.
-    pub fn wake_one(&self) {
+    /// Wakes one worker that sleeps, where there is one, for a task.
+    pub fn wake_one(&self, call: Call) {
+        let Call { _added: () } = call;
         let asleep = self.asleep.load(Ordering::SeqCst);
         if asleep == 0 {
             return;
         }
-        for (number, waker) in self.wakers.iter().enumerate() {
-            let bit = bit_of(number);
+        for waker in &self.wakers {
+            let bit = bit_of(waker.number);
             if asleep & bit != 0 && self.take(bit) {
-                waker.unpark();
+                waker.waker.unpark();
                 return;
             }
         }
     }
 
-    /// Wakes all workers.
-    pub fn wake_all(&self) {
+    /// Wakes all workers, since an end has begun.
+    pub fn wake_all(&self, begun: Watch) -> Told
+        ensures { result ≡ begun }
+    {
         for waker in &self.wakers {
-            waker.unpark();
+            waker.waker.unpark();
         }
+        Told { watch: begun }
     }
 
     // Clears a bit, and says whether it was set.
@@ -58,8 +148,8 @@ impl Sleepers {
 }
 
 // The bit of a worker.
-fn bit_of(number: usize) -> u64 {
-    1u64.wrapping_shl((number % 64) as u32)
+fn bit_of(number: u32) -> u64 {
+    1u64.wrapping_shl(number % 64)
 }
 
 /// How far a worker is on its way to sleep.
@@ -70,31 +160,39 @@ pub struct Rest {
     is_noted: bool,
 }
 
+/// That a worker which found a task is awake, and has woken another where it was called for another task. Only [`Rest::end`]
+/// makes one.
+#[derive(Drop)]
+pub struct Awake {
+    _woken: (),
+}
+
 impl Rest {
     /// A worker that is awake.
     pub fn new(number: u32) -> Rest {
         Rest {
-            bit: bit_of(number as usize),
+            bit: bit_of(number),
             looks: 0,
             is_noted: false,
         }
     }
 
     /// It found a task. Where it was woken for another meanwhile, it wakes the next for that one.
-    pub fn end(&mut self, sleepers: &Sleepers) {
+    pub fn end(&mut self, sleepers: &Sleepers) -> Awake {
         self.looks = 0;
         if self.is_noted {
             self.is_noted = false;
             if !sleepers.take(self.bit) {
-                sleepers.wake_one();
+                sleepers.wake_one(Call::new());
             }
         }
+        Awake { _woken: () }
     }
 
     /// It found none: it looks again a few times, then notes that it is about to sleep and looks once more, then sleeps.
-    pub fn go_on<R: Wait>(&mut self, rt: &R, sleepers: &Sleepers, parker: &Parker) {
+    pub fn go_on<R: Wait>(&mut self, rt: &R, sleepers: &Sleepers, parker: &OwnParker) {
         if self.is_noted {
-            parker.park(rt);
+            parker.parker.park(rt);
             self.is_noted = false;
             self.looks = 0;
             let _ = sleepers.take(self.bit);

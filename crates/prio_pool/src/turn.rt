@@ -56,8 +56,8 @@ pub fn turn<J: Job<W>, W, G: Gate, R: Wait>(
     takers.told();
     match next {
         Some((queue, task)) => {
-            rest.end(sleepers);
-            let made = run_at_gate(rt, queue, task, world, gate);
+            let awake = rest.end(sleepers);
+            let made = run_at_gate(rt, queue, task, world, gate, awake);
             append(records, made);
             Turned::Ran
         }

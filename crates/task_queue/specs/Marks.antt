@@ -61,6 +61,12 @@ pub record MarkSeen : Type 0 where
   pub mark : TableId
   pub adders : ℕ
 
+-- the same, and the count of the keep-alives that are joined before it is set
+pub record KeptSeen : Type 0 where
+  pub mark : TableId
+  pub adders : ℕ
+  pub count : TableId
+
 -- so many of the adders' parts of a mark
 pub record OpenSeen : Type 0 where
   pub mark : TableId

@@ -17,7 +17,8 @@
 //! - Each look, at a queue or at the mark, is noted in order (`Looks`), with what it found, and nothing else makes that list
 //!   longer. So contracts above can say that a queue was found empty within a call, or behind another look.
 //! - While no end has begun the adders have all parts of the mark. `begin` needs them all and spends them, so whoever found an
-//!   end meets no adder any more (`no_part_is_left`).
+//!   end meets no adder any more (`no_part_is_left`). It needs the receipt of the keep-alives' join as well, so no end begins
+//!   while one of these is held.
 #![tactic(auto)]
 
 mod looks;
@@ -32,7 +33,7 @@ mod trail;
 mod view;
 
 pub use looks::Looks;
-pub use mark::{EndMark, OpenSeat, Watch};
+pub use mark::{EndMark, KeptMark, OpenSeat, Watch};
 pub use passes::{Adder, Gathered, Maker, Taker};
 pub use queue::TaskQueue;
 pub use rule::Queued;

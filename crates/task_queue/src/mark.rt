@@ -6,6 +6,7 @@ ghost use Rattle.task_queue.specs.Marks.{ending_of};
 use crate::looks::{Looks, Noted};
 use atomic_table::{Join, Play, Seat, Split, Table, TableRule};
 use fan_base::Memory;
+use keep_alive::{Joined, KeepAlive};
 use pool_model::Ending;
 use std::alloc::{AllocError, Global};
 use std::marker::Model;
@@ -95,7 +96,8 @@ impl Play<u32, MarkView> for Sets {
     ghost then = { sets };
 }
 
-/// The end mark of a pool. Contracts see which mark it is, and how many adders the pool has.
+/// The end mark of a pool, as all may look at it. It is set by [`KeptMark::begin`] alone. Contracts see which mark it is, and how
+/// many adders the pool has.
 #[derive(Drop)]
 pub struct EndMark {
     table: Table<u32, MarkView, u32, MarkRule, Global>,
@@ -231,8 +233,8 @@ impl EndMark {
         ending(self.table.shared.load::<LooksAt>(&mut watch.seat, 0))
     }
 
-    /// Begins an end. It needs the parts of all adders, and spends them.
-    pub fn begin(&self, adders: OpenSeat, ending: Ending) -> Watch
+    // Sets the mark. It needs the parts of all adders, and spends them.
+    fn set(&self, adders: OpenSeat, ending: Ending) -> Watch
         requires mark { adders.mark ≡ self.now.mark }
         requires all { adders.parts ≡ self.now.adders }
         requires some { 0 < adders.parts }
@@ -241,6 +243,16 @@ impl EndMark {
         let OpenSeat { mut seat } = adders;
         self.table.shared.store::<Sets>(&mut seat, 0, word(ending));
         Watch { seat }
+    }
+
+    /// The same mark, which can be set once these keep-alives are joined.
+    pub fn kept_by(self, keep: &KeepAlive) -> KeptMark
+        ensures { result ≡ record { mark = self.mark; adders = self.adders; count = keep.now.count } }
+    {
+        KeptMark {
+            mark: self,
+            keep: Snapshot::of(keep),
+        }
     }
 
     /// Two that found an end found the same. It spends the second.
@@ -266,5 +278,43 @@ impl EndMark {
         let OpenSeat { seat: other } = adders;
         self.table.shared.join_seat::<Meet>(&mut seat, other);
         self.table.shared.load::<Agrees>(&mut seat, 0);
+    }
+}
+
+/// The end mark of a pool with the count of its keep-alives. Contracts see which mark it is, how many adders the pool has, and
+/// which count it is.
+#[derive(Drop)]
+pub struct KeptMark {
+    mark: EndMark,
+    keep: Snapshot<KeepAlive>,
+}
+
+impl Model for KeptMark {
+    ghost use Rattle.task_queue.specs.Marks.{KeptSeen};
+
+    ghost Value = { KeptSeen };
+
+    ghost view = { λ k. record { mark = k.mark.mark; adders = k.mark.adders; count = k.keep.value.count } };
+}
+
+impl KeptMark {
+    /// The mark, to look at.
+    pub fn mark(&self) -> &EndMark
+        ensures { result.now ≡ record { mark = self.now.mark; adders = self.now.adders } }
+    {
+        &self.mark
+    }
+
+    /// Begins an end. It needs the parts of all adders, and spends them, and it needs to see that the owner of the keep-alives
+    /// was joined. So no end begins while one of these is held.
+    pub fn begin(&self, joined: &Joined, adders: OpenSeat, ending: Ending) -> Watch
+        requires joined { joined.now.count ≡ self.now.count }
+        requires mark { adders.mark ≡ self.now.mark }
+        requires all { adders.parts ≡ self.now.adders }
+        requires some { 0 < adders.parts }
+        ensures { result ≡ record { mark = self.now.mark; looks = 0; found = Some ending } }
+    {
+        let _ = joined;
+        self.mark.set(adders, ending)
     }
 }

@@ -4,6 +4,7 @@ ghost use Rattle.std.specs.Prelude.{◌≡◌};
 use super::*;
 use fan_base::{ExecId, JobId, Parcels};
 use job_trait::{Head, Headed};
+use keep_alive::KeepOwner;
 use pool_model::{Ending, Ticket};
 use std::sync::Wait;
 use std::test::Fail;
@@ -73,13 +74,18 @@ fn tasks_leave_in_order_and_the_rest_is_handed_out(rt: HostRuntime) -> Result<()
 
 #[test]
 fn a_mark_is_found_once_it_is_set(rt: HostRuntime) -> Result<(), Fail> {
-    let (mark, mut all) = EndMark::new(rt.alloc(), 2)?;
+    let (open, mut all) = EndMark::new(rt.alloc(), 2)?;
+    let (owner, keep) = KeepOwner::new(rt.alloc(), 0)?;
+    let kept = open.kept_by(&keep);
+    let mark = kept.mark();
     let mut worker = mark.watch(&mut all);
     let mut looks: Looks<Note> = Looks::new();
     let other = mark.one_part(&mut all);
     assert_eq!(rt; mark.look(&mut worker, &mut looks), None);
     mark.put_parts(&mut all, other);
-    let mut begun = mark.begin(all, Ending::Stops);
+    let _ = keep.release();
+    let joined = owner.join(&rt);
+    let mut begun = kept.begin(&joined, all, Ending::Stops);
     assert_eq!(rt; mark.look(&mut worker, &mut looks), Some(Ending::Stops));
     mark.agree(&mut begun, worker);
     assert_eq!(rt; mark.look(&mut begun, &mut looks), Some(Ending::Stops));

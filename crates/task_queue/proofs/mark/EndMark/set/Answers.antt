@@ -3,7 +3,7 @@ use Rattle.atomic_table.specs.Table.{Me}
 use Rattle.task_queue.specs.declared.mark.MarkView.{MarkView}
 use Rattle.task_queue.specs.Marks.{OpenSeen, MarkSeen}
 use Rattle.task_queue.proofs.Marking.{set_allowed}
-use Rattle.task_queue.proofs.mark.EndMark.begin.Goals as goal
+use Rattle.task_queue.proofs.mark.EndMark.set.Goals as goal
 
 pub store-requires : goal.store-requires
 store-requires c = (
