@@ -1,5 +1,5 @@
 -- Which worker each parker and each waker is for.
-use Rattle.std.proofs.Common.{◌≡◌, ℕ, zero, suc, ◌+◌, List, [], ◌∷◌, ◌++◌, map, refl, sym, ap, ◌∙◌, arith}
+use Rattle.std.proofs.Common.{◌≡◌, ℕ, zero, suc, ◌+◌, List, [], ◌∷◌, ◌++◌, refl, sym, ap, ◌∙◌, arith}
 use Rattle.std.specs.List.{range_with_len}
 use Rattle.std.proofs.lemmas.List.{map-append}
 use Rattle.pool_model.specs.Seen.{PoolId}
@@ -26,11 +26,9 @@ pub are_numbered : (pool : PoolId) (first n : ℕ) → numbers_of (new_takers_fr
 are_numbered pool first zero = refl
 are_numbered pool first (suc n) = ap (λ (l : List ℕ). first ∷ l) (are_numbered pool (first + 1) n)
 
--- the first number of a list, and the others
-pub first_or : ℕ → List ℕ → ℕ
-first_or d [] = d
-first_or d (x ∷ xs) = x
-
-pub others : List ℕ → List ℕ
+abbrev others : List ℕ → List ℕ
 others [] = []
 others (x ∷ xs) = xs
+
+pub same_others : (x y : ℕ) (xs ys : List ℕ) → x ∷ xs ≡ y ∷ ys → xs ≡ ys
+same_others x y xs ys is = ap others is

@@ -147,7 +147,13 @@ impl<J: Headed> Pool<J> {
             joined: _,
             pool: _,
         } = joining;
-        let (accepted, mut records, mut returned) = self.finish(rt, passes, begun.watch(), ends, helped);
+        let (accepted, mut records, mut returned) = self.finish(
+            rt,
+            passes,
+            begun.watch(),
+            ends,
+            helped,
+        );
         let more = drain(rt, alloc, &mut returned, world);
         append(&mut records, more);
         PoolEnd {

@@ -177,9 +177,10 @@ fn assemble<J: Headed>(
     let adders = adder_passes(places, &mark, seat, adders);
     let workers = worker_passes(works, parkers, workers);
     let helpers = helper_passes(alloc, helps, helpers);
+    let mark = mark.kept_by(&keep);
     let pool = Pool {
         queues,
-        mark: mark.kept_by(&keep),
+        mark,
         alloc,
         exec: size.exec,
         adders: size.adders,

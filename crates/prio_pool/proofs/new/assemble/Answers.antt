@@ -1,9 +1,9 @@
-use Rattle.std.proofs.Common.{◌≡◌, [], ◌∷◌, length, map, refl, ap, sym, subst, ◌∙◌, arith}
+use Rattle.std.proofs.Common.{◌≡◌, ◌+◌, [], ◌∷◌, length, map, refl, ap, sym, subst, ◌∙◌, arith}
 use Rattle.std.specs.List.{All}
 use Rattle.std.proofs.lemmas.List.{length-map}
 use Rattle.keep_alive.specs.Seen.{TokenSeen}
 use Rattle.pool_model.specs.Seen.{PoolId, PassSeen}
-use Rattle.prio_pool.specs.Made.{pool_of, new_passes, IsPlace, worker_seen, helper_seen}
+use Rattle.prio_pool.specs.Made.{pool_of, new_passes, new_workers, new_ends, IsPlace, worker_seen, helper_seen}
 use Rattle.prio_pool.specs.Passes.{TookNothing}
 use Rattle.prio_pool.proofs.Listing.{count_passes, count_takers, each_place, each_took_none, are_workers, are_helpers, same_places}
 use Rattle.prio_pool.specs.Sleeping.{numbers_of}
@@ -75,6 +75,8 @@ returns g c =
     let i = c.args.inner in
     let pool : PoolId = pool_of s.adders s.workers s.helpers i.queues.items i.mark in
     let keep : c.args.keeping.1 ≡ c.of.result.value = sym c.of.ensures in
+    let kept = c.kept_by-mark.ensures in
+    let id : pool ≡ record { queues = i.queues.items; passes = s.adders + s.workers + s.helpers; mark = c.kept_by-mark.result.mark } = λ k. record { queues = i.queues.items; passes = s.adders + s.workers + s.helpers; mark = (sym kept k).mark } in
     record {
       exec_is = refl;
       queues = c.requires.queues;
@@ -83,7 +85,7 @@ returns g c =
       helpers_are = refl;
       owner_is = c.requires.keeping.0 ∙ ap (λ (k : TokenSeen). k.count) keep;
       keep_is = (λ k. record { count = (keep k).count; room = c.args.keeping.1.room; first_room = c.requires.keeping.1 k });
-      passes_are = same_places c.adder_passes-adders.result.items (new_passes pool 0 s.adders) (c.adder_passes-adders.ensures ∙ c.requires.all.places_are);
-      works_are = c.worker_passes-workers.ensures ∙ (ap (map worker_seen) c.requires.all.works_are ∙ are_workers pool 0 s.workers);
-      helps_are = c.helper_passes-helpers.ensures ∙ (ap (map helper_seen) c.requires.all.helps_are ∙ are_helpers pool s.workers s.helpers);
+      passes_are = same_places c.adder_passes-adders.result.items (new_passes pool 0 s.adders) (c.adder_passes-adders.ensures ∙ c.requires.all.places_are) ∙ ap (λ (p : PoolId). new_passes p 0 s.adders) id;
+      works_are = c.worker_passes-workers.ensures ∙ (ap (map worker_seen) c.requires.all.works_are ∙ (are_workers pool 0 s.workers ∙ ap (λ (p : PoolId). new_workers p 0 s.workers) id));
+      helps_are = c.helper_passes-helpers.ensures ∙ (ap (map helper_seen) c.requires.all.helps_are ∙ (are_helpers pool s.workers s.helpers ∙ ap (λ (p : PoolId). new_ends p s.workers s.helpers) id));
     }
