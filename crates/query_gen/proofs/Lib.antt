@@ -1,3 +1,4 @@
 mod DrawnWords
+mod Expressions
 mod Limits
 mod SoFar

@@ -22,7 +22,7 @@ use Rattle.query_gen.proofs.DrawnWords.{drawn_is_word}
 below : (m state : ℕ) → 0 < m → (draw m state).0 < m
 below m state h = mod-lt (next_state state / 8589934592) h
 
-is_drawn_word : (state : ℕ) → is_word (draw_word state).0 ≡ true
+pub is_drawn_word : (state : ℕ) → is_word (draw_word state).0 ≡ true
 is_drawn_word state = drawn_is_word (draw 500 state).0 (below 500 state (omega arith))
 
 words_pass : (count state : ℕ) → AllPass is_word (draw_words count state).0
@@ -100,7 +100,7 @@ are_documents place (suc count) state h =
       ids = ids_differ place (drawn_doc place state) (docs_of rest) refl behind.ids_from behind.ids;
     }
 
-choose : {A : Type 0} (P : A → Type 0) (b : Bool) (x y : A) → P x → P y → P (if b then x else y)
+pub choose : {A : Type 0} (P : A → Type 0) (b : Bool) (x y : A) → P x → P y → P (if b then x else y)
 choose P true x y p q = p
 choose P false x y p q = q
 

@@ -1,12 +1,15 @@
 -- The canonical text of an input is read as that input.
-use Rattle.std.proofs.Common.{◌≡◌, ℕ, ◌+◌, ◌≤◌, List, [], ◌∷◌, ◌++◌, true, false, Option, Some, None, Ok, refl, sym, ap, ◌∙◌, inl, inr, subst, arith, append_assoc, append-nil}
-use Rattle.std.specs.Prelude.{map, codes}
-use Rattle.std.specs.List.{list_all, join_with_byte, flat_map, AllByRecursion}
+use Rattle.std.proofs.Common.{◌≡◌, ℕ, ◌+◌, ◌*◌, ◌<◌, ◌≤◌, List, [], ◌∷◌, ◌++◌, length, true, false, Option, Some, None, Ok, refl, sym, ap, ◌∙◌, inl, inr, subst, arith, eqb, append_assoc, append-nil, length-append}
+use Rattle.std.specs.Prelude.{map, codes, All, IfSome}
+use Rattle.std.specs.List.{list_all, list_any, count_by, sum_by, join_with_byte, flat_map, AllByRecursion}
 use Rattle.std.specs.Option.{option_to_list}
 use Rattle.std.specs.Char.{to_ascii_lowercase}
 use Rattle.std.specs.Fmt.{decimal}
 use Rattle.std.proofs.lemmas.Bool.{and_parts}
-use Rattle.std.proofs.lemmas.List.Sums.{list_all-from_AllPass}
+use Rattle.std.proofs.lemmas.Nat.{mul-le}
+use Rattle.std.proofs.lemmas.List.Elements.{All-nil, All-push, filter_map-append, recursion_from_All}
+use Rattle.std.proofs.lemmas.List.Sums.{list_all-from_AllPass, sum_by-append, sum_by-cons}
+use Rattle.std.proofs.Math.Seq.{take-append_seam}
 use Rattle.fan_base.specs.Word.{is_word}
 use Rattle.fan_base.specs.declared.doc.Doc.{Doc}
 use Rattle.fan_base.specs.declared.word.Word.{Word}
@@ -21,18 +24,21 @@ use Rattle.query_model.specs.declared.line.Line.TheVariants as line
 use Rattle.query_model.specs.declared.line.Prio.{Prio}
 use Rattle.query_model.specs.declared.line.Prio.TheVariants as prio
 use Rattle.query_model.specs.declared.line.Query.{Query}
-use Rattle.query_model.specs.Limits.{most_id, most_ticks, most_queries, most_delay}
-use Rattle.query_model.specs.Lines.{LineBehind}
+use Rattle.query_model.specs.Limits.{most_id, most_ticks, most_queries, most_delay, most_documents, most_tasks}
+use Rattle.query_model.specs.Lines.{LineBehind, is_doc, is_query, ticks_of, has_id}
 use Rattle.query_model.specs.Reading.{Accepts, StandFor, kept}
-use Rattle.query_model.specs.Documents.{AreWords}
+use Rattle.query_model.specs.Documents.{AreWords, DifferentIds, IsAsk, IsDocument, IsLine, IsQuery, IsWithinLimits, doc_of_line, docs_of, queries_of, query_of_line}
 use Rattle.query_model.specs.ByFacts.{fields_of, IsRead, IsDelay, IsPrio, IsExpr, IsAskOf}
 use Rattle.query_grammar.specs.Canonical.{canonical_tokens, KeepsCanonical}
 use Rattle.query_model.specs.Canonical.{in_brackets, as_fact, as_both, expr_text, delay_fields, prio_fields, ask_fields, line_fields, line_text, canonical_text}
+use Rattle.query_model.specs.Written.{AsksExpression, CanBeRead, HasExpression, HasWords, IsExpression}
 use Rattle.query_model.proofs.Building.{Each, stands}
+use Rattle.query_model.proofs.ListFacts.{slice_get-append_seam}
+use Rattle.query_model.proofs.LimitLaws.{any-docs_of, is_within_limits, length-docs_of, length-queries_of}
 use Rattle.query_model.proofs.QueryFactLaws.{doc_by_facts, tick_by_facts, cancel_by_facts, query_by_facts}
 use Rattle.query_model.proofs.ReadingLaws.{Reads, reads_from_Accepts}
 use Rattle.query_model.proofs.TextFacts.{is_plain, is_field, is_text_byte, list_all-join, plain-printable, plain-lower, plain-strip, pieces-line, AllFields, fields-join_with, fields-join_all, field-plain, plain-join_with, field-word, is_written, written_number}
-use Rattle.query_model.proofs.CanonicalTokens.{HasWords, words_from_tokens, read_tokens, IsGood, text_is_read}
+use Rattle.query_model.proofs.CanonicalTokens.{words_from_tokens, read_tokens, IsGood, text_is_read}
 
 -- The text has these fields, and is a line of plain bytes that isn't skipped.
 record IsCanonical (text : Bytes) (fs : List Bytes) : Type 0 where
@@ -64,46 +70,42 @@ word_fields (w ∷ ws) h = let parts = and_parts (is_word w) (list_all is_word w
 fields_of_words : (words : List Word) → AreWords words → AllFields words
 fields_of_words words are = word_fields words (list_all-from_AllPass is_word words are.each)
 
-doc_again : (shards : ℕ) (before : List Line) (piece : Bytes) (doc : Doc) → LineBehind shards before piece (Ok (Some (line.Doc doc))) → LineBehind shards before (line_text (line.Doc doc)) (Ok (Some (line.Doc doc)))
-doc_again shards before piece doc h =
-    let is = (doc_by_facts shards before piece doc).0 h in
-    let written = is_written doc.id is.number.below in
-    let c = of_fields (line_fields (line.Doc doc)) (refl, (written.field, fields_of_words doc.words is.words)) refl in
+doc_written : (shards : ℕ) (before : List Line) (doc : Doc) → IsDocument doc → list_any (has_id doc.id) before ≡ false → count_by is_doc before < most_documents
+    → LineBehind shards before (line_text (line.Doc doc)) (Ok (Some (line.Doc doc)))
+doc_written shards before doc is own room =
+    let written = is_written doc.id is.id in
+    let c = of_fields (line_fields (line.Doc doc)) (refl, (written.field, fields_of_words doc.words is.are_words)) refl in
     (doc_by_facts shards before (line_text (line.Doc doc)) doc).1 (record {
       read = is_read (line_text (line.Doc doc)) (line_fields (line.Doc doc)) c;
       id = decimal doc.id;
       fields_are = has_fields (line_text (line.Doc doc)) (line_fields (line.Doc doc)) c;
-      number = written_number 0 most_id doc.id is.number.above is.number.below (omega arith);
-      words = is.words;
-      own = is.own;
-      room = is.room;
+      number = written_number 0 most_id doc.id (omega arith) is.id (omega arith);
+      words = is.are_words;
+      own = own;
+      room = room;
     })
 
-tick_again : (shards : ℕ) (before : List Line) (piece : Bytes) (n : ℕ) → LineBehind shards before piece (Ok (Some (line.Tick n))) → LineBehind shards before (line_text (line.Tick n)) (Ok (Some (line.Tick n)))
-tick_again shards before piece n h =
-    let is = (tick_by_facts shards before piece n).0 h in
-    let below : n ≤ 10000000 = is.number.below in
-    let written = is_written n (omega arith) in
+tick_written : (shards : ℕ) (before : List Line) (n : ℕ) → 1 ≤ n → n ≤ most_ticks → sum_by ticks_of before + n ≤ most_ticks → LineBehind shards before (line_text (line.Tick n)) (Ok (Some (line.Tick n)))
+tick_written shards before n above below room =
+    let written = is_written n (omega (arith, below)) in
     let c = of_fields (line_fields (line.Tick n)) (refl, (written.field, tt)) refl in
     (tick_by_facts shards before (line_text (line.Tick n)) n).1 (record {
       read = is_read (line_text (line.Tick n)) (line_fields (line.Tick n)) c;
       field = decimal n;
       fields_are = has_fields (line_text (line.Tick n)) (line_fields (line.Tick n)) c;
-      number = written_number 1 most_ticks n is.number.above is.number.below (omega arith);
-      room = is.room;
+      number = written_number 1 most_ticks n above below (omega arith);
+      room = room;
     })
 
-cancel_again : (shards : ℕ) (before : List Line) (piece : Bytes) (n : ℕ) → LineBehind shards before piece (Ok (Some (line.Cancel n))) → LineBehind shards before (line_text (line.Cancel n)) (Ok (Some (line.Cancel n)))
-cancel_again shards before piece n h =
-    let is = (cancel_by_facts shards before piece n).0 h in
-    let below : n ≤ 50000 = is.number.below in
-    let written = is_written n (omega arith) in
+cancel_written : (shards : ℕ) (before : List Line) (n : ℕ) → 1 ≤ n → n ≤ most_queries → LineBehind shards before (line_text (line.Cancel n)) (Ok (Some (line.Cancel n)))
+cancel_written shards before n above below =
+    let written = is_written n (omega (arith, below)) in
     let c = of_fields (line_fields (line.Cancel n)) (refl, (written.field, tt)) refl in
     (cancel_by_facts shards before (line_text (line.Cancel n)) n).1 (record {
       read = is_read (line_text (line.Cancel n)) (line_fields (line.Cancel n)) c;
       field = decimal n;
       fields_are = has_fields (line_text (line.Cancel n)) (line_fields (line.Cancel n)) c;
-      number = written_number 1 most_queries n is.number.above is.number.below (omega arith);
+      number = written_number 1 most_queries n above below (omega arith);
     })
 
 -- the text of an expression is plain
@@ -132,6 +134,10 @@ expr_plain (Tree.either a b) h =
     list_all-join is_text_byte (expr_text a) (codes " | " ++ as_both b (expr_text b)) (expr_plain a h.0)
     (list_all-join is_text_byte (codes " | ") (as_both b (expr_text b)) refl (both_plain b (expr_text b) (expr_plain b h.1)))
 
+-- a delay is in its range
+abbrev IsDelayed : Option ℕ → Type 0
+IsDelayed delay = IfSome delay (λ d. (1 ≤ d) × (d ≤ most_delay))
+
 -- a query, by its parts
 abbrev query_fields : Option ℕ → Prio → List Bytes → List Bytes
 query_fields delay p asks = delay_fields delay ++ (prio_fields p ++ asks)
@@ -152,13 +158,13 @@ plain_append : (xs ys : List Bytes) → AllByRecursion (λ f. is_plain f ≡ tru
 plain_append [] ys h g = g
 plain_append (x ∷ xs) ys h g = (h.0, plain_append xs ys h.1 g)
 
-delay_all : (fs : List Bytes) (delay : Option ℕ) → IsDelay fs delay → AllFields (delay_fields delay)
-delay_all fs None h = tt
-delay_all fs (Some d) h = (refl, ((is_written d h.2.below).field, tt))
+delay_all : (delay : Option ℕ) → IsDelayed delay → AllFields (delay_fields delay)
+delay_all None h = tt
+delay_all (Some d) h = (refl, ((is_written d h.1).field, tt))
 
-delay_is : (fs : List Bytes) (delay : Option ℕ) → IsDelay fs delay → IsDelay (delay_fields delay) delay
-delay_is fs None h = refl
-delay_is fs (Some d) h = (decimal d, refl, written_number 1 most_delay d h.2.above h.2.below (omega arith))
+delay_is : (delay : Option ℕ) → IsDelayed delay → IsDelay (delay_fields delay) delay
+delay_is None h = refl
+delay_is (Some d) h = (decimal d, refl, written_number 1 most_delay d h.0 h.1 (omega arith))
 
 prio_all : (p : Prio) → AllFields (prio_fields p)
 prio_all prio.Lo = (refl, tt)
@@ -176,133 +182,178 @@ record IsAskAgain (delay : Option ℕ) (p : Prio) (given : Ask) : Type 0 where
   canonical : IsCanonical (join_with_byte 32 (query_fields delay p (ask_fields given))) (query_fields delay p asks)
   ask_is : IsAskOf asks given
 
-tree_words : (name : Bytes) (asks : List Bytes) (tree : Tree) → IsExpr name asks tree → HasWords tree
-tree_words name asks tree is =
-    let good = read_tokens is.texts is.tokens is.tokens_are in
-    let p = is.expr.reads in
-    subst HasWords p.2 (words_from_tokens p.0 (subst (λ (ts : List Token). AllByRecursion IsGood ts) (sym p.1) good))
-
-expr_again : KeepsCanonical → (delay : Option ℕ) (p : Prio) (before : List Bytes) (name : Bytes) (asks : List Bytes) (tree : Tree) → IsDelay before delay → is_field name ≡ true
-    → is_skipped (join_with_byte 32 (name ∷ (expr_text tree ∷ []))) ≡ false → IsExpr name asks tree
+expr_again : (delay : Option ℕ) (p : Prio) (name : Bytes) (tree : Tree) → IsDelayed delay → is_field name ≡ true
+    → is_skipped (join_with_byte 32 (name ∷ (expr_text tree ∷ []))) ≡ false → IsExpression tree
     → IsCanonical (join_with_byte 32 (query_fields delay p (name ∷ (expr_text tree ∷ [])))) (query_fields delay p (name ∷ fields (expr_text tree))) × IsExpr name (name ∷ fields (expr_text tree)) tree
-expr_again keeps delay p before name asks tree d named told is =
-    let words = tree_words name asks tree is in
-    let front = delay_fields delay ++ (prio_fields p ++ (name ∷ [])) in
-    let all = all_append (delay_fields delay) (prio_fields p ++ (name ∷ [])) (delay_all before delay d) (all_append (prio_fields p) (name ∷ []) (prio_all p) (named, tt)) in
+expr_again delay p name tree d named told is =
+    let all = all_append (delay_fields delay) (prio_fields p ++ (name ∷ [])) (delay_all delay d) (all_append (prio_fields p) (name ∷ []) (prio_all p) (named, tt)) in
     let regroup : (last : List Bytes) → query_fields delay p (name ∷ last) ≡ (delay_fields delay ++ (prio_fields p ++ (name ∷ []))) ++ last =
     λ last. ap (λ (l : List Bytes). delay_fields delay ++ l) (sym (append_assoc (prio_fields p) (name ∷ []) last)) ∙ sym (append_assoc (delay_fields delay) (prio_fields p ++ (name ∷ [])) last) in (
       record {
         plain = plain-join_with (query_fields delay p (name ∷ (expr_text tree ∷ [])))
-            (plain_append (delay_fields delay) (prio_fields p ++ (name ∷ (expr_text tree ∷ []))) (all_plain (delay_fields delay) (delay_all before delay d))
-            (plain_append (prio_fields p) (name ∷ (expr_text tree ∷ [])) (all_plain (prio_fields p) (prio_all p)) (field-plain name named, (expr_plain tree words, tt))));
+            (plain_append (delay_fields delay) (prio_fields p ++ (name ∷ (expr_text tree ∷ []))) (all_plain (delay_fields delay) (delay_all delay d))
+            (plain_append (prio_fields p) (name ∷ (expr_text tree ∷ [])) (all_plain (prio_fields p) (prio_all p)) (field-plain name named, (expr_plain tree is.words, tt))));
         told = told_by delay p name (expr_text tree) [] told;
         fields_are = ap (λ (fs : List Bytes). fields (join_with_byte 32 fs)) (regroup (expr_text tree ∷ []))
             ∙ (fields-join_with (delay_fields delay ++ (prio_fields p ++ (name ∷ []))) (expr_text tree) all ∙ sym (regroup (fields (expr_text tree))));
       },
-      record { texts = fields (expr_text tree); asks_are = refl; tokens = canonical_tokens tree; tokens_are = text_is_read tree words; expr = keeps is.tokens tree is.expr },
+      record { texts = fields (expr_text tree); asks_are = refl; tokens = canonical_tokens tree; tokens_are = text_is_read tree is.words; expr = is.accepted },
     )
 
-ask_again : KeepsCanonical → (delay : Option ℕ) (p : Prio) (before asks : List Bytes) (given : Ask) → IsDelay before delay → IsAskOf asks given → IsAskAgain delay p given
-ask_again keeps delay p before asks (ask.Find tree) d is =
-    let made = expr_again keeps delay p before (codes "find") asks tree d refl refl is in record { asks = codes "find" ∷ fields (expr_text tree); canonical = made.0; ask_is = made.1 }
-ask_again keeps delay p before asks (ask.Count tree) d is =
-    let made = expr_again keeps delay p before (codes "count") asks tree d refl refl is in record { asks = codes "count" ∷ fields (expr_text tree); canonical = made.0; ask_is = made.1 }
-ask_again keeps delay p before asks (ask.Present tree) d is =
-    let made = expr_again keeps delay p before (codes "exists") asks tree d refl refl is in record { asks = codes "exists" ∷ fields (expr_text tree); canonical = made.0; ask_is = made.1 }
-ask_again keeps delay p before asks (ask.Top k words) d is =
-    let below : k ≤ 100 = is.number.below in
+ask_again : (delay : Option ℕ) (p : Prio) (given : Ask) → IsDelayed delay → IsAsk given → AsksExpression given → IsAskAgain delay p given
+ask_again delay p (ask.Find tree) d is e =
+    let made = expr_again delay p (codes "find") tree d refl refl e in record { asks = codes "find" ∷ fields (expr_text tree); canonical = made.0; ask_is = made.1 }
+ask_again delay p (ask.Count tree) d is e =
+    let made = expr_again delay p (codes "count") tree d refl refl e in record { asks = codes "count" ∷ fields (expr_text tree); canonical = made.0; ask_is = made.1 }
+ask_again delay p (ask.Present tree) d is e =
+    let made = expr_again delay p (codes "exists") tree d refl refl e in record { asks = codes "exists" ∷ fields (expr_text tree); canonical = made.0; ask_is = made.1 }
+ask_again delay p (ask.Top k words) d is e =
+    let below : k ≤ 100 = is.few in
     let written = is_written k (omega arith) in
     record {
       asks = codes "top" ∷ (decimal k ∷ words);
       canonical = of_fields (query_fields delay p (codes "top" ∷ (decimal k ∷ words)))
-          (all_append (delay_fields delay) (prio_fields p ++ (codes "top" ∷ (decimal k ∷ words))) (delay_all before delay d)
+          (all_append (delay_fields delay) (prio_fields p ++ (codes "top" ∷ (decimal k ∷ words))) (delay_all delay d)
           (all_append (prio_fields p) (codes "top" ∷ (decimal k ∷ words)) (prio_all p) (refl, (written.field, fields_of_words words is.are_words))))
           (told_by delay p (codes "top") (decimal k) words refl);
-      ask_is = record { field = decimal k; asks_are = refl; number = written_number 1 100 k is.number.above is.number.below (omega arith); some = is.some; are_words = is.are_words };
+      ask_is = record { field = decimal k; asks_are = refl; number = written_number 1 100 k is.some is.few (omega arith); some = is.some_words; are_words = is.are_words };
     }
 
-query_again : KeepsCanonical → (shards : ℕ) (before : List Line) (piece : Bytes) (query : Query) → LineBehind shards before piece (Ok (Some (line.Query query)))
-    → LineBehind shards before (line_text (line.Query query)) (Ok (Some (line.Query query)))
-query_again keeps shards before piece query h =
-    let is = (query_by_facts shards before piece query).0 h in
-    let again = ask_again keeps query.delay query.prio is.delay is.asks query.ask is.delay_is is.ask_is in
+query_written : (shards : ℕ) (before : List Line) (query : Query) → IsQuery query → AsksExpression query.ask → count_by is_query before < most_queries
+    → (count_by is_query before + 1) * shards ≤ most_tasks → LineBehind shards before (line_text (line.Query query)) (Ok (Some (line.Query query)))
+query_written shards before query is e room tasks =
+    let again = ask_again query.delay query.prio query.ask is.delay is.ask e in
     (query_by_facts shards before (line_text (line.Query query)) query).1 (record {
       read = is_read (line_text (line.Query query)) (query_fields query.delay query.prio again.asks) again.canonical;
       delay = delay_fields query.delay;
       names = prio_fields query.prio;
       asks = again.asks;
       fields_are = has_fields (line_text (line.Query query)) (query_fields query.delay query.prio again.asks) again.canonical;
-      delay_is = delay_is is.delay query.delay is.delay_is;
+      delay_is = delay_is query.delay is.delay;
       prio_is = prio_is query.prio;
       ask_is = again.ask_is;
-      room = is.room;
-      tasks = is.tasks;
+      room = room;
+      tasks = tasks;
     })
 
--- what stands for a line is read again from its text
-again : KeepsCanonical → (shards : ℕ) (before : List Line) (piece : Bytes) (l : Line) → LineBehind shards before piece (Ok (Some l)) → LineBehind shards before (line_text l) (Ok (Some l))
-again keeps shards before piece (line.Doc doc) h = doc_again shards before piece doc h
-again keeps shards before piece (line.Query query) h = query_again keeps shards before piece query h
-again keeps shards before piece (line.Tick n) h = tick_again shards before piece n h
-again keeps shards before piece (line.Cancel n) h = cancel_again shards before piece n h
+-- the lines behind others, all of which are within the limits
+abbrev Within : ℕ → List Line → Line → List Line → Type 0
+Within shards before l more = IsWithinLimits (before ++ l ∷ more) shards
 
--- the lines that are read of pieces, and their texts
-record IsReadAgain (shards : ℕ) (before lines : List Line) : Type 0 where
-  more : List Line
-  lines_are : lines ≡ before ++ more
-  each : Each shards before (map line_text more) (map (λ l. Some l) more)
+doc_is_own : (shards : ℕ) (before more : List Line) (doc : Doc) → Within shards before (line.Doc doc) more → list_any (has_id doc.id) before ≡ false
+doc_is_own shards before more doc w =
+    let docs : docs_of (before ++ line.Doc doc ∷ more) ≡ docs_of before ++ doc ∷ docs_of more = filter_map-append doc_of_line before (line.Doc doc ∷ more) in
+    let ids = subst DifferentIds docs w.ids in
+    let there = slice_get-append_seam (docs_of before) doc (docs_of more) (length (docs_of before)) refl in
+    sym (any-docs_of doc.id before)
+    ∙ (ap (λ (ds : List Doc). list_any (λ other. eqb other.id doc.id) ds) (sym (take-append_seam (docs_of before) (doc ∷ docs_of more)))
+    ∙ ids (length (docs_of before)) doc there)
 
-read_again : KeepsCanonical → (shards number : ℕ) (before : List Line) (ps : List Bytes) (lines : List Line) → Reads shards number before ps (Ok lines) → IsReadAgain shards before lines
-read_again keeps shards number before [] lines r = let same : lines ≡ before = cc in record { more = []; lines_are = same ∙ sym (append-nil before); each = tt }
-read_again keeps shards number before (piece ∷ ps) lines (inl m) = by m.0 m.1 (read_again keeps shards (number + 1) (before ++ option_to_list m.0) ps lines m.2)
-  where
-    by : (mark : Option Line) → LineBehind shards before piece (Ok mark) → IsReadAgain shards (before ++ option_to_list mark) lines → IsReadAgain shards before lines
-    by None is rest = subst (λ (ls : List Line). IsReadAgain shards ls lines) (append-nil before) rest
-    by (Some l) is rest = record {
-      more = l ∷ rest.more;
-      lines_are = rest.lines_are ∙ append_assoc before (l ∷ []) rest.more;
-      each = (again keeps shards before piece l is, rest.each);
-    }
-read_again keeps shards number before (piece ∷ ps) lines (inr k) = absurd cc
+doc_has_room : (shards : ℕ) (before more : List Line) (doc : Doc) → Within shards before (line.Doc doc) more → count_by is_doc before < most_documents
+doc_has_room shards before more doc w =
+    let docs : docs_of (before ++ line.Doc doc ∷ more) ≡ docs_of before ++ doc ∷ docs_of more = filter_map-append doc_of_line before (line.Doc doc ∷ more) in
+    omega (arith, ap length docs, length-append (docs_of before) (doc ∷ docs_of more), length-docs_of before, w.few_documents)
 
--- the canonical text is cut into the texts of the lines
-text_plain : KeepsCanonical → (shards : ℕ) (before : List Line) (piece : Bytes) (l : Line) → LineBehind shards before piece (Ok (Some l)) → is_plain (line_text l) ≡ true
-text_plain keeps shards before piece (line.Doc doc) h =
-    let is = (doc_by_facts shards before piece doc).0 h in
-    let written = is_written doc.id is.number.below in
-    plain-join_with (line_fields (line.Doc doc)) (all_plain (line_fields (line.Doc doc)) (refl, (written.field, fields_of_words doc.words is.words)))
-text_plain keeps shards before piece (line.Query query) h =
-    let is = (query_by_facts shards before piece query).0 h in
-    (ask_again keeps query.delay query.prio is.delay is.asks query.ask is.delay_is is.ask_is).canonical.plain
-text_plain keeps shards before piece (line.Tick n) h =
-    let is = (tick_by_facts shards before piece n).0 h in
-    let below : n ≤ 10000000 = is.number.below in
+query_has_room : (shards : ℕ) (before more : List Line) (query : Query) → Within shards before (line.Query query) more
+    → (count_by is_query before < most_queries) × ((count_by is_query before + 1) * shards ≤ most_tasks)
+query_has_room shards before more query w =
+    let queries : queries_of (before ++ line.Query query ∷ more) ≡ queries_of before ++ query ∷ queries_of more = filter_map-append query_of_line before (line.Query query ∷ more) in
+    let fewer : count_by is_query before + 1 ≤ length (queries_of (before ++ line.Query query ∷ more)) =
+    omega (arith, ap length queries, length-append (queries_of before) (query ∷ queries_of more), length-queries_of before) in (
+      omega (arith, fewer, w.few_queries),
+      omega (arith, mul-le (count_by is_query before + 1) shards (length (queries_of (before ++ line.Query query ∷ more))) shards fewer (omega arith), w.few_tasks),
+    )
+
+tick_has_room : (shards : ℕ) (before more : List Line) (n : ℕ) → Within shards before (line.Tick n) more → sum_by ticks_of before + n ≤ most_ticks
+tick_has_room shards before more n w = omega (arith, sum_by-append ticks_of before (line.Tick n ∷ more), sum_by-cons ticks_of (line.Tick n) more, w.few_ticks)
+
+-- a line is read of its text
+written : (shards : ℕ) (before more : List Line) (l : Line) → IsLine l → HasExpression l → Within shards before l more → LineBehind shards before (line_text l) (Ok (Some l))
+written shards before more (line.Doc doc) is e w = doc_written shards before doc is (doc_is_own shards before more doc w) (doc_has_room shards before more doc w)
+written shards before more (line.Query query) is e w = let room = query_has_room shards before more query w in query_written shards before query is e room.0 room.1
+written shards before more (line.Tick n) is e w = tick_written shards before n is.0 is.1 (tick_has_room shards before more n w)
+written shards before more (line.Cancel n) is e w = cancel_written shards before n is.0 is.1
+
+text_plain : (l : Line) → IsLine l → HasExpression l → is_plain (line_text l) ≡ true
+text_plain (line.Doc doc) is e = plain-join_with (line_fields (line.Doc doc)) (all_plain (line_fields (line.Doc doc)) (refl, ((is_written doc.id is.id).field, fields_of_words doc.words is.are_words)))
+text_plain (line.Query query) is e = (ask_again query.delay query.prio query.ask is.delay is.ask e).canonical.plain
+text_plain (line.Tick n) is e =
+    let below : n ≤ 10000000 = is.1 in
     plain-join_with (line_fields (line.Tick n)) (all_plain (line_fields (line.Tick n)) (refl, ((is_written n (omega arith)).field, tt)))
-text_plain keeps shards before piece (line.Cancel n) h =
-    let is = (cancel_by_facts shards before piece n).0 h in
-    let below : n ≤ 50000 = is.number.below in
+text_plain (line.Cancel n) is e =
+    let below : n ≤ 50000 = is.1 in
     plain-join_with (line_fields (line.Cancel n)) (all_plain (line_fields (line.Cancel n)) (refl, ((is_written n (omega arith)).field, tt)))
 
-cut_again : KeepsCanonical → (shards : ℕ) (before more : List Line) → Each shards before (map line_text more) (map (λ l. Some l) more) → pieces (flat_map (λ l. line_text l ++ line_feed ∷ []) more) ≡ map line_text more
+all_written : (shards : ℕ) (before more : List Line) → AllByRecursion IsLine more → AllByRecursion HasExpression more → IsWithinLimits (before ++ more) shards
+    → Each shards before (map line_text more) (map (λ l. Some l) more)
+all_written shards before [] are have w = tt
+all_written shards before (l ∷ more) are have w = (
+  written shards before more l are.0 have.0 w,
+  all_written shards (before ++ l ∷ []) more are.1 have.1 (subst (λ (ls : List Line). IsWithinLimits ls shards) (sym (append_assoc before (l ∷ []) more)) w),
+)
+
+-- the canonical text is cut into the texts of the lines
+cut_again : (more : List Line) → AllByRecursion IsLine more → AllByRecursion HasExpression more → pieces (flat_map (λ l. line_text l ++ line_feed ∷ []) more) ≡ map line_text more
 unfolding pieces
-cut_again keeps shards before [] each = refl
-cut_again keeps shards before (l ∷ more) each =
+cut_again [] are have = refl
+cut_again (l ∷ more) are have =
     ap pieces (append_assoc (line_text l) (line_feed ∷ []) (flat_map (λ x. line_text x ++ line_feed ∷ []) more))
-    ∙ (pieces-line (line_text l) (flat_map (λ x. line_text x ++ line_feed ∷ []) more) (text_plain keeps shards before (line_text l) l each.0)
-    ∙ ap (λ (ps : List Bytes). line_text l ∷ ps) (cut_again keeps shards (before ++ l ∷ []) more each.1))
+    ∙ (pieces-line (line_text l) (flat_map (λ x. line_text x ++ line_feed ∷ []) more) (text_plain l are.0 have.0)
+    ∙ ap (λ (ps : List Bytes). line_text l ∷ ps) (cut_again more are.1 have.1))
 
 kept_all : (ls : List Line) → kept (map (λ l. Some l) ls) ≡ ls
 kept_all [] = refl
 kept_all (l ∷ ls) = ap (λ (xs : List Line). l ∷ xs) (kept_all ls)
 
-pub canonical_accepted : KeepsCanonical → (bytes : Bytes) (shards : ℕ) (input : Input) → Accepts bytes shards input → Accepts (canonical_text input) shards input
+pub canonical_is_read : (shards : ℕ) (input : Input) → CanBeRead shards input → Accepts (canonical_text input) shards input
 unfolding canonical_text
-canonical_accepted keeps bytes shards input a =
-    let read = read_again keeps shards 1 [] (pieces bytes) (kept a.marks) (reads_from_Accepts shards (pieces bytes) a.marks a.stand) in
-    let lines : input.lines ≡ read.more = a.lines ∙ read.lines_are in
-    let cut : pieces (canonical_text input) ≡ map line_text read.more = ap (λ (ls : List Line). pieces (flat_map (λ l. line_text l ++ line_feed ∷ []) ls)) lines ∙ cut_again keeps shards [] read.more read.each in
+canonical_is_read shards input can =
+    let are = recursion_from_All IsLine input.lines can.limits.lines_are in
+    let have = recursion_from_All HasExpression input.lines can.expressions in
     record {
-      marks = map (λ l. Some l) read.more;
-      stand = subst (λ (ps : List Bytes). StandFor shards ps (map (λ l. Some l) read.more)) (sym cut) (stands shards (map line_text read.more) (map (λ l. Some l) read.more) read.each);
-      lines = lines ∙ sym (kept_all read.more);
+      marks = map (λ l. Some l) input.lines;
+      stand = subst (λ (ps : List Bytes). StandFor shards ps (map (λ l. Some l) input.lines)) (sym (cut_again input.lines are have))
+          (stands shards (map line_text input.lines) (map (λ l. Some l) input.lines) (all_written shards [] input.lines are have can.limits));
+      lines = sym (kept_all input.lines);
     }
+
+-- the expressions of what is read
+tree_words : (name : Bytes) (asks : List Bytes) (tree : Tree) → IsExpr name asks tree → HasWords tree
+tree_words name asks tree is =
+    let good = read_tokens is.texts is.tokens is.tokens_are in
+    let p = is.expr.reads in
+    subst HasWords p.2 (words_from_tokens p.0 (subst (λ (ts : List Token). AllByRecursion IsGood ts) (sym p.1) good))
+
+expression : KeepsCanonical → (name : Bytes) (asks : List Bytes) (tree : Tree) → IsExpr name asks tree → IsExpression tree
+expression keeps name asks tree is = record { words = tree_words name asks tree is; accepted = keeps is.tokens tree is.expr }
+
+asks_expression : KeepsCanonical → (asks : List Bytes) (given : Ask) → IsAskOf asks given → AsksExpression given
+asks_expression keeps asks (ask.Find tree) is = expression keeps (codes "find") asks tree is
+asks_expression keeps asks (ask.Count tree) is = expression keeps (codes "count") asks tree is
+asks_expression keeps asks (ask.Present tree) is = expression keeps (codes "exists") asks tree is
+asks_expression keeps asks (ask.Top k words) is = tt
+
+has_expression : KeepsCanonical → (shards : ℕ) (before : List Line) (piece : Bytes) (l : Line) → LineBehind shards before piece (Ok (Some l)) → HasExpression l
+has_expression keeps shards before piece (line.Doc doc) h = tt
+has_expression keeps shards before piece (line.Query query) h = let is = (query_by_facts shards before piece query).0 h in asks_expression keeps is.asks query.ask is.ask_is
+has_expression keeps shards before piece (line.Tick n) h = tt
+has_expression keeps shards before piece (line.Cancel n) h = tt
+
+have_expressions : KeepsCanonical → (shards number : ℕ) (before : List Line) (ps : List Bytes) (lines : List Line) → All HasExpression before → Reads shards number before ps (Ok lines) → All HasExpression lines
+have_expressions keeps shards number before [] lines have r = let same : lines ≡ before = cc in subst (All HasExpression) (sym same) have
+have_expressions keeps shards number before (piece ∷ ps) lines have (inl m) = have_expressions keeps shards (number + 1) (before ++ option_to_list m.0) ps lines (by m.0 m.1) m.2
+  where
+    by : (mark : Option Line) → LineBehind shards before piece (Ok mark) → All HasExpression (before ++ option_to_list mark)
+    by None is = subst (All HasExpression) (sym (append-nil before)) have
+    by (Some l) is = All-push HasExpression before l have (has_expression keeps shards before piece l is)
+have_expressions keeps shards number before (piece ∷ ps) lines have (inr k) = absurd cc
+
+pub can_be_read : KeepsCanonical → (bytes : Bytes) (shards : ℕ) (input : Input) → Accepts bytes shards input → CanBeRead shards input
+can_be_read keeps bytes shards input a = record {
+  limits = is_within_limits bytes shards input a;
+  expressions = subst (All HasExpression) (sym a.lines)
+      (have_expressions keeps shards 1 [] (pieces bytes) (kept a.marks) (All-nil HasExpression) (reads_from_Accepts shards (pieces bytes) a.marks a.stand));
+}
+
+pub canonical_accepted : KeepsCanonical → (bytes : Bytes) (shards : ℕ) (input : Input) → Accepts bytes shards input → Accepts (canonical_text input) shards input
+canonical_accepted keeps bytes shards input a = canonical_is_read shards input (can_be_read keeps bytes shards input a)

@@ -21,15 +21,10 @@ use Rattle.query_model.specs.declared.fault.BadKind.TheVariants.{BadWord}
 use Rattle.query_model.specs.Expressions.{is_sign, apart, parts, parts_of, is_token, token_of, tokens_of}
 use Rattle.query_grammar.specs.Canonical.{phrases_of, canonical_tokens}
 use Rattle.query_model.specs.Canonical.{in_brackets, as_fact, as_both, expr_text}
+use Rattle.query_model.specs.Written.{HasWords}
 use Rattle.query_model.proofs.TextFacts.{is_field, fields-join, fields-field, field-word}
 
--- each word of a tree, or of tokens, is a word
-abbrev pub HasWords : Tree → Type 0
-HasWords (Tree.word w) = is_word w ≡ true
-HasWords (Tree.not e) = HasWords e
-HasWords (Tree.both a b) = HasWords a × HasWords b
-HasWords (Tree.either a b) = HasWords a × HasWords b
-
+-- each word of tokens is a word
 abbrev pub IsGood : Token → Type 0
 IsGood (token.Word w) = is_word w ≡ true
 IsGood token.Bar = Unit {0}

@@ -41,7 +41,7 @@ length-queries_of (line.Query q ∷ ls) = omega (arith, length-queries_of ls, su
 length-queries_of (line.Tick n ∷ ls) = omega (arith, length-queries_of ls, sum_by-cons (λ l. cond (is_query l) 1 0) (line.Tick n) ls)
 length-queries_of (line.Cancel n ∷ ls) = omega (arith, length-queries_of ls, sum_by-cons (λ l. cond (is_query l) 1 0) (line.Cancel n) ls)
 
-any-docs_of : (id : ℕ) (lines : List Line) → list_any (λ doc. eqb doc.id id) (docs_of lines) ≡ list_any (has_id id) lines
+pub any-docs_of : (id : ℕ) (lines : List Line) → list_any (λ doc. eqb doc.id id) (docs_of lines) ≡ list_any (has_id id) lines
 any-docs_of id [] = refl
 any-docs_of id (line.Doc d ∷ ls) = ap (λ b. eqb d.id id || b) (any-docs_of id ls)
 any-docs_of id (line.Query q ∷ ls) = any-docs_of id ls

@@ -19,3 +19,4 @@ pub mod Laws
 pub mod ByFacts
 pub mod LineByLine
 pub mod Walk
+pub mod Written

@@ -22,6 +22,7 @@ ghost use Rattle.query_model.specs.Sorting.{sorted_by, IsOrder, IsInOrder, Tells
 ghost use Rattle.query_model.specs.Laws.{GrammarDecides, IsDecided};
 ghost use Rattle.query_grammar.specs.Canonical.{KeepsCanonical};
 ghost use Rattle.query_model.specs.Canonical.{canonical_text};
+ghost use Rattle.query_model.specs.Written.{CanBeRead};
 
 /// Bytes are accepted as exactly one input or refused with exactly one line and kind, since the grammar of expressions
 /// decides.
@@ -118,4 +119,11 @@ pub fn part_is_told_by_places()
 pub fn canonical_text_is_accepted()
     ensures { KeepsCanonical → (bytes : Bytes) (shards : ℕ) (input : Input) →
         Accepts bytes shards input → Accepts (canonical_text input) shards input }
+{}
+
+/// Which inputs are read of some bytes: those within the limits whose expressions are accepted by their canonical tokens. Each of
+/// them is read of its canonical text.
+pub fn inputs_that_are_read()
+    ensures written { (shards : ℕ) (input : Input) → CanBeRead shards input → Accepts (canonical_text input) shards input }
+    ensures read { KeepsCanonical → (bytes : Bytes) (shards : ℕ) (input : Input) → Accepts bytes shards input → CanBeRead shards input }
 {}
