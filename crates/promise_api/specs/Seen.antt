@@ -1,7 +1,6 @@
 -- What contracts see of a future and of a chain. A promise is seen as its producer.
 use Rattle.fan_base.specs.declared.number.ExecId.{ExecId}
 use Rattle.core_word.specs.Seen.{SeenProducer, SeenConsumer, SeenKey}
-use Rattle.core_word.specs.declared.view.Sight.{Sight}
 use Rattle.core_word.specs.declared.view.Sight.TheVariants as seen
 use Rattle.std.specs.Prelude.{ℕ}
 
