@@ -3,7 +3,7 @@ ghost use Rattle.std.specs.Prelude.{◌≡◌, ◌+◌, ◌-◌, ◌<◌, ◌≤
 ghost use Rattle.pool_model.specs.Seen.{PassSeen};
 ghost use Rattle.prio_pool.specs.Made.{counted, makers_of, id_over, with_takers, new_passes, new_takers_from, in_places, IsPlace, worker_seen, helper_seen};
 ghost use Rattle.prio_pool.specs.Passes.{TookNothing};
-ghost use Rattle.prio_pool.specs.Sleeping.{parkers_of, numbers_of};
+ghost use Rattle.prio_pool.specs.Sleeping.{parkers_of, bits_of};
 
 use crate::adders::Adders;
 use crate::made::{new_place, new_takers};
@@ -104,7 +104,7 @@ pub fn worker_passes<J>(
     mut list: Vec<WorkerPass<J>>,
 ) -> Vec<WorkerPass<J>>
     requires list { (list.items ≡ []) × (length takers ≤ vec_capacity list) }
-    requires parkers { parkers_of parkers ≡ numbers_of takers }
+    requires parkers { parkers_of parkers ≡ bits_of takers }
     requires each { All TookNothing takers }
     ensures { result.items ≡ map worker_seen takers }
 {

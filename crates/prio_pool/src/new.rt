@@ -1,8 +1,7 @@
 // How a pool is made.
 ghost use Rattle.std.specs.Prelude.{◌≡◌, ◌+◌, ◌<◌, ◌≤◌, [], length, vec_capacity, vec_len, IfOk};
-ghost use Rattle.std.specs.List.{range_with_len};
 ghost use Rattle.prio_pool.specs.Made.{HasAll, IsNewPool, IsSize};
-ghost use Rattle.prio_pool.specs.Sleeping.{parkers_of, wakers_of};
+ghost use Rattle.prio_pool.specs.Sleeping.{parkers_of, wakers_of, bits_from};
 
 use crate::adders::Adders;
 use crate::listed::{adder_passes, helper_passes, more_takers, new_places, worker_passes};
@@ -153,8 +152,8 @@ fn assemble<J: Headed>(
     requires queues { length inner.queues.items ≡ size.priorities }
     requires all { HasAll size.adders size.workers size.helpers inner.queues.items inner.mark inner.seat inner.places inner.works inner.helps }
     requires keeping { (keeping.0.count ≡ keeping.1.count) × (keeping.1.first_room ≡ keeping.1.room) }
-    requires parkers { parkers_of parking.0 ≡ range_with_len 0 size.workers }
-    requires wakers { wakers_of parking.1.items ≡ range_with_len 0 size.workers }
+    requires parkers { parkers_of parking.0 ≡ bits_from 0 size.workers }
+    requires wakers { wakers_of parking.1.items ≡ bits_from 0 size.workers }
     requires empty { (rooms.adders.items ≡ []) × (rooms.workers.items ≡ []) × (rooms.helpers.items ≡ []) }
     requires room { (vec_capacity rooms.adders ≡ size.adders) × (vec_capacity rooms.workers ≡ size.workers) × (vec_capacity rooms.helpers ≡ size.helpers) }
     ensures { IsNewPool size.exec size.priorities size.adders size.workers size.helpers keeping.1.room result.pool result.owner result.keep result.adders.items result.workers.items result.helpers.items }

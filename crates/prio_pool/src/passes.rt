@@ -43,7 +43,7 @@ pub struct WorkerPass<J> {
 }
 
 impl<J> Model for WorkerPass<J> {
-    ghost use Rattle.std.specs.Prelude.{◌≡◌};
+    ghost use Rattle.std.specs.Prelude.{◌≡◌, ◌^◌};
     ghost use Rattle.pool_model.specs.Seen.{WorkerSeen};
     ghost use Rattle.prio_pool.specs.Passes.{TookNothing};
 
@@ -51,7 +51,7 @@ impl<J> Model for WorkerPass<J> {
 
     ghost view = { λ p. record { pool = p.takers.pool; number = p.takers.number } };
 
-    ghost invariant = { λ p. TookNothing p.takers × (p.parker.number ≡ p.takers.number) };
+    ghost invariant = { λ p. TookNothing p.takers × (p.parker.bit ≡ 2 ^ p.takers.number) };
 }
 
 /// The right to help: to run one task at a time. Contracts see its pool, the list of its records, what it popped from each

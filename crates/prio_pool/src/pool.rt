@@ -45,15 +45,14 @@ pub struct Pool<J: Headed> {
 
 impl<J: Headed> Model for Pool<J> {
     ghost use Rattle.std.specs.Prelude.{◌≡◌, ◌+◌, ◌<◌, ◌≤◌, length};
-    ghost use Rattle.std.specs.List.{range_with_len};
     ghost use Rattle.pool_model.specs.Seen.{PoolSeen};
-    ghost use Rattle.prio_pool.specs.Sleeping.{wakers_of};
+    ghost use Rattle.prio_pool.specs.Sleeping.{wakers_of, bits_from};
 
     ghost Value = { PoolSeen };
 
     ghost view = { λ p. record { id = record { queues = p.queues.items; passes = p.adders + p.workers + p.helpers; mark = p.mark.mark }; count = p.keep.value.count; exec = p.exec; adders = p.adders; workers = p.workers; helpers = p.helpers } };
 
-    ghost invariant = { λ p. (0 < length p.queues.items) × (length p.queues.items ≤ 256) × (p.mark.adders ≡ p.adders) × (0 < p.adders) × (p.adders ≤ 64) × (p.workers ≤ 64) × (p.helpers ≤ 64) × (p.mark.count ≡ p.keep.value.count) × (wakers_of p.sleepers.wakers.items ≡ range_with_len 0 p.workers) };
+    ghost invariant = { λ p. (0 < length p.queues.items) × (length p.queues.items ≤ 256) × (p.mark.adders ≡ p.adders) × (0 < p.adders) × (p.adders ≤ 64) × (p.workers ≤ 64) × (p.helpers ≤ 64) × (p.mark.count ≡ p.keep.value.count) × (wakers_of p.sleepers.wakers.items ≡ bits_from 0 p.workers) };
 }
 
 /// What a help did.
@@ -127,7 +126,7 @@ impl<J: Headed> Pool<J> {
     {
         let WorkerPass { mut takers, parker } = pass;
         let mut records = LinkedList::new(self.alloc);
-        let mut rest = Rest::new(takers.number);
+        let mut rest = Rest::new();
         for _ in rt.forever() {
             match turn(
                 rt,
@@ -172,7 +171,7 @@ impl<J: Headed> Pool<J> {
             &mut pass.takers,
             &mut pass.records,
             false,
-            &mut Rest::new(0),
+            &mut Rest::new(),
             world,
             gate,
         ) {

@@ -1,8 +1,7 @@
 // Who sleeps, and how one is woken for one task. That a worker wakes is not proved: contracts say which worker each waker is for,
 // and types that who added a task or began an end calls the wakers.
-ghost use Rattle.std.specs.Prelude.{◌≡◌, ◌<◌, IfOk};
-ghost use Rattle.std.specs.List.{range_with_len};
-ghost use Rattle.prio_pool.specs.Sleeping.{parkers_of, wakers_of};
+ghost use Rattle.std.specs.Prelude.{◌≡◌, ◌<◌, ◌≤◌, ◌^◌, IfOk};
+ghost use Rattle.prio_pool.specs.Sleeping.{parkers_of, wakers_of, bits_from};
 
 use crossbeam_utils::sync::{Parker, Unparker};
 use fan_base::Memory;
@@ -17,33 +16,36 @@ use task_queue::Watch;
 /// How often a worker that finds no task looks again before it sleeps.
 const LOOKS: u32 = 6;
 
-/// What the worker with this number sleeps on.
+/// What a worker sleeps on, with the worker's bit.
 #[derive(Drop)]
 pub struct OwnParker {
-    pub number: u32,
+    pub bit: u64,
     parker: Parker,
 }
 
-/// What wakes the worker with this number.
+/// What wakes a worker, with the worker's bit.
 #[derive(Drop)]
 pub struct OwnWaker {
-    pub number: u32,
+    pub bit: u64,
     waker: Unparker,
 }
 
-// The parker of a worker, and what wakes it.
+// The parker of the worker with this number, and what wakes it.
 fn parker(alloc: Global, number: u32) -> Result<(OwnParker, OwnWaker), Memory>
-    ensures { IfOk result (λ p. (p.0.number ≡ number) × (p.1.number ≡ number)) }
+    requires { number < 64 }
+    ensures { IfOk result (λ p. (p.0.bit ≡ 2 ^ number) × (p.1.bit ≡ 2 ^ number)) }
 {
     let parker = Parker::new(alloc)?;
     let waker = parker.unparker().clone()?;
-    Ok((OwnParker { number, parker }, OwnWaker { number, waker }))
+    let bit = bit_of(number);
+    Ok((OwnParker { bit, parker }, OwnWaker { bit, waker }))
 }
 
 /// The parkers of so many workers, and what wakes each, both in order.
 pub fn parkers(alloc: Global, count: u32) -> Result<(LinkedList<OwnParker>, Vec<OwnWaker>), Memory>
-    ensures parkers { IfOk result (λ p. parkers_of p.0 ≡ range_with_len 0 count) }
-    ensures wakers { IfOk result (λ p. wakers_of p.1.items ≡ range_with_len 0 count) }
+    requires { count ≤ 64 }
+    ensures parkers { IfOk result (λ p. parkers_of p.0 ≡ bits_from 0 count) }
+    ensures wakers { IfOk result (λ p. wakers_of p.1.items ≡ bits_from 0 count) }
 {
     let mut parkers = LinkedList::new(alloc);
     let mut wakers = Vec::new(alloc);
@@ -118,8 +120,7 @@ impl Sleepers {
             return;
         }
         for waker in &self.wakers {
-            let bit = bit_of(waker.number);
-            if asleep & bit != 0 && self.take(bit) {
+            if asleep & waker.bit != 0 && self.take(waker.bit) {
                 waker.waker.unpark();
                 return;
             }
@@ -147,17 +148,20 @@ impl Sleepers {
     }
 }
 
-// The bit of a worker.
-fn bit_of(number: u32) -> u64 {
-    1u64.wrapping_shl(number % 64)
+// The bit of the worker with this number.
+fn bit_of(number: u32) -> u64
+    requires { number < 64 }
+    ensures { result ≡ 2 ^ number }
+{
+    1 << number
 }
 
 /// How far a worker is on its way to sleep.
 #[derive(Drop)]
 pub struct Rest {
-    bit: u64,
     looks: u32,
-    is_noted: bool,
+    // The bit that it has set, or 0.
+    noted: u64,
 }
 
 /// That a worker which found a task is awake, and has woken another where it was called for another task. Only [`Rest::end`]
@@ -169,39 +173,35 @@ pub struct Awake {
 
 impl Rest {
     /// A worker that is awake.
-    pub fn new(number: u32) -> Rest {
-        Rest {
-            bit: bit_of(number),
-            looks: 0,
-            is_noted: false,
-        }
+    pub fn new() -> Rest {
+        Rest { looks: 0, noted: 0 }
     }
 
     /// It found a task. Where it was woken for another meanwhile, it wakes the next for that one.
     pub fn end(&mut self, sleepers: &Sleepers) -> Awake {
         self.looks = 0;
-        if self.is_noted {
-            self.is_noted = false;
-            if !sleepers.take(self.bit) {
+        if self.noted != 0 {
+            if !sleepers.take(self.noted) {
                 sleepers.wake_one(Call::new());
             }
+            self.noted = 0;
         }
         Awake { _woken: () }
     }
 
     /// It found none: it looks again a few times, then notes that it is about to sleep and looks once more, then sleeps.
     pub fn go_on<R: Wait>(&mut self, rt: &R, sleepers: &Sleepers, parker: &OwnParker) {
-        if self.is_noted {
+        if self.noted != 0 {
             parker.parker.park(rt);
-            self.is_noted = false;
+            self.noted = 0;
             self.looks = 0;
-            let _ = sleepers.take(self.bit);
+            let _ = sleepers.take(parker.bit);
         } else if self.looks < LOOKS {
             self.looks += 1;
             thread::yield_now();
         } else {
-            self.is_noted = true;
-            sleepers.put(self.bit);
+            self.noted = parker.bit;
+            sleepers.put(parker.bit);
         }
     }
 }

@@ -6,8 +6,8 @@ use Rattle.pool_model.specs.Seen.{PoolId, PassSeen}
 use Rattle.prio_pool.specs.Made.{pool_of, new_passes, new_workers, new_ends, IsPlace, worker_seen, helper_seen}
 use Rattle.prio_pool.specs.Passes.{TookNothing}
 use Rattle.prio_pool.proofs.Listing.{count_passes, count_takers, each_place, each_took_none, are_workers, are_helpers, same_places}
-use Rattle.prio_pool.specs.Sleeping.{numbers_of}
-use Rattle.prio_pool.proofs.Sleeping.{are_numbered}
+use Rattle.prio_pool.specs.Sleeping.{bits_of}
+use Rattle.prio_pool.proofs.Sleeping.{have_bits}
 use Rattle.prio_pool.proofs.new.assemble.Goals as goal
 
 pub adder_passes-adders-requires-clause-list : goal.adder_passes-adders-requires-clause-list
@@ -46,7 +46,7 @@ worker_passes-workers-requires-clause-parkers g c =
     let s = c.args.size in
     let i = c.args.inner in
     let pool : PoolId = pool_of s.adders s.workers s.helpers i.queues.items i.mark in
-    c.requires.parkers ∙ (sym (are_numbered pool 0 s.workers) ∙ ap numbers_of (sym c.requires.all.works_are))
+    c.requires.parkers ∙ (sym (have_bits pool 0 s.workers) ∙ ap bits_of (sym c.requires.all.works_are))
 
 pub worker_passes-workers-requires-clause-each : goal.worker_passes-workers-requires-clause-each
 worker_passes-workers-requires-clause-each g c =
