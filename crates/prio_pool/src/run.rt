@@ -4,7 +4,7 @@ ghost use Rattle.prio_pool.specs.Running.{RanOnce, task_in};
 use crate::placed::Placed;
 use crate::record::RunRecord;
 use crate::sleepers::Awake;
-use fan_base::Gate;
+use fan_base::{Gate, JobId};
 use job_trait::Job;
 use std::collections::LinkedList;
 use std::sync::Wait;
@@ -30,6 +30,24 @@ pub fn run_task<J: Job<W>, W, R: Wait>(
     place.fill(RunRecord::new(ticket, queue, exec, id, mark))
 }
 
+// That a gate was called before a task. It can't be let go: only its `leave` takes it, which calls the gate after the same task.
+struct Entered<'g, G: Gate> {
+    gate: &'g G,
+    job: JobId,
+}
+
+impl<'g, G: Gate> Entered<'g, G> {
+    fn enter(gate: &'g G, job: JobId) -> Entered<'g, G> {
+        gate.before(job);
+        Entered { gate, job }
+    }
+
+    fn leave(self) {
+        let Entered { gate, job } = self;
+        gate.after(job);
+    }
+}
+
 /// The same between the two calls of a gate, by a worker or helper that is awake.
 pub fn run_at_gate<J: Job<W>, W, G: Gate, R: Wait>(
     rt: &R,
@@ -43,8 +61,8 @@ pub fn run_at_gate<J: Job<W>, W, G: Gate, R: Wait>(
 {
     let _ = awake;
     let id = task.job.job.id();
-    gate.before(id);
+    let entered = Entered::enter(gate, id);
     let made = run_task(rt, queue, task, world);
-    gate.after(id);
+    entered.leave();
     made
 }
