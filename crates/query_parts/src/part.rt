@@ -62,8 +62,8 @@ pub fn answer_part(shard: &Shard, ask: &Ask, before: u32) -> Result<PartAnswer, 
 {
     match ask {
         Ask::Find(e) => Ok(PartAnswer::Find(shard.find(e, before)?)),
-        Ask::Count(e) => Ok(PartAnswer::Count(shard.find(e, before)?.total)),
-        Ask::Present(e) => Ok(PartAnswer::Present(shard.find(e, before)?.total)),
+        Ask::Count(e) => Ok(PartAnswer::Count(shard.count(e, before)?)),
+        Ask::Present(e) => Ok(PartAnswer::Present(shard.count(e, before)?)),
         Ask::Top(_, words) => Ok(PartAnswer::Top(shard.counts(words, before)?)),
     }
 }

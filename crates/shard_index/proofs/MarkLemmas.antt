@@ -1,5 +1,5 @@
 -- Marks by place: what is set at the places of documents, and how many are set.
-use Rattle.std.proofs.Common.{◌≡◌, ℕ, zero, suc, ◌+◌, ◌<◌, List, [], ◌∷◌, ◌++◌, length, Bool, true, false, ◌||◌, cond, get_or, replicate, refl, sym, ap, ◌∙◌, arith, take, map, set, append_assoc}
+use Rattle.std.proofs.Common.{◌≡◌, ℕ, zero, suc, ◌+◌, ◌<◌, List, [], ◌∷◌, ◌++◌, length, Bool, true, false, ◌||◌, cond, get_or, replicate, refl, sym, ap, ◌∙◌, arith, take, map, set, append_assoc, zero-add}
 use Rattle.std.specs.List.{count_by, fold}
 use Rattle.std.proofs.lemmas.List.{set_at, take_more}
 use Rattle.std.proofs.lemmas.List.Sums.{sum_by-cons}
@@ -24,6 +24,11 @@ pub marked-more : (marks : List Bool) (places : List ℕ) (i place : ℕ) → i 
 marked-more marks places i place within is =
     let longer : take (i + 1) places ≡ take i places ++ place ∷ [] = take_more places i place within ∙ ap (λ n. take i places ++ n ∷ []) (sym is) in
     ap (λ ps. marked_at marks ps) longer ∙ fold-push (λ ms p. set ms p true) marks (take i places) place
+
+-- no mark
+pub count-none : (n : ℕ) → count_by (λ b. b) (replicate n false) ≡ 0
+count-none zero = refl
+count-none (suc n) = sum_by-cons (λ b. cond b 1 0) false (replicate n false) ∙ (zero-add (count_by (λ b. b) (replicate n false)) ∙ count-none n)
 
 grown : (xs : List Bool) (x : Bool) → length xs + 1 ≡ length (xs ++ x ∷ [])
 grown [] x = refl

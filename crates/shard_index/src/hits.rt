@@ -5,7 +5,7 @@ ghost use Rattle.query_model.specs.Sorting.{sorted_by};
 ghost use Rattle.shard_index.specs.Places.{places_where};
 ghost use Rattle.shard_index.specs.Selections.{AreSelected, Selects, hits_where};
 
-use crate::best::keep_id;
+use crate::best::{greatest_id, keep_id};
 use crate::selection::{Selection, without};
 use fan_base::Ids;
 use query_model::Hits;
@@ -34,8 +34,13 @@ fn hits_at(alloc: Global, ids: &[u32], places: &[u32]) -> Result<Hits, AllocErro
     ensures total { IfOk result (λ hits. hits.total ≡ length places.now) }
 {
     let mut kept = Vec::with_capacity(alloc, places.len().min(MOST_LISTED) + 1)?;
+    let mut greatest = u32::MAX;
     for place in places {
-        keep_id(&mut kept, MOST_LISTED, ids[*place as usize])?;
+        let id = ids[*place as usize];
+        if id <= greatest {
+            keep_id(&mut kept, MOST_LISTED, id)?;
+            greatest = greatest_id(kept.as_slice(), MOST_LISTED);
+        }
     }
     Ok(Hits {
         ids: Ids::from_vec(kept),

@@ -1,6 +1,6 @@
 ghost use Rattle.std.specs.Prelude.{◌≡◌, ◌+◌, ◌*◌, ◌<◌, ◌≤◌, ◌^◌, ℕ, All, List, IfOk, length, map, take, zip};
 ghost use Rattle.fan_base.specs.declared.doc.Doc.{Doc};
-ghost use Rattle.query_model.specs.Answers.{hits_of, times_in};
+ghost use Rattle.query_model.specs.Answers.{hits_of, holding, times_in};
 ghost use Rattle.query_model.specs.Parts.{weighted_score, weighted_top};
 ghost use Rattle.shard_index.specs.Counting.{counts_of, DifferentWords};
 ghost use Rattle.shard_index.specs.Places.{has_word, holds_in, places_where, standing_of};
@@ -10,7 +10,7 @@ ghost use Rattle.shard_index.specs.Standing.{HasRoom, Indexes, Reads};
 use crate::counts::Counts;
 use crate::front::{below, distinct};
 use crate::hits::hits;
-use crate::marks::{count_marks, mark_at, no_marks};
+use crate::marks::{mark_at, no_marks};
 use crate::reading::Reading;
 use crate::selection::{Selection, both};
 use crate::totals::{add_at, first_scores, zeros};
@@ -70,6 +70,16 @@ impl Index {
         hits(alloc, &self.ids[..front], &selection)
     }
 
+    /// For how many documents the expression holds.
+    pub fn count(&self, alloc: Global, front: usize, e: &Expr) -> Result<u64, AllocError>
+        requires docs { (docs : List Doc) × Indexes self.now docs }
+        requires front { front ≤ length self.now.ids.items }
+        ensures { (docs : List Doc) → Indexes self.now docs → IfOk result (λ total. total ≡ length (holding e.now (take front docs))) }
+    {
+        let selection = self.select(alloc, front, e)?;
+        Ok(selection.count(front))
+    }
+
     /// The documents for which the expression holds. It calls itself once for each level of the tree.
     fn select(&self, alloc: Global, front: usize, e: &Expr) -> Result<Selection, AllocError>
         requires { (docs : List Doc) × Indexes self.now docs }
@@ -99,14 +109,15 @@ impl Index {
     {
         let mut with = Vec::new(alloc);
         let mut marks = no_marks(alloc, front)?;
+        let mut any = 0;
         for word in words {
             let places = self.places_with(alloc, front, word)?;
             with.push(places.len() as u64)?;
-            mark_at(&mut marks, places.as_slice());
+            any += mark_at(&mut marks, places.as_slice());
         }
         Ok(Counts {
             with: Numbers::from_vec(with),
-            any: count_marks(marks.as_slice()),
+            any,
         })
     }
 

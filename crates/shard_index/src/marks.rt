@@ -1,4 +1,4 @@
-ghost use Rattle.std.specs.Prelude.{◌≡◌, ◌<◌, All, IfOk, false, length, replicate};
+ghost use Rattle.std.specs.Prelude.{◌≡◌, ◌+◌, ◌<◌, All, IfOk, false, length, replicate};
 ghost use Rattle.std.specs.List.{count_by};
 ghost use Rattle.shard_index.specs.Totals.{marked_at};
 
@@ -11,23 +11,16 @@ pub fn no_marks(alloc: Global, count: usize) -> Result<Vec<bool>, AllocError>
     vec![in alloc; false; count]
 }
 
-/// Sets the marks at these places.
-pub fn mark_at(marks: &mut Vec<bool>, places: &[u32])
+/// Sets the marks at these places. Of how many places there was no mark before.
+pub fn mark_at(marks: &mut Vec<bool>, places: &[u32]) -> u64
     requires { All (λ place. place < length marks.old.items) places.now }
-    ensures { marks.new.items ≡ marked_at marks.old.items places.now }
+    ensures marks { marks.new.items ≡ marked_at marks.old.items places.now }
+    ensures new { count_by (λ mark. mark) marks.old.items + result ≡ count_by (λ mark. mark) marks.new.items }
 {
+    let mut new = 0;
     for place in places {
+        new += u64::from(!marks[*place as usize]);
         marks[*place as usize] = true;
     }
-}
-
-/// How many marks are set.
-pub fn count_marks(marks: &[bool]) -> u64
-    ensures { result ≡ count_by (λ mark. mark) marks.now }
-{
-    let mut count = 0;
-    for mark in marks {
-        count += u64::from(*mark);
-    }
-    count
+    new
 }

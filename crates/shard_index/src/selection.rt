@@ -1,4 +1,4 @@
-ghost use Rattle.std.specs.Prelude.{◌≡◌, List, Bool, not, ◌&&◌, ◌||◌, IfOk};
+ghost use Rattle.std.specs.Prelude.{◌≡◌, List, Bool, not, ◌&&◌, ◌||◌, IfOk, filter, length};
 ghost use Rattle.fan_base.specs.declared.doc.Doc.{Doc};
 ghost use Rattle.shard_index.specs.Places.{places_where};
 ghost use Rattle.shard_index.specs.Selections.{Selects};
@@ -23,6 +23,16 @@ impl Selection {
         match self {
             Selection::Those(places) => Selection::AllBut(places),
             Selection::AllBut(places) => Selection::Those(places),
+        }
+    }
+
+    /// How many of so many documents are selected.
+    pub fn count(&self, all: usize) -> u64
+        ensures { (test : Doc → Bool) (docs : List Doc) → length docs ≡ all → Selects self.now test docs → result ≡ length (filter test docs) }
+    {
+        match self {
+            Selection::Those(places) => places.len() as u64,
+            Selection::AllBut(places) => all.saturating_sub(places.len()) as u64,
         }
     }
 }

@@ -1,6 +1,6 @@
 ghost use Rattle.std.specs.Prelude.{◌≡◌, ◌<◌, ◌≤◌, ◌^◌, ℕ, All, List, IfOk, length, take};
 ghost use Rattle.fan_base.specs.declared.doc.Doc.{Doc};
-ghost use Rattle.query_model.specs.Answers.{hits_of};
+ghost use Rattle.query_model.specs.Answers.{hits_of, holding};
 ghost use Rattle.query_model.specs.Parts.{part_before, part_of, weighted_top};
 ghost use Rattle.shard_index.specs.Counting.{counts_of, DifferentWords};
 ghost use Rattle.shard_index.specs.Standing.{AreShort, Stands, StandsFor};
@@ -54,6 +54,15 @@ impl Shard {
             IfOk result (λ hits. hits ≡ hits_of e.now (part_before docs shards number before)) }
     {
         Ok(self.index.find(self.index.alloc(), self.front(before), e)?)
+    }
+
+    /// For how many documents the expression holds.
+    pub fn count(&self, e: &Expr, before: u32) -> Result<u64, Memory>
+        requires { Stands self.now }
+        ensures { (docs : List Doc) (shards number : ℕ) → StandsFor self.now docs shards number →
+            IfOk result (λ total. total ≡ length (holding e.now (part_before docs shards number before))) }
+    {
+        Ok(self.index.count(self.index.alloc(), self.front(before), e)?)
     }
 
     /// Of how many documents each word is one, and how many have one of them.

@@ -2,7 +2,7 @@ ghost use Rattle.std.specs.Prelude.{◌≡◌, ◌<◌, ◌^◌, All, IfOk, leng
 ghost use Rattle.query_model.specs.Answers.{ranked};
 ghost use Rattle.shard_index.specs.Totals.{added_at};
 
-use crate::best::keep_score;
+use crate::best::{keep_score, least_total};
 use fan_base::Scores;
 use std::alloc::{AllocError, Global};
 
@@ -35,9 +35,11 @@ pub fn first_scores(
     ensures { IfOk result (λ scores. scores ≡ take k (ranked (zip ids.now totals.now))) }
 {
     let mut kept = Vec::with_capacity(alloc, ids.len().min(k).saturating_add(1))?;
+    let mut least = 1;
     for i in 0..ids.len() {
-        if totals[i] > 0 {
+        if totals[i] >= least {
             keep_score(&mut kept, k, (ids[i], totals[i]))?;
+            least = least_total(kept.as_slice(), k);
         }
     }
     Ok(Scores::from_vec(kept))

@@ -5,4 +5,4 @@ use Rattle.shard_index.proofs.hits.hits_at.Goals as goal
 
 pub returns-clause-ids : goal.returns-clause-ids
 returns-clause-ids c =
-    c.from_vec.ensures ∙ (c.loop-place.invariant ∙ ap (λ ps. take 100 (sorted_by ltb (map (λ p. get_or c.args.ids.now p 0) ps))) (take_all c.loop-place.place-index c.args.places.now c.loop-place-test.false))
+    c.from_vec.ensures ∙ (c.loop-place.invariant.kept ∙ ap (λ ps. take 100 (sorted_by ltb (map (λ p. get_or c.args.ids.now p 0) ps))) (take_all c.loop-place.place-index c.args.places.now c.loop-place-test.false))
