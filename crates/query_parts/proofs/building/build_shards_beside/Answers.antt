@@ -1,5 +1,4 @@
-use Rattle.std.proofs.Common.{◌≡◌, length, ap, sym, arith, ◌∙◌, map, Ok}
-use Rattle.std.proofs.lemmas.List.{length-map}
+use Rattle.std.proofs.Common.{arith}
 use Rattle.std.proofs.lemmas.Result.{IfOk-weaker}
 use Rattle.query_parts.proofs.BuildLemmas.{all-stand}
 use Rattle.query_parts.proofs.building.build_shards_beside.Goals as goal
