@@ -9,6 +9,7 @@ use std::test::Fail;
 use std::thread::Threads;
 
 mod gates;
+mod lines;
 mod reports;
 
 /// What must come of words and an input.
@@ -43,7 +44,7 @@ const RED: &str = "doc 7 red apple\ndoc 4 red\nfind red\n";
 const MANY_RED: &str =
     "doc 7 red apple\ndoc 4 red\nfind red\nfind red\nfind red\nfind red\nfind red\nfind red\nfind red\nfind red\nfind red\nfind red\nfind red\nfind red\nfind red\nfind red\nfind red\nfind red\nfind red\n";
 
-fn answers() -> [Row; 14] {
+fn answers() -> [Row; 15] {
     [
         answered("", ""),
         answered(RED, "1 find 2: 4 7\n"),
@@ -73,6 +74,11 @@ fn answers() -> [Row; 14] {
         answered(
             "doc 9 a\ndoc 8 a\ndoc 7 a\ndoc 6 a\ndoc 5 a\ncount a\nfind a\n",
             "1 count 5\n2 find 5: 5 6 7 8 9\n",
+        ),
+        // As deep as an expression may be.
+        answered(
+            "doc 1 a\ndoc 2 b\nfind !!!!!!!!!!!!!!!!!!!!!!!!!!!!!!!!!!!!!!!!!!!!!!!!!!!!!!!!!!!!!!!!a\n",
+            "1 find 1: 1\n",
         ),
     ]
 }

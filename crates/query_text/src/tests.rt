@@ -140,6 +140,10 @@ fn first_fault_of_a_file(rt: HostRuntime) -> Result<(), Fail> {
         (b"tick 9999999\ncancel 7\ntick 1\n", ""),
         (b"find red\nfind (re", "error line 2: bad expression\n"),
         (b"doc 5 a\nhi exists a\nlo exists b\n", ""),
+        (
+            b"doc 4294967295 a\nafter 4294967295 top 100 a\ncancel 50000\ntick 10000000\nfind aaaaaaaaaaaaaaaaaaaaaaaaaaaaaaaa\n",
+            "",
+        ),
     ] {
         let found = error_of(rt.alloc(), text)?;
         assert_eq!(rt; found.as_slice(), wanted.as_bytes(), "{wanted}");
@@ -183,6 +187,41 @@ fn queries_times_shards(rt: HostRuntime) -> Result<(), Fail> {
     let found = read_input(rt.alloc(), text.as_slice(), 64).err();
     assert_eq!(rt; found, Some(InputFault::Bad(bad)));
     assert!(rt; read_input(rt.alloc(), text.as_slice(), 63).is_ok());
+    Ok(())
+}
+
+#[test]
+fn as_many_queries_as_there_may_be(rt: HostRuntime) -> Result<(), Fail> {
+    let mut text = repeated(rt.alloc(), b"", b"count a\n", 50_000)?;
+    assert!(rt; error_of(rt.alloc(), text.as_slice())?.is_empty());
+    text.extend_from_slice(b"count a\n")?;
+    let found = error_of(rt.alloc(), text.as_slice())?;
+    let wanted = b"error line 50001: too many queries\n".as_slice();
+    assert_eq!(rt; found.as_slice(), wanted);
+    Ok(())
+}
+
+#[test]
+fn as_many_documents_as_there_may_be(rt: HostRuntime) -> Result<(), Fail> {
+    let alloc = rt.alloc();
+    let mut text = Vec::new(alloc);
+    for id in 0..200_000u32 {
+        let line = format!(in alloc; "doc {id}\n")?;
+        text.extend_from_slice(line.as_bytes())?;
+    }
+    assert!(rt; error_of(alloc, text.as_slice())?.is_empty());
+    for (line, wanted) in [
+        (
+            b"doc 199999\n".as_slice(),
+            "error line 200001: duplicate document\n",
+        ),
+        (b"doc 200000\n", "error line 200001: too many documents\n"),
+    ] {
+        let mut more = text.as_slice().to_vec(alloc)?;
+        more.extend_from_slice(line)?;
+        let found = error_of(alloc, more.as_slice())?;
+        assert_eq!(rt; found.as_slice(), wanted.as_bytes());
+    }
     Ok(())
 }
 
