@@ -20,7 +20,6 @@ use Rattle.core_word.proofs.consumer.Consumer.TheSendSync as consumer_core_word
 use Rattle.core_word.proofs.fire.Fire.TheSendSync as fire_core_word
 use Rattle.core_word.proofs.home.Key.TheSendSync as key_core_word
 use Rattle.core_proxy.proofs.proxy.NoProxy.TheSendSync as noproxy_core_proxy
-use Rattle.collect_ops.proofs.Crossings as crossing_collect_ops
 use Rattle.notify_queue.proofs.Crossings as crossing_notify_queue
 use Rattle.job_trait.specs.declared.job.Headed.{Ghosts as HeadedGhosts}
 use Rattle.fan_parts.specs.declared.run_name.RunName.{Ghosts}
@@ -37,7 +36,7 @@ use Rattle.fan_parts.specs.contracts.ask.NumberedAsk.TheInside as of_numbered
 use Rattle.fan_parts.specs.contracts.cores.End as end
 use Rattle.fan_parts.specs.contracts.cores.End.TheInside as of_end
 use Rattle.fan_parts.specs.contracts.cores.PartCallback as part_callback
-use Rattle.fan_parts.specs.contracts.cores.PartCallback.TheInside as of_part_callback
+use Rattle.fan_parts.proofs.cores.PartCallback.TheSendSync as part_callback_own
 use Rattle.fan_parts.specs.contracts.jobs.Scoring as scoring
 use Rattle.fan_parts.specs.contracts.jobs.Scoring.TheInside as of_scoring
 use Rattle.fan_parts.specs.contracts.jobs.GatherJob as gather_job
@@ -46,6 +45,7 @@ use Rattle.fan_parts.specs.contracts.poster.BasePoster as poster
 use Rattle.fan_parts.specs.contracts.poster.BasePoster.TheInside as of_poster
 use Rattle.fan_parts.specs.contracts.shards.RunShards as shards
 use Rattle.fan_parts.proofs.jobs.PrintJob.TheSendSync as print_own
+use Rattle.fan_parts.proofs.jobs.GatherJob.TheSendSync as gather_own
 use Rattle.fan_parts.proofs.shards.RunShards.TheSendSync as shards_own
 use Rattle.shard_index.proofs.Crossings as crossing_shard_index
 
@@ -92,29 +92,23 @@ end_inside r i N g n = recorded_send (of_end.the_field r i N g).row _ _ (of_end.
 pub End-send : (r i : NamedLft) (N : RattleType) (g : Ghosts N.Denot) → IsSend N → IsSend (end.the_row r i N g)
 End-send r i N g n = view_send (of_end.the_row r i N g) _ _ _ _ (end_inside r i N g n)
 
-part_callback_inside : (d r i : NamedLft) (N : RattleType) (g : Ghosts N.Denot) → IsSend N → IsSend (of_part_callback.the_row d r i N g)
-part_callback_inside d r i N g n = recorded_send (of_part_callback.the_field d r i N g).row _ _ (of_part_callback.the_type d r i N g).to_one (struct_send (shape (of_part_callback.the_type d r i N g)) (
-  search (crossing_collect_ops.Arrival-send, End-send, part_own.the_send, try_fan_base.the_send, all) depth 60 fits 20000,
-  (search all depth 60 fits 20000, (search all depth 60 fits 20000, (search (exec_fan_base.the_send, all) depth 60 fits 20000, tt))),
-))
-
-pub PartCallback-send : (d r i : NamedLft) (N : RattleType) (g : Ghosts N.Denot) → IsSend N → IsSend (part_callback.the_row d r i N g)
-PartCallback-send d r i N g n = view_send (of_part_callback.the_row d r i N g) _ _ _ _ (part_callback_inside d r i N g n)
+pub PartCallback-send : (N : RattleType) (g : Ghosts N.Denot) → IsSend N → IsSend (part_callback.the_row N g)
+PartCallback-send N g n = search (part_callback_own.the_send, exec_fan_base.the_send, all) depth 60 fits 20000
 
 scoring_inside : (i : NamedLft) (N : RattleType) (g : Ghosts N.Denot) → IsSend N → IsSend (of_scoring.the_row i N g)
 scoring_inside i N g n = recorded_send (of_scoring.the_field i N g).row _ _ (of_scoring.the_type i N g).to_one (struct_send (shape (of_scoring.the_type i N g)) (
   search halves depth 60 fits 20000,
   (
     search (NumberedAsk-send, all) depth 60 fits 20000,
-    (search all depth 60 fits 20000, (search (crossing_query_parts.Ranking-send, all) depth 60 fits 20000, (search (exec_fan_base.the_send, all) depth 60 fits 20000, tt))),
+    (search all depth 60 fits 20000, (search (crossing_query_parts.Ranking-send, all) depth 60 fits 20000, tt)),
   ),
 ))
 
 pub Scoring-send : (i : NamedLft) (N : RattleType) (g : Ghosts N.Denot) → IsSend N → IsSend (scoring.the_row i N g)
 Scoring-send i N g n = view_send (of_scoring.the_row i N g) _ _ _ _ (scoring_inside i N g n)
 
-pub GatherJob-send : (d r i : NamedLft) (N : RattleType) (g : Ghosts N.Denot) → IsSend N → IsSend (gather_job.the_row d r i N g)
-GatherJob-send d r i N g n = search (fire_core_word.the_send, try_fan_base.the_send, part_own.the_send, PartCallback-send, Scoring-send, all) depth 60 fits 20000
+pub GatherJob-send : (N : RattleType) (g : Ghosts N.Denot) → IsSend N → IsSend (gather_job.the_row N g)
+GatherJob-send N g n = search (gather_own.the_send, fire_core_word.the_send, try_fan_base.the_send, part_own.the_send, PartCallback-send, exec_fan_base.the_send, all) depth 60 fits 20000
 
 pub PrintJob-send : (N : RattleType) (g : Ghosts N.Denot) → IsSend N → IsSend (print_job.the_row N g)
 PrintJob-send N g n = search (print_own.the_send, all) depth 60 fits 20000

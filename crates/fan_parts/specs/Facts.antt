@@ -1,5 +1,5 @@
 -- What the types of a run keep of the input that it is over.
-use Rattle.std.specs.Prelude.{◌≡◌, ℕ, ◌-◌, ◌<◌, ◌≤◌, ◌^◌, List, true, Some, IfSome, length, take, is_some}
+use Rattle.std.specs.Prelude.{◌≡◌, ℕ, ◌-◌, ◌<◌, ◌≤◌, ◌^◌, List, true, Some, length, take, is_some}
 use Rattle.std.specs.List.{slice_get}
 use Rattle.fan_base.specs.declared.word.Word.{Word}
 use Rattle.core_word.specs.declared.view.Sight.TheVariants as seen
@@ -77,12 +77,8 @@ pub record IsEnd (asked : Asking) (end : EndSeen) : Type 0 where
   pub awaited : end.reply.sight ≡ seen.CallbackLeft
   pub inner : is_top end.ask.asks ≡ is_some end.inner
 
--- The callback of the task of this query and this shard: its arrival is of this index, at a desk for as many parts as there are shards, whose end is
--- this query's; and the executor is that of the base on which this query is gathered.
+-- The callback of the task of this query and this shard: the shard is one of the run's, and the executor is that of the base on which this query is gathered.
 pub record IsTaskCallback (asked : Asking) (callback : CallbackSeen) : Type 0 where
-  pub index : callback.arrival.index ≡ callback.shard
-  pub size : callback.arrival.desk.size ≡ asked.shards
-  pub end : IfSome callback.arrival.desk.end (λ end. end.ask.number ≡ callback.number)
   pub within : callback.shard < asked.shards
   pub few : callback.number ≤ 50000
   pub exec : callback.exec ≡ record { 0 = base_of asked.bases callback.number }

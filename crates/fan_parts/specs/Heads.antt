@@ -15,7 +15,7 @@ module _ {N : Type 0} where
   -- a task has the id of its query and shard; a scoring has its place behind all ids of tasks
   abbrev pub gather_head : GatherJob N → Head
   gather_head (gather.Task fire) = record { id = job_of fire.callback.number fire.callback.shard; exec = fire.callback.exec; number = 0 }
-  gather_head (gather.Score scoring) = record { id = record { 0 = first_scoring + scoring.place }; exec = scoring.exec; number = 0 }
+  gather_head (gather.Score call) = record { id = record { 0 = first_scoring + call.place }; exec = call.exec; number = 0 }
 
   -- the place of the reply, which is the number of its core
   abbrev pub print_id : PrintJob N → ℕ

@@ -4,7 +4,6 @@ use Rattle.fan_base.specs.declared.number.ExecId.{ExecId}
 use Rattle.query_model.specs.declared.line.Ask.{Ask}
 use Rattle.query_model.specs.declared.reply.Reply.{Reply}
 use Rattle.core_word.specs.Seen.{SeenProducer, SeenKey}
-use Rattle.collect_ops.specs.Seen.{ArrivalSeen}
 use Rattle.notify_queue.specs.Ends.{Sending}
 use Rattle.query_parts.specs.declared.part.PartAnswer.{PartAnswer}
 use Rattle.query_parts.specs.declared.ranking.Ranking.{Ranking}
@@ -40,20 +39,18 @@ pub record EndSeen : Type 0 where
   pub place : ℕ
   pub inner : Option SeenKey
 
--- The callback of a task's core: the arrival that its part is for, its query's number and its shard, and the executor.
+-- The callback of a task's core: its query's number and its shard, and the executor of the query's base.
 pub record CallbackSeen : Type 0 where
-  pub arrival : ArrivalSeen EndSeen
   pub number : ℕ
   pub shard : ℕ
   pub exec : ExecId
 
--- The scoring of a query: the producer of its inner core, the query, the place of its reply, its ranking, and the executor.
+-- The scoring of a query: the producer of its inner core, the query, the place of its reply, and its ranking.
 pub record ScoringSeen : Type 0 where
   pub inner : SeenProducer
   pub ask : AskSeen
   pub place : ℕ
   pub ranking : Ranking
-  pub exec : ExecId
 
 -- what was put to a base, and the executor that all of it has
 pub record PosterSeen (J : Type 0) : Type 0 where

@@ -1,5 +1,5 @@
 -- What a tally shows where something was spent.
-use Rattle.std.specs.Prelude.{◌≡◌, ◌⊎◌}
+use Rattle.std.specs.Prelude.{◌≡◌}
 use Rattle.core_word.specs.Count.{Counts, raised}
 use Rattle.fan_parts.specs.declared.jobs.GatherJob.{GatherJob}
 use Rattle.fan_parts.specs.declared.jobs.GatherJob.TheVariants as gather
@@ -14,14 +14,10 @@ with_fire counts = record counts { handed = raised counts.handed }
 abbrev pub with_core : Counts → Counts
 with_core counts = record counts { handed = raised counts.handed; freed = raised counts.freed }
 
--- the fire of a task was unpacked; where its arrival completed a desk, so was that of a reply's core, which was freed
-abbrev pub SpendsTask : Counts → Counts → Type 0
-SpendsTask old new = (new ≡ with_fire old) ⊎ (new ≡ with_core (with_fire old))
-
 module _ {N : Type 0} where
   abbrev pub SpendsGatherJob : GatherJob N → Counts → Counts → Type 0
-  SpendsGatherJob (gather.Task fire) old new = SpendsTask old new
-  SpendsGatherJob (gather.Score scoring) old new = new ≡ with_core old
+  SpendsGatherJob (gather.Task fire) old new = new ≡ with_fire old
+  SpendsGatherJob (gather.Score call) old new = new ≡ old
 
   abbrev pub SpendsPrintJob : PrintJob N → Counts → Counts → Type 0
   SpendsPrintJob (print.Replied fire) old new = new ≡ with_fire old

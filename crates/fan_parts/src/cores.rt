@@ -9,7 +9,7 @@ use collect_ops::{AllDesk, Arrival};
 use core_proxy::NoProxy;
 use core_word::{Consumer, Fire, Home, Key, Producer};
 use fan_base::ExecId;
-use std::marker::Model;
+use std::marker::{Model, PhantomData};
 
 /// A reply with its callback, of a reply's core or of an inner core.
 pub type ReplyFire<N> = Fire<PlacedReply<N>, ReplyCallback<N>>;
@@ -48,26 +48,16 @@ pub type PartDesk<'r, 'i, N> = AllDesk<Part<N>, End<'r, 'i, N>>;
 pub type PartArrival<'d, 'r, 'i, N> = Arrival<'d, PartDesk<'r, 'i, N>>;
 
 /// A part with its callback, of a task's core.
-pub type TaskFire<'d, 'r, 'i, N> = Fire<Part<N>, PartCallback<'d, 'r, 'i, N>>;
+pub type TaskFire<N> = Fire<Part<N>, PartCallback<N>>;
 
 /// The memory of a task's core.
-pub type TaskHome<'d, 'r, 'i, N> = Home<Part<N>, PartCallback<'d, 'r, 'i, N>, NoProxy>;
+pub type TaskHome<N> = Home<Part<N>, PartCallback<N>, NoProxy>;
 
-pub type TaskKey<'t, 'd, 'r, 'i, N> = Key<'t, Part<N>, PartCallback<'d, 'r, 'i, N>, NoProxy>;
+pub type TaskKey<'t, N> = Key<'t, Part<N>, PartCallback<N>, NoProxy>;
 
-pub type TaskProducer<'t, 'd, 'r, 'i, N> = Producer<
-    't,
-    Part<N>,
-    PartCallback<'d, 'r, 'i, N>,
-    NoProxy,
->;
+pub type TaskProducer<'t, N> = Producer<'t, Part<N>, PartCallback<N>, NoProxy>;
 
-pub type TaskConsumer<'t, 'd, 'r, 'i, N> = Consumer<
-    't,
-    Part<N>,
-    PartCallback<'d, 'r, 'i, N>,
-    NoProxy,
->;
+pub type TaskConsumer<'t, N> = Consumer<'t, Part<N>, PartCallback<N>, NoProxy>;
 
 /// What the last arrival at a query's desk gets: the producer of the reply's core, whose callback is set and whose consumer has left;
 /// the query and the place of its reply; and for `top` the key of the inner core. It must be spent.
@@ -135,46 +125,37 @@ impl<'r, 'i, N: RunName> End<'r, 'i, N> {
     }
 }
 
-/// The callback of a task's core: the part is to arrive at its query's desk, on the base with this executor. It must be spent.
-pub struct PartCallback<'d, 'r, 'i, N: RunName> {
-    arrival: PartArrival<'d, 'r, 'i, N>,
+/// The callback of a task's core: the part is for its query's desk, on the base with this executor. It may be dropped.
+#[derive(Drop)]
+pub struct PartCallback<N: RunName> {
     number: u32,
     shard: u32,
     exec: ExecId,
+    of: PhantomData<N>,
 }
 
-impl<'d, 'r, 'i, N: RunName> Model for PartCallback<'d, 'r, 'i, N> {
+impl<N: RunName> Model for PartCallback<N> {
     ghost use Rattle.fan_parts.specs.Facts.{IsTaskCallback};
     ghost use Rattle.fan_parts.specs.Seen.{CallbackSeen};
 
     ghost Value = { CallbackSeen };
 
-    ghost view = { λ c. record { arrival = c.arrival; number = c.number; shard = c.shard; exec = c.exec } };
+    ghost view = { λ c. record { number = c.number; shard = c.shard; exec = c.exec } };
 
-    ghost invariant = { λ c. IsTaskCallback N.asked (record { arrival = c.arrival; number = c.number; shard = c.shard; exec = c.exec }) };
-
-    ghost use Rattle.query_grammar.specs.contracts.expr.Expr as expr;
-    ghost use Rattle.std.specs.Coded.{codes};
-
-    ghost coded = { Prim.hlevel (codes, expr.the_row.coded) };
+    ghost invariant = { λ c. IsTaskCallback N.asked (record { number = c.number; shard = c.shard; exec = c.exec }) };
 }
 
-impl<'d, 'r, 'i, N: RunName> PartCallback<'d, 'r, 'i, N> {
+impl<N: RunName> PartCallback<N> {
     /// The callback of the task of this query and this shard.
-    pub fn new(
-        arrival: PartArrival<'d, 'r, 'i, N>,
-        number: u32,
-        shard: u32,
-        exec: ExecId,
-    ) -> PartCallback<'d, 'r, 'i, N>
-        requires { IsTaskCallback N.asked (record { arrival = arrival; number = number; shard = shard; exec = exec }) }
-        ensures { result ≡ record { arrival = arrival.entry; number = number; shard = shard; exec = exec } }
+    pub fn new(number: u32, shard: u32, exec: ExecId) -> PartCallback<N>
+        requires { IsTaskCallback N.asked (record { number = number; shard = shard; exec = exec }) }
+        ensures { result ≡ record { number = number; shard = shard; exec = exec } }
     {
         PartCallback {
-            arrival,
             number,
             shard,
             exec,
+            of: PhantomData,
         }
     }
 
@@ -199,19 +180,5 @@ impl<'d, 'r, 'i, N: RunName> PartCallback<'d, 'r, 'i, N> {
         ensures is_callback { IsTaskCallback N.asked self.now }
     {
         self.exec
-    }
-
-    /// The arrival that its part is for.
-    pub fn into_arrival(self) -> PartArrival<'d, 'r, 'i, N>
-        ensures arrival { result ≡ self.entry.arrival }
-        ensures is_callback { IsTaskCallback N.asked self.entry }
-    {
-        let PartCallback {
-            arrival,
-            number: _,
-            shard: _,
-            exec: _,
-        } = self;
-        arrival
     }
 }

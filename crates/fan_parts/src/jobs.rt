@@ -19,7 +19,6 @@ pub struct Scoring<'i, N: RunName> {
     ask: NumberedAsk<'i, N>,
     place: u32,
     ranking: Ranking,
-    exec: ExecId,
 }
 
 impl<'i, N: RunName> Model for Scoring<'i, N> {
@@ -28,9 +27,9 @@ impl<'i, N: RunName> Model for Scoring<'i, N> {
 
     ghost Value = { ScoringSeen };
 
-    ghost view = { λ s. record { inner = s.inner; ask = s.ask; place = s.place; ranking = s.ranking; exec = s.exec } };
+    ghost view = { λ s. record { inner = s.inner; ask = s.ask; place = s.place; ranking = s.ranking } };
 
-    ghost invariant = { λ s. IsScoring N.asked (record { inner = s.inner; ask = s.ask; place = s.place; ranking = s.ranking; exec = s.exec }) };
+    ghost invariant = { λ s. IsScoring N.asked (record { inner = s.inner; ask = s.ask; place = s.place; ranking = s.ranking }) };
 
     ghost use Rattle.query_grammar.specs.contracts.expr.Expr as expr;
     ghost use Rattle.std.specs.Coded.{codes};
@@ -39,23 +38,21 @@ impl<'i, N: RunName> Model for Scoring<'i, N> {
 }
 
 impl<'i, N: RunName> Scoring<'i, N> {
-    /// The scoring of this query by this ranking, on the base with this executor.
+    /// The scoring of this query by this ranking.
     pub fn new(
         inner: InnerProducer<'i, N>,
         ask: NumberedAsk<'i, N>,
         place: u32,
         ranking: Ranking,
-        exec: ExecId,
     ) -> Scoring<'i, N>
-        requires { IsScoring N.asked (record { inner = inner; ask = ask; place = place; ranking = ranking; exec = exec }) }
-        ensures { result ≡ record { inner = inner.entry; ask = ask.entry; place = place; ranking = ranking; exec = exec } }
+        requires { IsScoring N.asked (record { inner = inner; ask = ask; place = place; ranking = ranking }) }
+        ensures { result ≡ record { inner = inner.entry; ask = ask.entry; place = place; ranking = ranking } }
     {
         Scoring {
             inner,
             ask,
             place,
             ranking,
-            exec,
         }
     }
 
@@ -69,7 +66,6 @@ impl<'i, N: RunName> Scoring<'i, N> {
             ask,
             place,
             ranking,
-            exec: _,
         } = self;
         (inner, ask, place, ranking)
     }
@@ -80,24 +76,24 @@ impl<'i, N: RunName> Scoring<'i, N> {
     {
         self.place
     }
-
-    /// The executor of its base.
-    pub fn exec(&self) -> ExecId
-        ensures { result ≡ self.now.exec }
-    {
-        self.exec
-    }
 }
 
-/// What runs on a gathering base. It must be spent.
-pub enum GatherJob<'d, 'r, 'i, N: RunName> {
+/// That the scoring of the query whose reply has a place is to be made, on the base with this executor. It may be dropped.
+#[derive(Clone, Copy, Debug, PartialEq, Eq)]
+pub struct ScoreCall {
+    pub place: u32,
+    pub exec: ExecId,
+}
+
+/// What runs on a gathering base. A fire must be unpacked.
+pub enum GatherJob<N: RunName> {
     /// A part that fired, posted by who got the fire.
-    Task(TaskFire<'d, 'r, 'i, N>),
+    Task(TaskFire<N>),
     /// A loop callback.
-    Score(Scoring<'i, N>),
+    Score(ScoreCall),
 }
 
-impl<'d, 'r: 'd, 'i: 'r, N: RunName> Headed for GatherJob<'d, 'r, 'i, N> {
+impl<N: RunName> Headed for GatherJob<N> {
     ghost use Rattle.fan_parts.specs.Heads.{gather_head};
 
     ghost head = { gather_head };
@@ -108,14 +104,14 @@ impl<'d, 'r: 'd, 'i: 'r, N: RunName> Headed for GatherJob<'d, 'r, 'i, N> {
                 let callback = fire.callback();
                 JobId(64 * u64::from(callback.number()) + u64::from(callback.shard()))
             }
-            GatherJob::Score(scoring) => JobId(FIRST_SCORING + u64::from(scoring.place())),
+            GatherJob::Score(call) => JobId(FIRST_SCORING + u64::from(call.place)),
         }
     }
 
     fn exec(&self) -> ExecId {
         match self {
             GatherJob::Task(fire) => fire.callback().exec(),
-            GatherJob::Score(scoring) => scoring.exec(),
+            GatherJob::Score(call) => call.exec,
         }
     }
 }

@@ -16,13 +16,15 @@ pub use cores::{
     ReplyConsumer, ReplyFire, ReplyHome, ReplyKey, ReplyProducer, TaskConsumer, TaskFire, TaskHome,
     TaskKey, TaskProducer,
 };
-pub use jobs::{GatherJob, PrintJob, Scoring};
+pub use jobs::{GatherJob, PrintJob, ScoreCall, Scoring};
 pub use part::Part;
 pub use poster::BasePoster;
 pub use reply::{CancelledReply, PlacedReply, ReplyCallback};
 pub use run_name::RunName;
 pub use shards::RunShards;
-pub use spending::{spend_gather_job, spend_print_job, spend_reply, spend_scoring, spend_task};
+pub use spending::{
+    spend_end, spend_gather_job, spend_print_job, spend_reply, spend_scoring, spend_task,
+};
 
 mod ask;
 mod awaited;

@@ -11,9 +11,9 @@ use fan_parts::{GatherJob, RunName, TaskFire, spend_gather_job};
 use job_trait::Job;
 use std::sync::Wait;
 
-impl<'c, 't, 'd: 't, 'r: 'd, 'i: 'r, N: RunName> TaskWorld<'c, 't, 'd, 'r, 'i, N> {
+impl<'c, 't, 'i: 't, N: RunName> TaskWorld<'c, 't, 'i, N> {
     /// Posts a fire to the base of its callback. Where that finds no memory, the fire is spent.
-    pub(crate) fn post<R: Wait>(&mut self, rt: &R, fire: TaskFire<'d, 'r, 'i, N>)
+    pub(crate) fn post<R: Wait>(&mut self, rt: &R, fire: TaskFire<N>)
         ensures follows { Follows self.old self.new }
         ensures tally { self.new.refused ≡ false → self.new.tally ≡ self.old.tally }
     {
@@ -28,13 +28,13 @@ impl<'c, 't, 'd: 't, 'r: 'd, 'i: 'r, N: RunName> TaskWorld<'c, 't, 'd, 'r, 'i, N
     }
 }
 
-impl<'c, 't, 'd: 't, 'r: 'd, 'i: 'r, N: RunName> Job<TaskWorld<'c, 't, 'd, 'r, 'i, N>>
-    for ShardTask<'t, 'd, 'r, 'i, N> {
+impl<'c, 't, 'i: 't, N: RunName> Job<TaskWorld<'c, 't, 'i, N>>
+    for ShardTask<'t, 'i, N> {
     ghost use Rattle.run_tasks.specs.Worlds.{TaskRan};
 
     ghost runs = { TaskRan };
 
-    fn run<R: Wait>(self, rt: &R, world: &mut TaskWorld<'c, 't, 'd, 'r, 'i, N>) -> Mark {
+    fn run<R: Wait>(self, rt: &R, world: &mut TaskWorld<'c, 't, 'i, N>) -> Mark {
         let ShardTask {
             producer,
             ask,

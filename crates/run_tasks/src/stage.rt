@@ -7,24 +7,24 @@ ghost use Rattle.run_tasks.specs.Worlds.{AreEndsFor, Follows, StaysPass, told_of
 use crate::task::ShardTask;
 use crate::world::{TaskEnds, TaskWorld};
 use fan_base::Gate;
-use fan_parts::{GatherJob, RunName};
+use fan_parts::RunName;
 use prio_pool::{Pool, WorkerEnd, WorkerPass};
 use std::sync::Wait;
 
 /// What a worker leaves: its end, which the pool's end asks for, and what is left of its world.
-pub struct WorkerStage<'t, 'd: 't, 'r: 'd, 'i: 'r, N: RunName> {
-    pub end: WorkerEnd<ShardTask<'t, 'd, 'r, 'i, N>>,
-    pub ends: TaskEnds<'t, 'd, 'r, 'i, N>,
+pub struct WorkerStage<'t, 'i: 't, N: RunName> {
+    pub end: WorkerEnd<ShardTask<'t, 'i, N>>,
+    pub ends: TaskEnds<'t, N>,
 }
 
 /// Works for the pool on a world of its own, until the pool's end, and then ends the world.
-pub fn work_tasks<'c, 't, 'd: 't, 'r: 'd, 'i: 'r, N: RunName + 'static, G: Gate, R: Wait>(
+pub fn work_tasks<'c, 't, 'i: 't, N: RunName + 'static, G: Gate, R: Wait>(
     rt: &R,
-    pool: &Pool<ShardTask<'t, 'd, 'r, 'i, N>>,
-    pass: WorkerPass<ShardTask<'t, 'd, 'r, 'i, N>>,
-    mut world: TaskWorld<'c, 't, 'd, 'r, 'i, N>,
+    pool: &Pool<ShardTask<'t, 'i, N>>,
+    pass: WorkerPass<ShardTask<'t, 'i, N>>,
+    mut world: TaskWorld<'c, 't, 'i, N>,
     gate: &G,
-) -> WorkerStage<'t, 'd, 'r, 'i, N>
+) -> WorkerStage<'t, 'i, N>
     requires { pass.pool ≡ pool.now.id }
     ensures end { (result.end.pool ≡ pass.entry.pool) × (result.end.number ≡ pass.entry.number) }
     ensures marks { result.ends.refused ≡ false → All (λ r. IsDone r.mark) result.end.records }
@@ -33,24 +33,21 @@ pub fn work_tasks<'c, 't, 'd: 't, 'r: 'd, 'i: 'r, N: RunName + 'static, G: Gate,
     ensures posters { AreEndsFor (map told_of world.entry.posters) result.ends.posters.items }
     ensures pass { StaysPass world.entry.pass result.ends.pass }
 {
-    let none: Option<GatherJob<'d, 'r, 'i, N>> = None;
-    let end = work_on(rt, pool, pass, &mut world, gate, &none);
-    let None = none else { unreachable!() };
+    let end = work_on(rt, pool, pass, &mut world, gate);
     WorkerStage {
         end,
         ends: world.end(rt),
     }
 }
 
-/// Works for the pool until its end. What is in `_none` isn't read: its type tells for how long lives what a task posts.
-fn work_on<'c, 't, 'd: 't, 'r: 'd, 'i: 'r, N: RunName + 'static, G: Gate, R: Wait>(
+/// Works for the pool until its end.
+fn work_on<'c, 't, 'i: 't, N: RunName + 'static, G: Gate, R: Wait>(
     rt: &R,
-    pool: &Pool<ShardTask<'t, 'd, 'r, 'i, N>>,
-    pass: WorkerPass<ShardTask<'t, 'd, 'r, 'i, N>>,
-    world: &mut TaskWorld<'c, 't, 'd, 'r, 'i, N>,
+    pool: &Pool<ShardTask<'t, 'i, N>>,
+    pass: WorkerPass<ShardTask<'t, 'i, N>>,
+    world: &mut TaskWorld<'c, 't, 'i, N>,
     gate: &G,
-    _none: &Option<GatherJob<'d, 'r, 'i, N>>,
-) -> WorkerEnd<ShardTask<'t, 'd, 'r, 'i, N>>
+) -> WorkerEnd<ShardTask<'t, 'i, N>>
     requires { pass.pool ≡ pool.now.id }
     ensures end { (result.pool ≡ pass.entry.pool) × (result.number ≡ pass.entry.number) }
     ensures marks { world.new.refused ≡ false → All (λ r. IsDone r.mark) result.records }

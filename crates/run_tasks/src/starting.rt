@@ -14,7 +14,7 @@ use fan_base::Try;
 use fan_parts::{PartCallback, RunName, TaskConsumer, TaskProducer};
 use std::sync::Wait;
 
-impl<'c, 't, 'd: 't, 'r: 'd, 'i: 'r, N: RunName> TaskWorld<'c, 't, 'd, 'r, 'i, N> {
+impl<'c, 't, 'i: 't, N: RunName> TaskWorld<'c, 't, 'i, N> {
     /// Begins a task's core with this number in a free cell. None where no cell was free at a moment of this call.
     pub fn begin_core<R: Wait>(
         &mut self,
@@ -22,8 +22,8 @@ impl<'c, 't, 'd: 't, 'r: 'd, 'i: 'r, N: RunName> TaskWorld<'c, 't, 'd, 'r, 'i, N
         no: u64,
     ) -> Option<
         (
-            TaskProducer<'t, 'd, 'r, 'i, N>,
-            TaskConsumer<'t, 'd, 'r, 'i, N>,
+            TaskProducer<'t, N>,
+            TaskConsumer<'t, N>,
         ),
     >
         ensures follows { Follows self.old self.new }
@@ -42,8 +42,8 @@ impl<'c, 't, 'd: 't, 'r: 'd, 'i: 'r, N: RunName> TaskWorld<'c, 't, 'd, 'r, 'i, N
     pub fn give<R: Wait>(
         &mut self,
         rt: &R,
-        consumer: TaskConsumer<'t, 'd, 'r, 'i, N>,
-        callback: PartCallback<'d, 'r, 'i, N>,
+        consumer: TaskConsumer<'t, N>,
+        callback: PartCallback<N>,
     )
         ensures follows { Follows self.old self.new }
         ensures tally { self.new.refused ≡ false → CountsLeave self.old.tally self.new.tally }
@@ -58,7 +58,7 @@ impl<'c, 't, 'd: 't, 'r: 'd, 'i: 'r, N: RunName> TaskWorld<'c, 't, 'd, 'r, 'i, N
     }
 
     /// Spends a task that found no memory where it was added: its core gets want of memory. Memory was refused, which is noted.
-    pub fn spend<R: Wait>(&mut self, rt: &R, task: ShardTask<'t, 'd, 'r, 'i, N>)
+    pub fn spend<R: Wait>(&mut self, rt: &R, task: ShardTask<'t, 'i, N>)
         ensures follows { Follows self.old self.new }
         ensures refused { self.new.refused ≡ true }
     {

@@ -7,14 +7,14 @@ use job_trait::Headed;
 use std::marker::Model;
 
 /// The task of a query over a shard. It must be run.
-pub struct ShardTask<'t, 'd, 'r, 'i, N: RunName> {
-    pub(crate) producer: TaskProducer<'t, 'd, 'r, 'i, N>,
+pub struct ShardTask<'t, 'i, N: RunName> {
+    pub(crate) producer: TaskProducer<'t, N>,
     pub(crate) ask: NumberedAsk<'i, N>,
     pub(crate) shard: u32,
     pub(crate) exec: ExecId,
 }
 
-impl<'t, 'd, 'r, 'i, N: RunName> Model for ShardTask<'t, 'd, 'r, 'i, N> {
+impl<'t, 'i, N: RunName> Model for ShardTask<'t, 'i, N> {
     ghost use Rattle.std.specs.Prelude.{◌<◌};
     ghost use Rattle.run_tasks.specs.Seen.{TaskSeen};
 
@@ -30,14 +30,14 @@ impl<'t, 'd, 'r, 'i, N: RunName> Model for ShardTask<'t, 'd, 'r, 'i, N> {
     ghost coded = { Prim.hlevel (codes, expr.the_row.coded) };
 }
 
-impl<'t, 'd: 't, 'r: 'd, 'i: 'r, N: RunName> ShardTask<'t, 'd, 'r, 'i, N> {
+impl<'t, 'i: 't, N: RunName> ShardTask<'t, 'i, N> {
     /// The task of this query over the shard with this number. It sets the value of the producer's core, and runs on this executor.
     pub fn new(
-        producer: TaskProducer<'t, 'd, 'r, 'i, N>,
+        producer: TaskProducer<'t, N>,
         ask: NumberedAsk<'i, N>,
         shard: u32,
         exec: ExecId,
-    ) -> ShardTask<'t, 'd, 'r, 'i, N>
+    ) -> ShardTask<'t, 'i, N>
         requires { shard < N.asked.shards }
         ensures { result ≡ record { producer = producer.entry; ask = ask.entry; shard = shard; exec = exec } }
     {
@@ -50,7 +50,7 @@ impl<'t, 'd: 't, 'r: 'd, 'i: 'r, N: RunName> ShardTask<'t, 'd, 'r, 'i, N> {
     }
 }
 
-impl<'t, 'd: 't, 'r: 'd, 'i: 'r, N: RunName> Headed for ShardTask<'t, 'd, 'r, 'i, N> {
+impl<'t, 'i: 't, N: RunName> Headed for ShardTask<'t, 'i, N> {
     ghost use Rattle.run_tasks.specs.Heads.{task_head};
 
     ghost head = { task_head N.asked };
