@@ -1,4 +1,4 @@
-ghost use Rattle.std.specs.Prelude.{◌≡◌, ◌+◌, ◌<◌, ◌≤◌, None, OnErr, IfOk};
+ghost use Rattle.std.specs.Prelude.{◌≡◌, ◌<◌, ◌≤◌, None, OnErr, IfOk};
 ghost use Rattle.fan_model.specs.Notes.{base_of};
 ghost use Rattle.fan_parts.specs.Facts.{IsCountable};
 ghost use Rattle.fan_parts.specs.Spending.{with_core};
@@ -6,8 +6,8 @@ ghost use Rattle.query_opening.specs.Turns.{IsDeskOf};
 
 use collect_ops::{Arrivals, Desk};
 use core_word::Tally;
-use fan_base::{ExecId, Memory, Refused, Try};
-use fan_parts::{End, PartCallback, PartDesk, RunName, fulfil_awaited, spend_reply};
+use fan_base::{ExecId, Memory, Refused};
+use fan_parts::{End, PartCallback, PartDesk, RunName, spend_end};
 use std::alloc::Global;
 use std::mem;
 
@@ -39,31 +39,19 @@ pub fn open_desk<'d, 'r: 'd, 'i: 'r, N: RunName>(
             }
         }
         Err(Refused::Memory(end)) => {
-            let (reply, _ask, _place, _inner) = end.into_parts();
-            let fire = fulfil_awaited(reply, Try::Memory, t);
-            spend_reply(fire, t);
+            spend_end(end, t);
             Err(Memory)
         }
     }
 }
 
-/// The callback of the next task of a query, for the base on which it is gathered: that of the shard with the arrival's index.
-pub fn task_callback<'d, 'r: 'd, 'i: 'r, N: RunName>(
-    arrivals: &mut Arrivals<'d, PartDesk<'r, 'i, N>>,
-    number: u32,
-    exec: ExecId,
-) -> PartCallback<'d, 'r, 'i, N>
-    requires desk { IsDeskOf N.asked number arrivals.old.desk }
-    requires left { arrivals.old.next < arrivals.old.desk.size }
+/// The callback of the task of a query over a shard, for the base on which the query is gathered.
+pub fn task_callback<N: RunName>(number: u32, shard: u32, exec: ExecId) -> PartCallback<N>
+    requires shard { shard < N.asked.shards }
     requires few { number ≤ 50000 }
     requires exec { exec ≡ record { 0 = base_of N.asked.bases number } }
     requires countable { IsCountable N.asked }
-    ensures callback { result ≡ record { arrival = record { desk = arrivals.old.desk; index = arrivals.old.next }; number = number; shard = arrivals.old.next; exec = exec } }
-    ensures rest { arrivals.new ≡ record { desk = arrivals.old.desk; next = arrivals.old.next + 1 } }
+    ensures { result ≡ record { number = number; shard = shard; exec = exec } }
 {
-    let Some(arrival) = arrivals.next() else {
-        unreachable!()
-    };
-    let shard = arrival.index() as u32;
-    PartCallback::new(arrival, number, shard, exec)
+    PartCallback::new(number, shard, exec)
 }

@@ -2,49 +2,40 @@
 ghost use Rattle.std.specs.Prelude.{◌≡◌, ◌<◌, ◌++◌, [], ◌∷◌, false, map, OnErr, OnOk};
 ghost use Rattle.fan_model.specs.Notes.{base_of};
 ghost use Rattle.prio_pool.specs.Running.{RanDirect};
-ghost use Rattle.query_opening.specs.Turns.{IsDeskOf};
 ghost use Rattle.query_tasks.specs.Starting.{HasRunSome, run_at, runs_for};
 ghost use Rattle.run_notes.specs.Told.{run_of_direct};
 ghost use Rattle.run_tasks.specs.Heads.{task_head};
 ghost use Rattle.run_tasks.specs.Worlds.{Follows, TaskRan};
 
-use collect_ops::Arrivals;
 use fan_base::{ExecId, Memory};
-use fan_parts::{
-    GatherJob, NumberedAsk, PartCallback, PartDesk, RunName, TaskConsumer, TaskProducer,
-};
+use fan_parts::{NumberedAsk, PartCallback, RunName, TaskConsumer, TaskProducer};
 use prio_pool::{DirectRecord, run_direct};
 use query_opening::task_callback;
 use run_notes::DirectRecords;
 use run_tasks::{ShardTask, TaskWorld};
 use std::sync::Wait;
 
-/// Runs the tasks of a query over all shards here, one after another, on the front's executor, each with the arrival of its index: behind
-/// the pool's end. No cell is helped for: a core is begun as soon as a cell is free. It ends at the first record that finds no memory; that
+/// Runs the tasks of a query over all shards here, one after another, on the front's executor: behind the pool's end. No cell is helped for: a core is begun as soon as a cell is free. It ends at the first record that finds no memory; that
 /// record's task has run.
-pub fn run_tasks_here<'c, 't, 'd: 't, 'r: 'd, 'i: 'r, N: RunName + 'static, R: Wait>(
+pub fn run_tasks_here<'c, 't, 'i: 't, N: RunName + 'static, R: Wait>(
     rt: &R,
-    world: &mut TaskWorld<'c, 't, 'd, 'r, 'i, N>,
+    world: &mut TaskWorld<'c, 't, 'i, N>,
     ask: &NumberedAsk<'i, N>,
     shards: u32,
     queue: u32,
     front: ExecId,
     base: ExecId,
-    arrivals: Arrivals<'d, PartDesk<'r, 'i, N>>,
     direct: &mut DirectRecords,
 ) -> Result<(), Memory>
     requires shards { shards ≡ N.asked.shards }
-    requires desk { IsDeskOf N.asked ask.now.number arrivals.desk }
-    requires first { arrivals.next ≡ 0 }
     requires base { base ≡ record { 0 = base_of N.asked.bases ask.now.number } }
     ensures follows { Follows world.old world.new }
     ensures direct { OnOk result (world.new.refused ≡ false →
         map run_of_direct direct.new ≡ map run_of_direct direct.old ++ runs_for N.asked ask.now queue front shards) }
     ensures some { OnErr result (world.new.refused ≡ false → HasRunSome direct.old (runs_for N.asked ask.now queue front) shards direct.new) }
 {
-    let mut arrivals = arrivals;
     for shard in 0..shards {
-        let callback = task_callback(&mut arrivals, ask.number(), base);
+        let callback = task_callback(ask.number(), shard, base);
         let record = run_task_here(rt, world, ask.again(), shard, queue, front, callback);
         direct.push(record)?;
     }
@@ -52,14 +43,14 @@ pub fn run_tasks_here<'c, 't, 'd: 't, 'r: 'd, 'i: 'r, N: RunName + 'static, R: W
 }
 
 /// Runs the task of a query over a shard here, and then sets its callback.
-fn run_task_here<'c, 't, 'd: 't, 'r: 'd, 'i: 'r, N: RunName + 'static, R: Wait>(
+fn run_task_here<'c, 't, 'i: 't, N: RunName + 'static, R: Wait>(
     rt: &R,
-    world: &mut TaskWorld<'c, 't, 'd, 'r, 'i, N>,
+    world: &mut TaskWorld<'c, 't, 'i, N>,
     ask: NumberedAsk<'i, N>,
     shard: u32,
     queue: u32,
     front: ExecId,
-    callback: PartCallback<'d, 'r, 'i, N>,
+    callback: PartCallback<N>,
 ) -> DirectRecord
     requires { shard < N.asked.shards }
     ensures follows { Follows world.old world.new }
@@ -68,19 +59,19 @@ fn run_task_here<'c, 't, 'd: 't, 'r: 'd, 'i: 'r, N: RunName + 'static, R: Wait>(
     let no = 64 * u64::from(ask.number()) + u64::from(shard);
     let (producer, consumer) = core_in_turn(rt, world, no);
     let task = ShardTask::new(producer, ask, shard, front);
-    let record = run_once(rt, queue, task, world, &None);
+    let record = run_once(rt, queue, task, world);
     world.give(rt, consumer, callback);
     record
 }
 
 /// The core of a task, as soon as a cell is free.
-fn core_in_turn<'c, 't, 'd: 't, 'r: 'd, 'i: 'r, N: RunName + 'static, R: Wait>(
+fn core_in_turn<'c, 't, 'i: 't, N: RunName + 'static, R: Wait>(
     rt: &R,
-    world: &mut TaskWorld<'c, 't, 'd, 'r, 'i, N>,
+    world: &mut TaskWorld<'c, 't, 'i, N>,
     no: u64,
 ) -> (
-    TaskProducer<'t, 'd, 'r, 'i, N>,
-    TaskConsumer<'t, 'd, 'r, 'i, N>,
+    TaskProducer<'t, N>,
+    TaskConsumer<'t, N>,
 )
     ensures { Follows world.old world.new }
 {
@@ -92,13 +83,12 @@ fn core_in_turn<'c, 't, 'd: 't, 'r: 'd, 'i: 'r, N: RunName + 'static, R: Wait>(
     unreachable!()
 }
 
-/// Runs a task. What is in `_none` isn't read: its type tells for how long lives what a task posts.
-fn run_once<'c, 't, 'd: 't, 'r: 'd, 'i: 'r, N: RunName + 'static, R: Wait>(
+/// Runs a task.
+fn run_once<'c, 't, 'i: 't, N: RunName + 'static, R: Wait>(
     rt: &R,
     queue: u32,
-    task: ShardTask<'t, 'd, 'r, 'i, N>,
-    world: &mut TaskWorld<'c, 't, 'd, 'r, 'i, N>,
-    _none: &Option<GatherJob<'d, 'r, 'i, N>>,
+    task: ShardTask<'t, 'i, N>,
+    world: &mut TaskWorld<'c, 't, 'i, N>,
 ) -> DirectRecord
     ensures { RanDirect TaskRan (task_head N.asked task.entry) queue world.old world.new result }
 {

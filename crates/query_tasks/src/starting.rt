@@ -6,36 +6,31 @@ ghost use Rattle.fan_model.specs.Tasks.{pool_exec};
 ghost use Rattle.pool_model.specs.Passes.{adds_of};
 ghost use Rattle.prio_pool.specs.Adders.{add_on};
 ghost use Rattle.prio_pool.specs.Priority.{queue_in};
-ghost use Rattle.query_opening.specs.Turns.{IsDeskOf};
 ghost use Rattle.query_tasks.specs.Starting.{HasAdded, HasAddedSome, HasHelped, adds_for, head_on_pool};
 ghost use Rattle.run_tasks.specs.Heads.{task_head};
 
 use crate::pool::{TaskAdder, TaskHelper, TaskPool};
-use collect_ops::Arrivals;
 use fan_base::{ExecId, Gate, Memory, Refused};
-use fan_parts::{
-    GatherJob, NumberedAsk, PartCallback, PartDesk, RunName, TaskConsumer, TaskProducer,
-};
+use fan_parts::{NumberedAsk, PartCallback, RunName, TaskConsumer, TaskProducer};
 use keep_alive::KeepAlive;
 use query_opening::task_callback;
 use run_tasks::{ShardTask, TaskWorld};
 use std::sync::Wait;
 
-/// Starts the tasks of a query over all shards, each with the arrival of its index. It ends at the first that finds no memory: that task's
-/// desk gets want of memory, and the arrivals that are left are dropped.
-pub fn start_tasks<'c, 't, 'd: 't, 'r: 'd, 'i: 'r, N: RunName + 'static, G: Gate, R: Wait>(
+/// Starts the tasks of a query over all shards. It ends at the first that finds no memory: that task's part is want of memory, and the parts of
+/// those behind it don't come.
+pub fn start_tasks<'c, 't, 'i: 't, N: RunName + 'static, G: Gate, R: Wait>(
     rt: &R,
-    pool: &TaskPool<'t, 'd, 'r, 'i, N>,
+    pool: &TaskPool<'t, 'i, N>,
     keep: &KeepAlive,
-    adder: &mut TaskAdder<'t, 'd, 'r, 'i, N>,
-    helper: &mut TaskHelper<'t, 'd, 'r, 'i, N>,
-    world: &mut TaskWorld<'c, 't, 'd, 'r, 'i, N>,
+    adder: &mut TaskAdder<'t, 'i, N>,
+    helper: &mut TaskHelper<'t, 'i, N>,
+    world: &mut TaskWorld<'c, 't, 'i, N>,
     gate: &G,
     ask: &NumberedAsk<'i, N>,
     shards: u32,
     priority: i8,
     exec: ExecId,
-    arrivals: Arrivals<'d, PartDesk<'r, 'i, N>>,
 ) -> Result<(), Memory>
     requires pool { pool.now.exec ≡ pool_exec }
     requires keep { keep.now.count ≡ pool.now.count }
@@ -43,8 +38,6 @@ pub fn start_tasks<'c, 't, 'd: 't, 'r: 'd, 'i: 'r, N: RunName + 'static, G: Gate
     requires room { length (adds_of adder.old) + shards ≤ 4294967295 }
     requires helper { helper.old.pool ≡ pool.now.id }
     requires shards { shards ≡ N.asked.shards }
-    requires desk { IsDeskOf N.asked ask.now.number arrivals.desk }
-    requires first { arrivals.next ≡ 0 }
     requires exec { exec ≡ record { 0 = base_of N.asked.bases ask.now.number } }
     ensures helped { HasHelped world.old helper.old world.new helper.new }
     ensures added { OnOk result (HasAdded adder.old (adds_for N.asked ask.now (queue_in pool.now.id priority) shards) adder.new) }
@@ -52,9 +45,8 @@ pub fn start_tasks<'c, 't, 'd: 't, 'r: 'd, 'i: 'r, N: RunName + 'static, G: Gate
     ensures refused { OnErr result (world.new.refused ≡ true) }
     ensures some { OnErr result (HasAddedSome adder.old (adds_for N.asked ask.now (queue_in pool.now.id priority)) shards adder.new) }
 {
-    let mut arrivals = arrivals;
     for shard in 0..shards {
-        let callback = task_callback(&mut arrivals, ask.number(), exec);
+        let callback = task_callback(ask.number(), shard, exec);
         start_task(
             rt,
             pool,
@@ -74,18 +66,18 @@ pub fn start_tasks<'c, 't, 'd: 't, 'r: 'd, 'i: 'r, N: RunName + 'static, G: Gate
 
 /// Starts the task of a query over a shard: its core, its place in the pool, and its callback. Where the pool has no memory for it, its core
 /// gets want of memory, and so does its desk.
-fn start_task<'c, 't, 'd: 't, 'r: 'd, 'i: 'r, N: RunName + 'static, G: Gate, R: Wait>(
+fn start_task<'c, 't, 'i: 't, N: RunName + 'static, G: Gate, R: Wait>(
     rt: &R,
-    pool: &TaskPool<'t, 'd, 'r, 'i, N>,
+    pool: &TaskPool<'t, 'i, N>,
     keep: &KeepAlive,
-    adder: &mut TaskAdder<'t, 'd, 'r, 'i, N>,
-    helper: &mut TaskHelper<'t, 'd, 'r, 'i, N>,
-    world: &mut TaskWorld<'c, 't, 'd, 'r, 'i, N>,
+    adder: &mut TaskAdder<'t, 'i, N>,
+    helper: &mut TaskHelper<'t, 'i, N>,
+    world: &mut TaskWorld<'c, 't, 'i, N>,
     gate: &G,
     ask: NumberedAsk<'i, N>,
     shard: u32,
     priority: i8,
-    callback: PartCallback<'d, 'r, 'i, N>,
+    callback: PartCallback<N>,
 ) -> Result<(), Memory>
     requires pool { pool.now.exec ≡ pool_exec }
     requires keep { keep.now.count ≡ pool.now.count }
@@ -101,7 +93,7 @@ fn start_task<'c, 't, 'd: 't, 'r: 'd, 'i: 'r, N: RunName + 'static, G: Gate, R: 
     let no = 64 * u64::from(ask.number()) + u64::from(shard);
     let (producer, consumer) = core_or_help(rt, pool, helper, world, gate, no);
     let task = ShardTask::new(producer, ask, shard, ExecId(0));
-    match add_task(rt, pool, keep, adder, priority, task, &None) {
+    match add_task(rt, pool, keep, adder, priority, task) {
         Ok(()) => {
             world.give(rt, consumer, callback);
             Ok(())
@@ -114,16 +106,15 @@ fn start_task<'c, 't, 'd: 't, 'r: 'd, 'i: 'r, N: RunName + 'static, G: Gate, R: 
     }
 }
 
-/// Adds a task to the pool, or gives it back. What is in `_none` isn't read: its type tells for how long lives what a task posts.
-fn add_task<'t, 'd: 't, 'r: 'd, 'i: 'r, N: RunName + 'static, R: Wait>(
+/// Adds a task to the pool, or gives it back.
+fn add_task<'t, 'i: 't, N: RunName + 'static, R: Wait>(
     rt: &R,
-    pool: &TaskPool<'t, 'd, 'r, 'i, N>,
+    pool: &TaskPool<'t, 'i, N>,
     keep: &KeepAlive,
-    adder: &mut TaskAdder<'t, 'd, 'r, 'i, N>,
+    adder: &mut TaskAdder<'t, 'i, N>,
     priority: i8,
-    task: ShardTask<'t, 'd, 'r, 'i, N>,
-    _none: &Option<GatherJob<'d, 'r, 'i, N>>,
-) -> Result<(), Refused<ShardTask<'t, 'd, 'r, 'i, N>>>
+    task: ShardTask<'t, 'i, N>,
+) -> Result<(), Refused<ShardTask<'t, 'i, N>>>
     requires keep { keep.now.count ≡ pool.now.count }
     requires adder { adder.old.pool ≡ pool.now.id }
     requires exec { task.exec ≡ pool.now.exec }
@@ -138,16 +129,16 @@ fn add_task<'t, 'd: 't, 'r: 'd, 'i: 'r, N: RunName + 'static, R: Wait>(
 }
 
 /// The core of a task in a free cell. Where none is free, the pool is helped with one task, and it is tried again.
-fn core_or_help<'c, 't, 'd: 't, 'r: 'd, 'i: 'r, N: RunName + 'static, G: Gate, R: Wait>(
+fn core_or_help<'c, 't, 'i: 't, N: RunName + 'static, G: Gate, R: Wait>(
     rt: &R,
-    pool: &TaskPool<'t, 'd, 'r, 'i, N>,
-    helper: &mut TaskHelper<'t, 'd, 'r, 'i, N>,
-    world: &mut TaskWorld<'c, 't, 'd, 'r, 'i, N>,
+    pool: &TaskPool<'t, 'i, N>,
+    helper: &mut TaskHelper<'t, 'i, N>,
+    world: &mut TaskWorld<'c, 't, 'i, N>,
     gate: &G,
     no: u64,
 ) -> (
-    TaskProducer<'t, 'd, 'r, 'i, N>,
-    TaskConsumer<'t, 'd, 'r, 'i, N>,
+    TaskProducer<'t, N>,
+    TaskConsumer<'t, N>,
 )
     requires { helper.old.pool ≡ pool.now.id }
     ensures helped { HasHelped world.old helper.old world.new helper.new }
@@ -156,19 +147,18 @@ fn core_or_help<'c, 't, 'd: 't, 'r: 'd, 'i: 'r, N: RunName + 'static, G: Gate, R
         if let Some(halves) = world.begin_core(rt, no) {
             return halves;
         }
-        help_once(rt, pool, helper, world, gate, &None);
+        help_once(rt, pool, helper, world, gate);
     }
     unreachable!()
 }
 
-/// Helps the pool with one task, if it has one. What is in `_none` isn't read: its type tells for how long lives what a task posts.
-fn help_once<'c, 't, 'd: 't, 'r: 'd, 'i: 'r, N: RunName + 'static, G: Gate, R: Wait>(
+/// Helps the pool with one task, if it has one.
+fn help_once<'c, 't, 'i: 't, N: RunName + 'static, G: Gate, R: Wait>(
     rt: &R,
-    pool: &TaskPool<'t, 'd, 'r, 'i, N>,
-    helper: &mut TaskHelper<'t, 'd, 'r, 'i, N>,
-    world: &mut TaskWorld<'c, 't, 'd, 'r, 'i, N>,
+    pool: &TaskPool<'t, 'i, N>,
+    helper: &mut TaskHelper<'t, 'i, N>,
+    world: &mut TaskWorld<'c, 't, 'i, N>,
     gate: &G,
-    _none: &Option<GatherJob<'d, 'r, 'i, N>>,
 )
     requires { helper.old.pool ≡ pool.now.id }
     ensures { HasHelped world.old helper.old world.new helper.new }

@@ -31,6 +31,10 @@ module _ {N : Type 0} where
   pub nothing : (w : GatheringSeen N) → GathersBy 0 0 [] w w
   nothing w = record { sent = sym (append-nil w.printer.sender.sent); same = (refl, refl, refl); known = λ e. e; tally = λ e. refl }
 
+  -- nothing that is seen was done by a world that is seen as `now`
+  pub kept : (inside now : GatheringSeen N) → inside ≡ now → GathersBy 0 0 [] now inside
+  kept inside now is = subst (λ (a : GatheringSeen N). GathersBy 0 0 [] a inside) is (nothing inside)
+
   -- one step behind another
   pub join : (f w f' w' : ℕ) (ps ps' : List (PrintJob N)) (a b c : GatheringSeen N) → GathersBy f w ps a b → GathersBy f' w' ps' b c → GathersBy (f + f') (w + w') (ps ++ ps') a c
   join f w f' w' ps ps' a b c first second = record {

@@ -14,7 +14,15 @@ use Rattle.event_base.specs.contracts.base.EventBase as base
 use Rattle.event_base.specs.contracts.base.EventBase.TheInside as of_base
 use Rattle.fan_parts.specs.declared.run_name.RunName.{Ghosts}
 use Rattle.fan_parts.proofs.Crossings as crossing_fan_parts
+use Rattle.fan_base.proofs.outcome.Try.TheSendSync as try_fan_base
+use Rattle.fan_parts.proofs.part.Part.TheSendSync as part_fan_parts
+use Rattle.collect_ops.proofs.Crossings as crossing_collect_ops
+use Rattle.std.proofs.option.Option.TheSendSync as option_std
 use Rattle.run_gathering.specs.contracts.looping.GatherStage as stage
+use Rattle.run_gathering.specs.contracts.table.AwaitedPart as awaited
+use Rattle.run_gathering.specs.contracts.table.AwaitedPart.TheInside as of_awaited
+use Rattle.run_gathering.specs.contracts.table.PartTable as table
+use Rattle.run_gathering.specs.contracts.table.PartTable.TheInside as of_table
 
 ruleset all = (global_std.the_field_send, global_std.the_send, vec_std.the_send, exec_fan_base.the_send, crosses, sendable)
 
@@ -27,6 +35,24 @@ base_inside J s = recorded_send (of_base.the_field J).row _ _ (of_base.the_type 
 pub EventBase-send : (J : RattleType) → IsSend J → IsSend (base.the_row J)
 EventBase-send J s = view_send (of_base.the_row J) _ _ _ _ (base_inside J s)
 
-pub GatherStage-send : (d r i : NamedLft) (N : RattleType) (g : Ghosts N.Denot) → IsSend N → IsSend (stage.the_row d r i N g)
-GatherStage-send d r i N g n =
+pub GatherStage-send : (N : RattleType) (g : Ghosts N.Denot) → IsSend N → IsSend (stage.the_row N g)
+GatherStage-send N g n =
     search (EventBase-send, crossing_fan_parts.GatherJob-send, crossing_fan_parts.PrintJob-send, crossing_notify_queue.SenderEnd-send, tally_core_word.the_send, all) depth 60 fits 20000
+
+awaited_inside : (d r i : NamedLft) (N : RattleType) (g : Ghosts N.Denot) → IsSend N → IsSend (of_awaited.the_row d r i N g)
+awaited_inside d r i N g n = recorded_send (of_awaited.the_field d r i N g).row _ _ (of_awaited.the_type d r i N g).to_one (struct_send (shape (of_awaited.the_type d r i N g)) (
+  search (crossing_collect_ops.Arrival-send, crossing_fan_parts.End-send, part_fan_parts.the_send, try_fan_base.the_send, all) depth 60 fits 20000,
+  (search all depth 60 fits 20000, (search all depth 60 fits 20000, tt)),
+))
+
+pub AwaitedPart-send : (d r i : NamedLft) (N : RattleType) (g : Ghosts N.Denot) → IsSend N → IsSend (awaited.the_row d r i N g)
+AwaitedPart-send d r i N g n = view_send (of_awaited.the_row d r i N g) _ _ _ _ (awaited_inside d r i N g n)
+
+table_inside : (d r i : NamedLft) (N : RattleType) (g : Ghosts N.Denot) → IsSend N → IsSend (of_table.the_row d r i N g)
+table_inside d r i N g n = recorded_send (of_table.the_field d r i N g).row _ _ (of_table.the_type d r i N g).to_one (struct_send (shape (of_table.the_type d r i N g)) (
+  search (AwaitedPart-send, option_std.the_send, all) depth 60 fits 20000,
+  (search all depth 60 fits 20000, (search all depth 60 fits 20000, tt)),
+))
+
+pub PartTable-send : (d r i : NamedLft) (N : RattleType) (g : Ghosts N.Denot) → IsSend N → IsSend (table.the_row d r i N g)
+PartTable-send d r i N g n = view_send (of_table.the_row d r i N g) _ _ _ _ (table_inside d r i N g n)

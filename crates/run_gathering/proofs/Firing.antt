@@ -19,7 +19,7 @@ use Rattle.fan_parts.specs.declared.jobs.GatherJob.{GatherJob}
 use Rattle.fan_parts.specs.declared.jobs.GatherJob.TheVariants as gather
 use Rattle.fan_parts.specs.declared.jobs.PrintJob.{PrintJob}
 use Rattle.fan_parts.specs.Heads.{first_scoring, gather_head}
-use Rattle.fan_parts.specs.Seen.{ScoringSeen}
+use Rattle.fan_parts.specs.declared.jobs.ScoreCall.{ScoreCall}
 use Rattle.run_gathering.specs.Seen.{GatheringSeen}
 use Rattle.run_gathering.specs.Gathering.{fires_at, fires_among, GathersBy, HoldsScorings, IsScoringJob, Runs, Schedules, TookIn}
 use Rattle.run_gathering.proofs.Counting.{nothing, join}
@@ -76,10 +76,10 @@ module _ {N : Type 0} where
   scoring_fires_none (gather.Task fire) is = absurd is
   scoring_fires_none (gather.Score scoring) is = ap (λ (b : Bool). if b then 1 else 0) (none_below scoring.place)
 
-  one_scoring : (scoring : ScoringSeen) → All (IsScoringJob {N = N}) (gather.Score scoring ∷ [])
+  one_scoring : (scoring : ScoreCall) → All (IsScoringJob {N = N}) (gather.Score scoring ∷ [])
   one_scoring scoring = All-cons IsScoringJob (gather.Score scoring) [] tt (All-nil IsScoringJob)
 
-  with_scoring : (a : AgendaSeen (GatherJob N)) (scoring : ScoringSeen) → HoldsScorings a → HoldsScorings (with_in_loop a (gather.Score scoring))
+  with_scoring : (a : AgendaSeen (GatherJob N)) (scoring : ScoreCall) → HoldsScorings a → HoldsScorings (with_in_loop a (gather.Score scoring))
   with_scoring a scoring h = record {
     before = h.before;
     timers = h.timers;

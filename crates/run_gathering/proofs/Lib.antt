@@ -3,3 +3,4 @@ mod Contents
 mod Firing
 mod Looped
 pub mod Crossings
+pub mod Living

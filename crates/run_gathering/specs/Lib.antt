@@ -1,4 +1,5 @@
 pub mod Seen
+pub mod Awaited
 pub mod Gathering
 pub mod Merging
 pub mod Stages

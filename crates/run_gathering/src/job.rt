@@ -10,28 +10,29 @@ use collect_ops::{Arrived, Listed};
 use event_base::{Agenda, LoopJob, calls_in_a_row};
 use fan_base::{Fault, Mark, Refused, Try};
 use fan_parts::{
-    End, GatherJob, Part, PlacedReply, RunName, Scoring, TaskFire, forward_awaited,
-    spend_gather_job,
+    End, GatherJob, Part, PlacedReply, RunName, ScoreCall, Scoring, TaskFire, forward_awaited,
+    spend_gather_job, spend_scoring,
 };
+use std::alloc::AllocFailed;
 use std::sync::Wait;
 
-type GatherAgenda<'d, 'r, 'i, N> = Agenda<GatherJob<'d, 'r, 'i, N>>;
+type GatherAgenda<N> = Agenda<GatherJob<N>>;
 
-impl<'s, 'd, 'r: 'd, 'i: 'r, N: RunName> LoopJob<Gathering<'s, N>> for GatherJob<'d, 'r, 'i, N> {
+impl<'d, 'r: 'd, 'i: 'r, N: RunName> LoopJob<Gathering<'d, 'r, 'i, N>> for GatherJob<N> {
     ghost use Rattle.run_gathering.specs.Gathering.{Runs};
 
     ghost runs = { Runs };
 
-    /// A fire's part arrives at its desk; a scoring is made. The mark is `Memory` from the first refusal on, whichever job met it.
+    /// A fire's part arrives at its desk; the next scoring is made. The mark is `Memory` from the first refusal on, whichever job met it.
     fn run<R: Wait>(
         self,
         rt: &R,
-        world: &mut Gathering<'s, N>,
-        agenda: &mut GatherAgenda<'d, 'r, 'i, N>,
+        world: &mut Gathering<'d, 'r, 'i, N>,
+        agenda: &mut GatherAgenda<N>,
     ) -> Mark {
         match self {
             GatherJob::Task(fire) => take_part(rt, world, agenda, fire),
-            GatherJob::Score(scoring) => score(rt, world, scoring),
+            GatherJob::Score(_call) => score_next(rt, world),
         }
         if world.refused {
             Mark::Memory
@@ -41,20 +42,23 @@ impl<'s, 'd, 'r: 'd, 'i: 'r, N: RunName> LoopJob<Gathering<'s, N>> for GatherJob
     }
 }
 
-/// The part of a fire arrives at its desk.
+/// The part of a fire arrives at its desk, by the arrival that is awaited for it. Where that was taken before, nothing is done with the part.
 fn take_part<'d, 'r: 'd, 'i: 'r, N: RunName, R: Wait>(
     rt: &R,
-    world: &mut Gathering<'_, N>,
-    agenda: &mut GatherAgenda<'d, 'r, 'i, N>,
-    fire: TaskFire<'d, 'r, 'i, N>,
+    world: &mut Gathering<'d, 'r, 'i, N>,
+    agenda: &mut GatherAgenda<N>,
+    fire: TaskFire<N>,
 )
     ensures did { (forwards : ℕ) × (posts : List (PrintJob N)) × GathersBy 1 forwards posts world.old world.new }
     ensures agenda { Schedules agenda.old agenda.new }
     ensures calls { IsReached gather_head agenda.old agenda.new }
 {
-    calls_in_a_row::<GatherJob<'d, 'r, 'i, N>>();
+    calls_in_a_row::<GatherJob<N>>();
     let (_no, outcome, callback) = fire.unpack(&mut world.tally);
-    match callback.into_arrival().arrive(outcome) {
+    let Some(part) = world.table.take(callback.number(), callback.shard()) else {
+        return;
+    };
+    match part.into_arrival().arrive(outcome) {
         Arrived::Complete(parts, end, _done) => complete(rt, world, agenda, parts, end),
         Arrived::Back(_, _) => unreachable!(),
         Arrived::More(_receipt) => {}
@@ -64,8 +68,8 @@ fn take_part<'d, 'r: 'd, 'i: 'r, N: RunName, R: Wait>(
 /// A desk is complete: its parts are merged, and its reply's core is fulfilled, or forwarded to an inner core.
 fn complete<'d, 'r: 'd, 'i: 'r, N: RunName, R: Wait>(
     rt: &R,
-    world: &mut Gathering<'_, N>,
-    agenda: &mut GatherAgenda<'d, 'r, 'i, N>,
+    world: &mut Gathering<'d, 'r, 'i, N>,
+    agenda: &mut GatherAgenda<N>,
     parts: Listed<Try<Part<N>>>,
     end: End<'r, 'i, N>,
 )
@@ -74,14 +78,14 @@ fn complete<'d, 'r: 'd, 'i: 'r, N: RunName, R: Wait>(
     ensures agenda { Schedules agenda.old agenda.new }
     ensures calls { IsReached gather_head agenda.old agenda.new }
 {
-    calls_in_a_row::<GatherJob<'d, 'r, 'i, N>>();
+    calls_in_a_row::<GatherJob<N>>();
     let (reply, ask, place, inner) = end.into_parts();
     match gather_parts(world.alloc, &ask, place, parts) {
         Ok(Gathered::Reply(answer)) => world.fulfil(rt, reply, Try::Value(answer)),
         Ok(Gathered::Ranking(ranking)) => {
             let Some(key) = inner else { unreachable!() };
             let inner = forward_awaited(rt, reply, key, u64::from(place), &mut world.tally);
-            let scoring = Scoring::new(inner, ask, place, ranking, agenda.exec());
+            let scoring = Scoring::new(inner, ask, place, ranking);
             schedule(world, agenda, scoring);
         }
         Err(fault) => {
@@ -92,7 +96,10 @@ fn complete<'d, 'r: 'd, 'i: 'r, N: RunName, R: Wait>(
 }
 
 /// Notes want of memory, and gives the fault as an outcome.
-fn refusal<N: RunName>(world: &mut Gathering<'_, N>, fault: Fault) -> Try<PlacedReply<N>>
+fn refusal<'d, 'r: 'd, 'i: 'r, N: RunName>(
+    world: &mut Gathering<'d, 'r, 'i, N>,
+    fault: Fault,
+) -> Try<PlacedReply<N>>
     ensures { GathersBy 0 0 [] world.old world.new }
 {
     match fault {
@@ -105,28 +112,58 @@ fn refusal<N: RunName>(world: &mut Gathering<'_, N>, fault: Fault) -> Try<Placed
     }
 }
 
-/// Has a scoring run in the next loop phase. Where there is no memory for that, it is spent.
+/// Has a scoring run in the next loop phase, behind those that are scheduled. Where there is no memory for that, it is spent.
 fn schedule<'d, 'r: 'd, 'i: 'r, N: RunName>(
-    world: &mut Gathering<'_, N>,
-    agenda: &mut GatherAgenda<'d, 'r, 'i, N>,
+    world: &mut Gathering<'d, 'r, 'i, N>,
+    agenda: &mut GatherAgenda<N>,
     scoring: Scoring<'i, N>,
 )
-    requires { scoring.exec ≡ agenda.old.exec }
     ensures did { GathersBy 0 0 [] world.old world.new }
     ensures agenda { Schedules agenda.old agenda.new }
     ensures calls { IsReached gather_head agenda.old agenda.new }
 {
-    match agenda.run_in_loop(GatherJob::Score(scoring)) {
+    calls_in_a_row::<GatherJob<N>>();
+    let call = ScoreCall {
+        place: scoring.place(),
+        exec: agenda.exec(),
+    };
+    if let Err(AllocFailed { value }) = world.scorings.push_back(scoring) {
+        world.refused = true;
+        spend_scoring(value, &mut world.tally);
+        return;
+    }
+    match agenda.run_in_loop(GatherJob::Score(call)) {
         Ok(()) => {}
         Err(Refused::Memory(job)) => {
             world.refused = true;
             spend_gather_job(job, &mut world.tally);
+            let Some(scoring) = world.scorings.pop_back() else {
+                unreachable!()
+            };
+            spend_scoring(scoring, &mut world.tally);
         }
     }
 }
 
+/// The next of the scorings that are scheduled is made.
+fn score_next<'d, 'r: 'd, 'i: 'r, N: RunName, R: Wait>(
+    rt: &R,
+    world: &mut Gathering<'d, 'r, 'i, N>,
+)
+    ensures { (posts : List (PrintJob N)) × GathersBy 0 0 posts world.old world.new }
+{
+    match world.scorings.pop_front() {
+        Some(scoring) => score(rt, world, scoring),
+        None => {}
+    }
+}
+
 /// The shards are scored, and the inner core is fulfilled.
-fn score<N: RunName, R: Wait>(rt: &R, world: &mut Gathering<'_, N>, scoring: Scoring<'_, N>)
+fn score<'d, 'r: 'd, 'i: 'r, N: RunName, R: Wait>(
+    rt: &R,
+    world: &mut Gathering<'d, 'r, 'i, N>,
+    scoring: Scoring<'i, N>,
+)
     ensures { (posts : List (PrintJob N)) × GathersBy 0 0 posts world.old world.new }
 {
     let (inner, ask, place, ranking) = scoring.into_parts();

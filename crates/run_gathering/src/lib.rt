@@ -2,8 +2,8 @@
 //! fires then is posted to the printer's base.
 //!
 //! ```text
-//! TaskFire --unpack--> part, arrival --arrive--> more: nothing
-//!                                            \-> complete: all parts, merged
+//! TaskFire --unpack--> part, its arrival in the table --arrive--> more: nothing
+//!                                                            \-> complete: all parts, merged
 //!                                                  a reply:   the reply's core is fulfilled: a fire --post--> printer's base
 //!                                                  a ranking: the reply's core is forwarded to an inner core, and a Scoring runs in
 //!                                                             the loop phase, which fulfils the inner core: a fire --post--> ..
@@ -11,8 +11,10 @@
 #![tactic(auto)]
 
 pub use looping::{GatherEnd, GatherStage, close_gathering, gather};
+pub use table::{AwaitedPart, PartTable};
 
 mod job;
 mod looping;
 mod merge;
+mod table;
 mod world;

@@ -7,6 +7,7 @@ ghost use Rattle.fan_parts.specs.Heads.{gather_head};
 ghost use Rattle.run_gathering.specs.Gathering.{HoldsScorings, TookIn};
 ghost use Rattle.run_gathering.specs.Stages.{CameTo, IsSameBase};
 
+use crate::table::PartTable;
 use crate::world::Gathering;
 use core_word::Tally;
 use event_base::{BaseEnd, EventBase, LoopEnd, QueueNote, Why, rounds_keep_the_base};
@@ -15,11 +16,11 @@ use notify_queue::SenderEnd;
 use std::alloc::Global;
 use std::sync::Wait;
 
-type GatherBase<'d, 'r, 'i, N> = EventBase<GatherJob<'d, 'r, 'i, N>>;
+type GatherBase<N> = EventBase<GatherJob<N>>;
 
 /// A gathering base that has run. It must be spent by [`close_gathering`].
-pub struct GatherStage<'d, 'r, 'i, N: RunName> {
-    pub base: GatherBase<'d, 'r, 'i, N>,
+pub struct GatherStage<N: RunName> {
+    pub base: GatherBase<N>,
     /// The end of its poster to the printer's base.
     pub printer: SenderEnd<PrintJob<N>>,
     pub tally: Tally,
@@ -36,23 +37,24 @@ pub struct GatherEnd<N: RunName> {
 }
 
 /// Runs a gathering base until all its posters have ended and nothing is left, or until a round finds no memory, and ends its poster to
-/// the printer's base. It may wait.
-pub fn gather<'s, 'd, 'r: 'd, 'i: 'r, N: RunName, R: Wait>(
+/// the printer's base. `table` has the arrivals for the parts of its queries: those whose parts haven't come are spent. It may wait.
+pub fn gather<'d, 'r: 'd, 'i: 'r, N: RunName + 'static, R: Wait>(
     rt: &R,
     alloc: Global,
-    base: GatherBase<'d, 'r, 'i, N>,
+    base: GatherBase<N>,
     printer: BasePoster<PrintJob<N>>,
-    shards: RunShards<'s, N>,
-) -> GatherStage<'d, 'r, 'i, N>
+    shards: RunShards<'i, N>,
+    table: PartTable<'d, 'r, 'i, N>,
+) -> GatherStage<N>
     requires exec { printer.exec ≡ printer_exec N.asked.bases }
     requires holds { HoldsScorings base.agenda }
-    ensures base { IsSameBase base.entry result.base }
-    ensures did { CameTo base.entry result.base printer.sender result.printer result.tally result.refused }
+    ensures base { IsSameBase base result.base }
+    ensures did { CameTo base result.base printer.sender result.printer result.tally result.refused }
     ensures closed { result.refused ≡ false → IsDry result.base.queue × HoldsNoCallback result.base.agenda }
     ensures empty { result.refused ≡ false → held_by result.base.agenda ≡ [] }
 {
     let mut base = base;
-    let mut world = Gathering::new(alloc, shards, printer);
+    let mut world = Gathering::new(alloc, shards, table, printer);
     until_closed(rt, &mut base, &mut world);
     let (printer, tally, refused) = world.into_parts();
     GatherStage {
@@ -64,10 +66,10 @@ pub fn gather<'s, 'd, 'r: 'd, 'i: 'r, N: RunName, R: Wait>(
 }
 
 /// Runs it until it is closed, or a round finds no memory.
-fn until_closed<'s, 'd, 'r: 'd, 'i: 'r, N: RunName, R: Wait>(
+fn until_closed<'d, 'r: 'd, 'i: 'r, N: RunName + 'static, R: Wait>(
     rt: &R,
-    base: &mut GatherBase<'d, 'r, 'i, N>,
-    world: &mut Gathering<'s, N>,
+    base: &mut GatherBase<N>,
+    world: &mut Gathering<'d, 'r, 'i, N>,
 )
     requires { HoldsScorings base.old.agenda }
     ensures did { TookIn world.old base.old world.new base.new }
@@ -88,17 +90,17 @@ fn until_closed<'s, 'd, 'r: 'd, 'i: 'r, N: RunName, R: Wait>(
 }
 
 /// One loop of the base.
-fn loop_once_more<'s, 'd, 'r: 'd, 'i: 'r, N: RunName, R: Wait>(
+fn loop_once_more<'d, 'r: 'd, 'i: 'r, N: RunName + 'static, R: Wait>(
     rt: &R,
-    base: &mut GatherBase<'d, 'r, 'i, N>,
-    world: &mut Gathering<'s, N>,
+    base: &mut GatherBase<N>,
+    world: &mut Gathering<'d, 'r, 'i, N>,
 ) -> Option<Why>
     requires { HoldsScorings base.old.agenda }
     ensures did { TookIn world.old base.old world.new base.new }
     ensures base { IsSameBase base.old base.new }
     ensures closed { result ≡ Some Why.Closed → IsDry base.new.queue × HoldsNoCallback base.new.agenda }
 {
-    rounds_keep_the_base::<Gathering<'s, N>, GatherJob<'d, 'r, 'i, N>>();
+    rounds_keep_the_base::<Gathering<'d, 'r, 'i, N>, GatherJob<N>>();
     match base.loop_until_closed(rt, world) {
         Ok(LoopEnd { rounds: _, why }) => Some(why),
         Err(_) => None,
@@ -106,18 +108,18 @@ fn loop_once_more<'s, 'd, 'r: 'd, 'i: 'r, N: RunName, R: Wait>(
 }
 
 /// Ends a gathering base, with the ends of all its posters, and spends what it holds still.
-pub fn close_gathering<'d, 'r: 'd, 'i: 'r, N: RunName, R: Wait>(
+pub fn close_gathering<N: RunName, R: Wait>(
     rt: &R,
-    stage: GatherStage<'d, 'r, 'i, N>,
-    ends: Vec<SenderEnd<GatherJob<'d, 'r, 'i, N>>>,
+    stage: GatherStage<N>,
+    ends: Vec<SenderEnd<GatherJob<N>>>,
 ) -> GatherEnd<N>
     requires ends { AreAllEnds stage.base.queue ends.items }
     requires posts { AreOn gather_head stage.base.agenda.exec ends.items }
-    ensures exec { result.queue.exec ≡ stage.entry.base.agenda.exec }
-    ensures note { IsDry stage.entry.base.queue → (result.queue.put ≡ result.queue.taken) × (result.queue.left ≡ 0) }
-    ensures printer { result.printer ≡ stage.entry.printer }
-    ensures tally { IsDry stage.entry.base.queue → held_by stage.entry.base.agenda ≡ [] → result.tally ≡ stage.entry.tally }
-    ensures refused { result.refused ≡ stage.entry.refused }
+    ensures exec { result.queue.exec ≡ stage.base.agenda.exec }
+    ensures note { IsDry stage.base.queue → (result.queue.put ≡ result.queue.taken) × (result.queue.left ≡ 0) }
+    ensures printer { result.printer ≡ stage.printer }
+    ensures tally { IsDry stage.base.queue → held_by stage.base.agenda ≡ [] → result.tally ≡ stage.tally }
+    ensures refused { result.refused ≡ stage.refused }
 {
     let GatherStage {
         base,

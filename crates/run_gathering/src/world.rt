@@ -4,27 +4,31 @@ ghost use Rattle.fan_model.specs.Tasks.{printer_exec};
 ghost use Rattle.fan_parts.specs.declared.jobs.PrintJob.{PrintJob};
 ghost use Rattle.run_gathering.specs.Gathering.{GathersBy, no_counts};
 
+use crate::table::PartTable;
 use core_word::{Producer, Tally};
 use fan_base::{Refused, Try};
 use fan_parts::{
-    BasePoster, PlacedReply, PrintJob, ReplyCallback, RunName, RunShards, fulfil_awaited,
-    spend_print_job,
+    BasePoster, PlacedReply, PrintJob, ReplyCallback, RunName, RunShards, Scoring, fulfil_awaited,
+    spend_print_job, spend_scoring,
 };
 use std::alloc::Global;
+use std::collections::VecDeque;
 use std::marker::Model;
 use std::sync::Wait;
 
-/// What a gathering base works on: the shards, the poster to the printer's base, what became of cores, and whether memory was refused. It
-/// must be spent by `into_parts`.
-pub struct Gathering<'s, N: RunName> {
-    pub(crate) shards: RunShards<'s, N>,
+/// What a gathering base works on: the shards, the arrivals for the parts of its queries, the scorings that are scheduled, the poster to the
+/// printer's base, what became of cores, and whether memory was refused. It must be spent by `into_parts`.
+pub struct Gathering<'d, 'r, 'i, N: RunName> {
+    pub(crate) shards: RunShards<'i, N>,
+    pub(crate) table: PartTable<'d, 'r, 'i, N>,
+    pub(crate) scorings: VecDeque<Scoring<'i, N>>,
     printer: BasePoster<PrintJob<N>>,
     pub(crate) tally: Tally,
     pub(crate) refused: bool,
     pub(crate) alloc: Global,
 }
 
-impl<'s, N: RunName> Model for Gathering<'s, N> {
+impl<'d, 'r, 'i, N: RunName> Model for Gathering<'d, 'r, 'i, N> {
     ghost use Rattle.std.specs.Prelude.{◌≡◌};
     ghost use Rattle.fan_model.specs.Tasks.{printer_exec};
     ghost use Rattle.run_gathering.specs.Seen.{GatheringSeen};
@@ -36,18 +40,21 @@ impl<'s, N: RunName> Model for Gathering<'s, N> {
     ghost invariant = { λ w. w.printer.exec ≡ printer_exec N.asked.bases };
 }
 
-impl<'s, N: RunName> Gathering<'s, N> {
+impl<'d, 'r: 'd, 'i: 'r, N: RunName> Gathering<'d, 'r, 'i, N> {
     /// One that has done nothing.
     pub fn new(
         alloc: Global,
-        shards: RunShards<'s, N>,
+        shards: RunShards<'i, N>,
+        table: PartTable<'d, 'r, 'i, N>,
         printer: BasePoster<PrintJob<N>>,
-    ) -> Gathering<'s, N>
+    ) -> Gathering<'d, 'r, 'i, N>
         requires { printer.exec ≡ printer_exec N.asked.bases }
         ensures { result ≡ record { printer = printer; tally = no_counts; refused = false } }
     {
         Gathering {
             shards,
+            table,
+            scorings: VecDeque::new(alloc),
             printer,
             tally: Tally::new(),
             refused: false,
@@ -55,17 +62,26 @@ impl<'s, N: RunName> Gathering<'s, N> {
         }
     }
 
-    /// The poster, the tally, and whether memory was refused.
+    /// The poster, the tally, and whether memory was refused. Arrivals and scorings that are left are spent: their queries' cores get want of
+    /// memory.
     pub fn into_parts(self) -> (BasePoster<PrintJob<N>>, Tally, bool)
         ensures { self.entry ≡ record { printer = result.0; tally = result.1; refused = result.2 } }
     {
         let Gathering {
             shards: _,
+            table,
+            scorings,
             printer,
             tally,
             refused,
             alloc: _,
         } = self;
+        table.close();
+        let mut scorings = scorings;
+        'scorings: while let Some(scoring) = scorings.pop_front() {
+            spend_scoring(scoring, &mut Tally::new());
+        }
+        scorings.destroy_empty();
         (printer, tally, refused)
     }
 

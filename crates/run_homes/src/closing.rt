@@ -1,10 +1,5 @@
-use collect_ops::Arrived;
 use core_word::{Home, Left, Tally, Unspent};
-use fan_base::Try;
-use fan_parts::{
-    End, InnerConsumer, PartCallback, PartDesk, ReplyHome, RunName, TaskHome, fulfil_awaited,
-    spend_reply,
-};
+use fan_parts::{InnerConsumer, PartDesk, ReplyHome, RunName, TaskHome, spend_end};
 
 /// Closes a home, and gives what was set there and that nobody got: a callback and a proxy. A result is let go.
 fn what_is_left<T: Drop, C, P>(home: Home<T, C, P>) -> (Option<C>, Option<P>) {
@@ -50,34 +45,17 @@ pub fn close_desks<'r, 'i: 'r, N: RunName>(slots: Vec<Option<PartDesk<'r, 'i, N>
 fn close_desk<'r, 'i: 'r, N: RunName>(desk: PartDesk<'r, 'i, N>) {
     let mut kept = desk.close();
     if let Some(end) = kept.end() {
-        spend_end(end);
+        spend_end(end, &mut Tally::new());
     }
     'outcomes: while let Some(_outcome) = kept.next() {}
     kept.finish();
 }
 
-fn spend_end<'r, 'i: 'r, N: RunName>(end: End<'r, 'i, N>) {
-    let mut tally = Tally::new();
-    let (reply, _ask, _place, _inner) = end.into_parts();
-    let fire = fulfil_awaited(reply, Try::Memory, &mut tally);
-    spend_reply(fire, &mut tally);
-}
-
-/// Closes the homes of tasks. A callback that waits there still gets want of memory.
-pub fn close_task_homes<'d, 'r: 'd, 'i: 'r, N: RunName>(homes: Vec<TaskHome<'d, 'r, 'i, N>>) {
+/// Closes the homes of tasks. A callback that waits there still is let go: the arrival that its part was for stands with its base.
+pub fn close_task_homes<N: RunName>(homes: Vec<TaskHome<N>>) {
     let mut homes = homes;
     'homes: while let Some(home) = homes.pop() {
-        let (callback, _proxy) = what_is_left(home);
-        if let Some(callback) = callback {
-            spend_callback(callback);
-        }
+        let (_callback, _proxy) = what_is_left(home);
     }
     homes.destroy_empty();
-}
-
-fn spend_callback<'d, 'r: 'd, 'i: 'r, N: RunName>(callback: PartCallback<'d, 'r, 'i, N>) {
-    match callback.into_arrival().arrive(Try::Memory) {
-        Arrived::Complete(_parts, end, _done) => spend_end(end),
-        Arrived::Back(_, _) | Arrived::More(_) => {}
-    }
 }

@@ -17,6 +17,4 @@ loop-shard-preserved g c = record {
   direct = one_more_ran g.N.RunName.asked c.args.ask.now c.args.queue c.args.front c.loop-shard.shard
       c.loop-shard.world c.run_task_here-record.new.world c.args.direct.now c.loop-shard.direct c.push.new.self c.run_task_here-record.result
       c.loop-shard.invariant.direct c.run_task_here-record.ensures.follows (search rules) (search rules);
-  desk = search rules;
-  next = search rules;
 }

@@ -1,5 +1,4 @@
 use Rattle.std.proofs.Common.{◌≡◌, ◌++◌, false, map}
-use Rattle.query_opening.specs.Turns.{IsDeskOf}
 use Rattle.query_tasks.specs.Starting.{runs_for}
 use Rattle.run_notes.specs.Told.{run_of_direct}
 use Rattle.run_tasks.specs.Worlds.{Follows}
@@ -10,6 +9,4 @@ invariant-loop-shard g l = record {
   follows : Follows l.initial.world l.world;
   direct : l.world.refused ≡ false →
       map run_of_direct l.direct ≡ map run_of_direct l.initial.direct ++ runs_for g.N.RunName.asked l.ask l.queue l.front l.shard;
-  desk : IsDeskOf g.N.RunName.asked l.ask.number l.arrivals.desk;
-  next : l.arrivals.next ≡ l.shard;
 }

@@ -1,0 +1,5 @@
+//! Probe.
+#![tactic(auto)]
+
+mod kinds;
+mod calls;
