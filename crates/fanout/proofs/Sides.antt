@@ -24,50 +24,51 @@ use Rattle.run_tasks.specs.Seen.{WorldSeen}
 use Rattle.run_tasks.specs.Worlds.{AreEndsFor, StaysPass, told_of}
 use Rattle.fan_parts.specs.declared.jobs.PrintJob.{PrintJob}
 use Rattle.fan_parts.specs.Seen.{PosterSeen}
-use Rattle.fanout.specs.declared.front.SideStart.{SideStart}
+use Rattle.run_tasks.specs.Seen.{TaskSeen}
+use Rattle.run_threads.specs.declared.worker.WorkerSlot.{WorkerSlot}
+use Rattle.fanout.specs.declared.front.SideRoom.{SideRoom}
 use Rattle.fanout.specs.declared.front.SideEnd.{SideEnd}
 use Rattle.fanout.specs.First.{IsFirstEnd, IsFirstStart}
 use Rattle.fanout.specs.Fronts.{IsSideEnd, IsSideStart, NoneRefused}
 
 module _ {N : Type 0} where
-  pub helper_is : (asked : Asking) (ids : RunIds) (start : SideStart N) → IsSideStart asked ids start → start.front.helper ≡ new_end start.pool.id ids.workers
-  helper_is asked ids start s = ap (λ (l : List EndSeen). get_or l 0 start.front.helper) s.pool.helps_are
+  pub helper_is : (asked : Asking) (ids : RunIds) (start : FrontStart N) (pool : PoolSeen) (slots : List (WorkerSlot TaskSeen (WorldSeen N))) (room : SideRoom N) → IsSideStart asked ids start pool slots room → start.helper ≡ new_end pool.id ids.workers
+  helper_is asked ids start pool slots room s = ap (λ (l : List EndSeen). get_or l 0 start.helper) s.pool_is.helps_are
 
-  pub first_start : (asked : Asking) (ids : RunIds) (start : SideStart N) → IsSideStart asked ids start → adds_of (new_pass start.pool.id 0) ≡ [] → IsFirstStart asked start.pool start.front
-  first_start asked ids start s unused = record {
+  pub first_start : (asked : Asking) (ids : RunIds) (start : FrontStart N) (pool : PoolSeen) (slots : List (WorkerSlot TaskSeen (WorldSeen N))) (room : SideRoom N) → IsSideStart asked ids start pool slots room → adds_of (new_pass pool.id 0) ≡ [] → IsFirstStart asked pool start
+  first_start asked ids start pool slots room s unused = record {
     front = s.front;
-    keys = s.keys;
-    exec = s.pool.exec_is;
-    queues = s.pool.queues;
-    owner = s.pool.owner_is;
-    keep = ap (λ k. k.count) s.pool.keep_is;
-    adders = record { pass = new_pass start.pool.id 0; is = s.pool.passes_are; of_pool = refl; number = refl; unused = unused };
-    one = s.pool.adders_are;
-    helper = ap (λ (e : EndSeen). e.pool) (helper_is asked ids start s);
+    exec = s.pool_is.exec_is;
+    queues = s.pool_is.queues;
+    owner = s.pool_is.owner_is;
+    keep = ap (λ k. k.count) s.pool_is.keep_is;
+    adders = record { pass = new_pass pool.id 0; is = s.pool_is.passes_are; of_pool = refl; number = refl; unused = unused };
+    one = s.pool_is.adders_are;
+    helper = ap (λ (e : EndSeen). e.pool) (helper_is asked ids start pool slots room s);
   }
 
-  pub workers_ends : (asked : Asking) (ids : RunIds) (start : SideStart N) (ends : List EndSeen) → IsSideStart asked ids start → AreAllEnds start.pool.id ids.workers ends → AreAllEnds start.pool.id start.pool.workers ends
-  workers_ends asked ids start ends s all = subst (λ (n : ℕ). AreAllEnds start.pool.id n ends) (sym s.pool.workers_are) all
+  pub workers_ends : (asked : Asking) (ids : RunIds) (start : FrontStart N) (pool : PoolSeen) (slots : List (WorkerSlot TaskSeen (WorldSeen N))) (room : SideRoom N) (ends : List EndSeen) → IsSideStart asked ids start pool slots room → AreAllEnds pool.id ids.workers ends → AreAllEnds pool.id pool.workers ends
+  workers_ends asked ids start pool slots room ends s all = subst (λ (n : ℕ). AreAllEnds pool.id n ends) (sym s.pool_is.workers_are) all
 
-  pub helper_end : (asked : Asking) (ids : RunIds) (stop : Option ℕ) (start : SideStart N) (mid : FrontMid N) → IsSideStart asked ids start → IsFirstEnd asked stop start.pool start.front mid
-      → AreAllEnds start.pool.id start.pool.helpers (mid.helper ∷ [])
-  helper_end asked ids stop start mid s e = record {
-    of_pool = All-cons (λ (x : EndSeen). x.pool ≡ start.pool.id) mid.helper [] (e.helped.pool ∙ ap (λ (x : EndSeen). x.pool) (helper_is asked ids start s)) (All-nil (λ (x : EndSeen). x.pool ≡ start.pool.id));
-    count_is = sym s.pool.helpers_are;
+  pub helper_end : (asked : Asking) (ids : RunIds) (stop : Option ℕ) (start : FrontStart N) (pool : PoolSeen) (slots : List (WorkerSlot TaskSeen (WorldSeen N))) (room : SideRoom N) (mid : FrontMid N) → IsSideStart asked ids start pool slots room → IsFirstEnd asked stop pool start mid
+      → AreAllEnds pool.id pool.helpers (mid.helper ∷ [])
+  helper_end asked ids stop start pool slots room mid s e = record {
+    of_pool = All-cons (λ (x : EndSeen). x.pool ≡ pool.id) mid.helper [] (e.helped.pool ∙ ap (λ (x : EndSeen). x.pool) (helper_is asked ids start pool slots room s)) (All-nil (λ (x : EndSeen). x.pool ≡ pool.id));
+    count_is = sym s.pool_is.helpers_are;
   }
 
   -- all that the helper ran was done
   helped_done : (w : WorldSeen N) (old : EndSeen) (v : WorldSeen N) (new : EndSeen) → HasHelped w old v new → old.records ≡ [] → v.refused ≡ false → All (λ (r : Record). IsDone r.mark) new.records
   helped_done w old v new h none fine = subst (λ (l : List Record). All (λ (r : Record). IsDone r.mark) l) (sym (h.records ∙ ap (λ (l : List Record). l ++ h.more) none)) (h.done fine)
 
-  pub side_end : (asked : Asking) (ids : RunIds) (stop : Option ℕ) (start : SideStart N) (mid : FrontMid N) (ends : List EndSeen) (worlds : List (TaskEnds N)) (end : SideEnd N) → IsSideStart asked ids start → IsFirstEnd asked stop start.pool start.front mid
+  pub side_end : (asked : Asking) (ids : RunIds) (stop : Option ℕ) (start : FrontStart N) (pool : PoolSeen) (slots : List (WorkerSlot TaskSeen (WorldSeen N))) (room : SideRoom N) (mid : FrontMid N) (ends : List EndSeen) (worlds : List (TaskEnds N)) (end : SideEnd N) → IsSideStart asked ids start pool slots room → IsFirstEnd asked stop pool start mid
       → end.worlds.items ≡ worlds → AreWorldEnds ids worlds → (NoneRefused worlds → AllDone ends)
       → (end.left.refused ≡ false → end.left.ends.tasks.refused ≡ false → AllDone (ends ++ mid.helper ∷ []) → IsPoolReport asked (told_by end.left.note))
       → (end.left.ends.tasks.refused ≡ false → mid.front.world.refused ≡ false)
       → AreEndsFor (map told_of mid.front.world.posters) end.left.ends.tasks.posters.items → StaysPass mid.front.world.pass end.left.ends.tasks.pass → IsDoneBy mid.front.printer end.left.ends.printer
       → IsPrinterEnd asked ids 0 end.left.ends.printer
       → IsSideEnd asked ids end
-  side_end asked ids stop start mid ends worlds end s e is all done report refused posters pass printer poster = record {
+  side_end asked ids stop start pool slots room mid ends worlds end s e is all done report refused posters pass printer poster = record {
     worlds = subst (λ (l : List (TaskEnds N)). AreWorldEnds ids l) (sym is) all;
     tasks = record {
       posters = subst (λ (l : List _). AreEndsFor l end.left.ends.tasks.posters.items) (e.helped.follows.posters ∙ s.world.posters) posters;
@@ -78,11 +79,11 @@ module _ {N : Type 0} where
     };
     poster = poster;
     report = λ fine tasks none. report fine tasks (All-append (λ (x : EndSeen). All (λ (r : Record). IsDone r.mark) x.records) ends (mid.helper ∷ []) (done (subst NoneRefused is none))
-        (All-cons (λ (x : EndSeen). All (λ (r : Record). IsDone r.mark) x.records) mid.helper [] (helped_done start.front.front.world start.front.helper mid.front.world mid.helper e.helped (ap (λ (x : EndSeen). x.records) (helper_is asked ids start s)) (refused tasks))
+        (All-cons (λ (x : EndSeen). All (λ (r : Record). IsDone r.mark) x.records) mid.helper [] (helped_done start.front.world start.helper mid.front.world mid.helper e.helped (ap (λ (x : EndSeen). x.records) (helper_is asked ids start pool slots room s)) (refused tasks))
         (All-nil (λ (x : EndSeen). All (λ (r : Record). IsDone r.mark) x.records))));
   }
 
   -- the end of the front's poster
-  pub poster_queue : (asked : Asking) (ids : RunIds) (stop : Option ℕ) (start : SideStart N) (mid : FrontMid N) (left : FrontLeft N) → IsSideStart asked ids start → IsFirstEnd asked stop start.pool start.front mid → IsDoneBy mid.front.printer left.ends.printer
+  pub poster_queue : (asked : Asking) (ids : RunIds) (stop : Option ℕ) (start : FrontStart N) (pool : PoolSeen) (slots : List (WorkerSlot TaskSeen (WorldSeen N))) (room : SideRoom N) (mid : FrontMid N) (left : FrontLeft N) → IsSideStart asked ids start pool slots room → IsFirstEnd asked stop pool start mid → IsDoneBy mid.front.printer left.ends.printer
       → (left.ends.printer.queue ≡ ids.printer) × (left.ends.printer.number ≡ 0)
-  poster_queue asked ids stop start mid left s e d = (d.queue ∙ (ap (λ t. t.queue) e.printer ∙ ap (λ (p : PosterSeen (PrintJob N)). p.sender.queue) s.poster), d.number ∙ (ap (λ t. t.number) e.printer ∙ ap (λ (p : PosterSeen (PrintJob N)). p.sender.number) s.poster))
+  poster_queue asked ids stop start pool slots room mid left s e d = (d.queue ∙ (ap (λ t. t.queue) e.printer ∙ ap (λ (p : PosterSeen (PrintJob N)). p.sender.queue) s.poster), d.number ∙ (ap (λ t. t.number) e.printer ∙ ap (λ (p : PosterSeen (PrintJob N)). p.sender.number) s.poster))

@@ -1,18 +1,17 @@
 -- The first phase of the front, before and after it.
 use Rattle.std.specs.Prelude.{◌≡◌, false, length}
 use Rattle.fan_model.specs.Answered.{answered_in, is_stopped}
-use Rattle.fan_model.specs.Comings.{comings_of}
 use Rattle.fan_model.specs.Report.{Asking}
 use Rattle.fan_model.specs.Tasks.{early_runs, pool_exec}
 use Rattle.pool_model.specs.Passes.{AreAllPasses}
 use Rattle.pool_model.specs.Seen.{PoolSeen}
 use Rattle.query_tasks.specs.Ends.{is_stop, seen_of}
 use Rattle.query_tasks.specs.Starting.{HasHelped}
-use Rattle.run_front.specs.Fronts.{HasKeysFor, IsFrontOf}
+use Rattle.run_front.specs.Fronts.{IsFrontOf}
 use Rattle.run_notes.specs.Accounts.{runs_added}
 use Rattle.run_phases.specs.declared.first.FrontStart.{FrontStart}
 use Rattle.run_phases.specs.declared.first.FrontMid.{FrontMid}
-use Rattle.run_phases.specs.Phases.{HasKeysBehind, IsOneAdder}
+use Rattle.run_phases.specs.Phases.{IsOneAdder}
 use Rattle.run_tasks.specs.Worlds.{told_of}
 use Rattle.std.specs.Prelude.{ℕ, Option}
 
@@ -20,7 +19,6 @@ module _ {N : Type 0} where
   -- the front of this run over this pool, which has no task
   pub record IsFirstStart (asked : Asking) (pool : PoolSeen) (start : FrontStart N) : Type 0 where
     pub front : IsFrontOf asked start.front
-    pub keys : HasKeysFor (comings_of asked.lines) start.front
     pub exec : pool.exec ≡ pool_exec
     pub queues : length pool.id.queues ≡ 3
     pub owner : start.owner.count ≡ pool.count
@@ -38,4 +36,3 @@ module _ {N : Type 0} where
     pub helped : HasHelped start.front.world start.helper mid.front.world mid.helper
     pub front : IsFrontOf asked mid.front
     pub printer : told_of mid.front.printer ≡ told_of start.front.printer
-    pub keys : mid.refused ≡ false → HasKeysBehind asked stop mid.front

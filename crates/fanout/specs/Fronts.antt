@@ -1,31 +1,33 @@
 -- The front and the workers of a run, before and after they have run.
-use Rattle.std.specs.Prelude.{◌≡◌, ℕ, ◌≤◌, List, [], ◌∷◌, false, length, vec_capacity, All}
-use Rattle.fan_model.specs.Comings.{comings_of}
+use Rattle.std.specs.Prelude.{◌≡◌, ◌≤◌, List, [], ◌∷◌, false, vec_capacity, All}
 use Rattle.fan_model.specs.Report.{Asking, IsPoolReport}
 use Rattle.fan_model.specs.Tasks.{pool_exec}
+use Rattle.pool_model.specs.Seen.{PoolSeen}
 use Rattle.prio_pool.specs.Made.{IsNewPool, new_workers}
-use Rattle.run_front.specs.Fronts.{HasKeysFor, IsFrontOf}
+use Rattle.run_front.specs.Fronts.{IsFrontOf}
 use Rattle.run_notes.specs.Told.{told_of}
+use Rattle.run_phases.specs.declared.first.FrontStart.{FrontStart}
 use Rattle.run_setup.specs.Closing.{AreTaskEnds, AreWorldEnds, IsPrinterEnd}
 use Rattle.run_setup.specs.Ids.{RunIds}
 use Rattle.run_setup.specs.Opening.{HasEndRoom}
 use Rattle.run_setup.specs.Slots.{AreWorkers, IsNewWorld, new_printer_poster}
 use Rattle.run_tasks.specs.declared.world.TaskEnds.{TaskEnds}
-use Rattle.fanout.specs.declared.front.SideStart.{SideStart}
+use Rattle.run_tasks.specs.Seen.{TaskSeen, WorldSeen}
+use Rattle.run_threads.specs.declared.worker.WorkerSlot.{WorkerSlot}
+use Rattle.fanout.specs.declared.front.SideRoom.{SideRoom}
 use Rattle.fanout.specs.declared.front.SideEnd.{SideEnd}
 
 module _ {N : Type 0} where
-  -- all is new: the pool with its passes, the workers, and the front with a key and a slot for each query
-  pub record IsSideStart (asked : Asking) (ids : RunIds) (start : SideStart N) : Type 0 where
-    pub front : IsFrontOf asked start.front.front
-    pub keys : HasKeysFor (comings_of asked.lines) start.front.front
-    pub world : IsNewWorld ids 0 start.front.front.world
-    pub poster : start.front.front.printer ≡ new_printer_poster asked ids 0
-    pub pool : IsNewPool pool_exec 3 1 ids.workers 1 0 start.pool start.front.owner start.front.keep start.front.adders.items (new_workers start.pool.id 0 ids.workers) (start.front.helper ∷ [])
-    pub workers : AreWorkers ids start.pool.id start.workers.items
-    pub ends : HasEndRoom ids.workers start.ends
-    pub no_helped : start.helped.items ≡ []
-    pub for_helped : 1 ≤ vec_capacity start.helped
+  -- all is new: the pool with its passes, the workers, the front, and room for what they leave
+  pub record IsSideStart (asked : Asking) (ids : RunIds) (start : FrontStart N) (pool : PoolSeen) (workers : List (WorkerSlot TaskSeen (WorldSeen N))) (room : SideRoom N) : Type 0 where
+    pub front : IsFrontOf asked start.front
+    pub world : IsNewWorld ids 0 start.front.world
+    pub poster : start.front.printer ≡ new_printer_poster asked ids 0
+    pub pool_is : IsNewPool pool_exec 3 1 ids.workers 1 0 pool start.owner start.keep start.adders.items (new_workers pool.id 0 ids.workers) (start.helper ∷ [])
+    pub workers_are : AreWorkers ids pool.id workers
+    pub ends : HasEndRoom ids.workers room.ends
+    pub no_helped : room.helped.items ≡ []
+    pub for_helped : 1 ≤ vec_capacity room.helped
 
   -- no world notes want of memory
   abbrev pub NoneRefused : List (TaskEnds N) → Type 0

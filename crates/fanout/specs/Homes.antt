@@ -1,12 +1,14 @@
--- What the front needs of the homes.
+-- What the desks are opened with.
 use Rattle.std.specs.Prelude.{ℕ, ◌≤◌, length}
 use Rattle.fan_model.specs.Answered.{answered_in, tops_in}
 use Rattle.fan_model.specs.Report.{Asking}
-use Rattle.fanout.specs.declared.inside.FrontHomes.{FrontHomes}
+use Rattle.run_desks.specs.Keys.{AreKeysOf}
+use Rattle.run_desks.specs.declared.keys.DeskKeys.{DeskKeys}
 
 module _ {N : Type 0} where
-  -- a slot and a key for each answered query, and an inner key for each that ranks
-  pub record AreEnough (asked : Asking) (homes : FrontHomes N) : Type 0 where
-    pub desks : length (answered_in asked.lines) ≤ homes.desks
-    pub replies : length (answered_in asked.lines) ≤ length homes.replies.items
-    pub inners : tops_in (answered_in asked.lines) ≤ length homes.inners.items
+  -- keys of this run: a slot and a key for each answered query, and an inner key for each that ranks
+  pub record AreEnough (asked : Asking) (keys : DeskKeys N) : Type 0 where
+    pub of : AreKeysOf asked keys
+    pub desks : length (answered_in asked.lines) ≤ keys.desks
+    pub replies : length (answered_in asked.lines) ≤ length keys.replies.items
+    pub inners : tops_in (answered_in asked.lines) ≤ length keys.inners.items

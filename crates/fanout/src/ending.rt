@@ -28,15 +28,16 @@ use std::alloc::Global;
 use std::sync::Wait;
 
 /// Closes all bases, compares what was counted with what the run has to count, and tells how it ended. Where the numbers don't agree, or a
-/// stage notes want of memory, the outcome is want of memory.
-pub(crate) fn put_together<'t, 'd: 't, 'r: 'd, 'i: 'r, 'l, 'g, N: RunName, G, R: Wait>(
+/// stage notes want of memory, the outcome is want of memory. `opening` is what became of cores before the stages ran.
+pub(crate) fn put_together<'t, 'd, 'r: 'd, 'i: 'r, 'l, 'g, N: RunName, G, R: Wait>(
     rt: &R,
     alloc: Global,
     plan: &RunPlan<'l, 'g, N, G>,
-    back: Back<'t, 'd, 'r, 'i, N>,
+    back: Back<'t, N>,
     gatherers: Vec<GatherSlot<'d, 'r, 'i, N>>,
     printed: PrintStage<PrintJob<N>>,
-    end: SideEnd<'t, 'd, 'r, 'i, N>,
+    end: SideEnd<'t, N>,
+    opening: Tally,
 ) -> FanEnd
     requires plan { IsPlanned N.asked plan.now.lines.now plan.now.turns.now plan.now.counted.now plan.now.stop plan.now.knobs }
     requires ready { (ids : RunIds) × IsReadyToClose N.asked ids back gatherers.items printed end }
@@ -55,7 +56,6 @@ pub(crate) fn put_together<'t, 'd: 't, 'r: 'd, 'i: 'r, 'l, 'g, N: RunName, G, R:
     let FrontEnds {
         tasks,
         printer: poster,
-        tally,
     } = ends;
     let queries = plan.turns.len() as u64;
     let Closed {
@@ -71,7 +71,7 @@ pub(crate) fn put_together<'t, 'd: 't, 'r: 'd, 'i: 'r, 'l, 'g, N: RunName, G, R:
         tally: printing,
     } = print;
     let_go(passes);
-    let tally = tally.merge(others).merge(printing);
+    let tally = opening.merge(others).merge(printing);
     let agrees = agree(plan, &tally, notes.as_slice());
     let (queues, listed) = list_notes(alloc, notes, queue);
     let fine = is_fine(agrees, listed, refused, missed);

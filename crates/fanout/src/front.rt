@@ -1,88 +1,108 @@
-ghost use Rattle.std.specs.Prelude.{◌≡◌, false};
-ghost use Rattle.std.specs.List.{All};
-ghost use Rattle.pool_model.specs.Passes.{AreAllEnds};
-ghost use Rattle.run_notes.specs.Accounts.{AllDone};
-ghost use Rattle.run_setup.specs.Closing.{AreWorldEnds};
+ghost use Rattle.std.specs.Prelude.{◌≡◌, List};
+ghost use Rattle.pool_model.specs.Seen.{PoolSeen};
+ghost use Rattle.run_phases.specs.declared.first.FrontStart.{FrontStart};
 ghost use Rattle.run_setup.specs.Ids.{RunIds};
-ghost use Rattle.run_setup.specs.Opening.{HasEndRoom};
-ghost use Rattle.run_setup.specs.Slots.{AreWorkers};
+ghost use Rattle.run_stages.specs.Stages.{AllRan};
+ghost use Rattle.run_tasks.specs.Seen.{TaskSeen, WorldSeen};
+ghost use Rattle.run_tasks.specs.Worlds.{TaskRan};
+ghost use Rattle.run_threads.specs.declared.worker.WorkerSlot.{WorkerSlot};
+ghost use Rattle.run_threads.specs.Slots.{HasWorked};
 ghost use Rattle.fanout.specs.First.{IsFirstEnd, IsFirstStart};
 ghost use Rattle.fanout.specs.Fronts.{IsSideEnd, IsSideStart};
 ghost use Rattle.fanout.specs.Plans.{IsTimed};
 
 use fan_base::Gate;
 use fan_parts::RunName;
-use prio_pool::{HelperEnd, Pool, new_passes_are_unused};
+use prio_pool::{HelperEnd, Pool};
 use run_phases::{FrontLeft, FrontMid, FrontStart, first_phase, second_phase};
 use run_plan::Turn;
-use run_setup::{Worker, WorkerEnds, what_ran_can_be_closed};
+use run_setup::{WorkerEnds, what_ran_can_be_closed, worker_ends};
 use run_tasks::{ShardTask, TaskEnds};
-use run_workers::work_all;
+use run_threads::{PoolFront, TaskSlot};
 use std::alloc::Global;
 use std::sync::Wait;
-use std::thread::Threads;
 
-/// What the front and the workers begin with: the pool, the workers, and room for what they leave.
-pub(crate) struct SideStart<'c, 't, 'd: 't, 'r: 'd, 'i: 'r, N: RunName> {
-    pub(crate) front: FrontStart<'c, 't, 'd, 'r, 'i, N>,
-    pub(crate) pool: Pool<ShardTask<'t, 'd, 'r, 'i, N>>,
-    pub(crate) workers: Vec<Worker<'c, 't, 'd, 'r, 'i, N>>,
-    pub(crate) ends: WorkerEnds<'t, 'd, 'r, 'i, N>,
-    pub(crate) helped: Vec<HelperEnd<ShardTask<'t, 'd, 'r, 'i, N>>>,
+/// Room for what the workers and the helper leave.
+pub(crate) struct SideRoom<'t, 'i: 't, N: RunName> {
+    pub(crate) ends: WorkerEnds<'t, 'i, N>,
+    pub(crate) helped: Vec<HelperEnd<ShardTask<'t, 'i, N>>>,
 }
 
-/// What they leave: what is left of the workers' worlds, by worker, and what the front leaves.
-pub(crate) struct SideEnd<'t, 'd: 't, 'r: 'd, 'i: 'r, N: RunName> {
-    pub(crate) worlds: Vec<TaskEnds<'t, 'd, 'r, 'i, N>>,
-    pub(crate) left: FrontLeft<'t, 'd, 'r, 'i, N>,
+/// What the front and the workers leave: what is left of the workers' worlds, by worker, and what the front leaves.
+pub(crate) struct SideEnd<'t, N: RunName> {
+    pub(crate) worlds: Vec<TaskEnds<'t, N>>,
+    pub(crate) left: FrontLeft<'t, N>,
 }
 
-/// Both phases of the front, and between them all workers.
-pub(crate) fn both_phases<
+/// The front of a run: what it has before it has begun, beside the workers, and what it leaves behind them. The turns, the place of the stop, and
+/// the gate are lent.
+pub(crate) struct FrontRun<'g, 'c, 't, 'i: 't, N: RunName, G> {
+    pub(crate) start: Option<FrontStart<'c, 't, 'i, N>>,
+    pub(crate) mid: Option<FrontMid<'c, 't, 'i, N>>,
+    pub(crate) room: Option<SideRoom<'t, 'i, N>>,
+    pub(crate) end: Option<SideEnd<'t, N>>,
+    pub(crate) turns: &'g [Turn],
+    pub(crate) stop: Option<usize>,
+    pub(crate) gate: &'g G,
+    pub(crate) alloc: Global,
+}
+
+impl<
+    'g,
     'c,
     't,
-    'd: 't,
-    'r: 'd,
-    'i: 'r,
-    N: RunName + Send + Sync + 'static,
+    'i: 't,
+    N: RunName + 'static,
     G: Gate,
-    R: Threads + Wait + Sync,
->(
-    rt: &R,
-    alloc: Global,
-    turns: &[Turn],
-    stop: Option<usize>,
-    gate: &G,
-    start: SideStart<'c, 't, 'd, 'r, 'i, N>,
-) -> SideEnd<'t, 'd, 'r, 'i, N>
-    requires timed { IsTimed N.asked turns.now stop }
-    requires start { (ids : RunIds) × IsSideStart N.asked ids start }
-    ensures { (ids : RunIds) → IsSideStart N.asked ids start.entry → IsSideEnd N.asked ids result }
-{
-    let SideStart {
-        front,
-        pool,
-        workers,
-        ends,
-        helped,
-    } = start;
-    new_passes_are_unused();
-    what_ran_can_be_closed::<N, G>();
-    let mid = first(rt, &pool, gate, turns, stop, front);
-    let WorkerEnds { ends, worlds } = work_behind(rt, alloc, &pool, gate, workers, ends);
-    let left = second_phase(rt, alloc, pool, ends, helped, turns, stop, mid);
-    SideEnd { worlds, left }
+> PoolFront<Pool<ShardTask<'t, 'i, N>>, TaskSlot<'c, 't, 'i, N>> for FrontRun<'g, 'c, 't, 'i, N, G> {
+    ghost use Rattle.fanout.specs.Beside.{CanEndFront, HasBegunFront, HasEndedFront, IsReadyFront};
+
+    ghost ready = { IsReadyFront N.asked };
+
+    ghost begun = { HasBegunFront N.asked };
+
+    ghost can_end = { CanEndFront N.asked };
+
+    ghost ended = { HasEndedFront N.asked };
+
+    /// The tasks of all early queries are added, and the pool's end has begun.
+    fn begin<R: Wait>(&mut self, rt: &R, pool: &Pool<ShardTask<'t, 'i, N>>) {
+        let Some(start) = self.start.take() else {
+            unreachable!()
+        };
+        let mid = first(rt, pool, self.gate, self.turns, self.stop, start);
+        let none = self.mid.replace(mid);
+        let None = none else { unreachable!() };
+    }
+
+    /// The pool is ended, and the late queries are run here.
+    fn end<R: Wait>(
+        &mut self,
+        rt: &R,
+        pool: Pool<ShardTask<'t, 'i, N>>,
+        workers: Vec<TaskSlot<'c, 't, 'i, N>>,
+    ) {
+        let Some(mid) = self.mid.take() else {
+            unreachable!()
+        };
+        let Some(room) = self.room.take() else {
+            unreachable!()
+        };
+        let end = end_side(rt, self.alloc, self.turns, self.stop, pool, workers, mid, room);
+        let none = self.end.replace(end);
+        let None = none else { unreachable!() };
+    }
 }
 
 /// The first phase of the front: the tasks of all early queries are added, and the pool's end has begun.
-fn first<'c, 't, 'd: 't, 'r: 'd, 'i: 'r, N: RunName + 'static, G: Gate, R: Wait>(
+fn first<'c, 't, 'i: 't, N: RunName + 'static, G: Gate, R: Wait>(
     rt: &R,
-    pool: &Pool<ShardTask<'t, 'd, 'r, 'i, N>>,
+    pool: &Pool<ShardTask<'t, 'i, N>>,
     gate: &G,
     turns: &[Turn],
     stop: Option<usize>,
-    start: FrontStart<'c, 't, 'd, 'r, 'i, N>,
-) -> FrontMid<'c, 't, 'd, 'r, 'i, N>
+    start: FrontStart<'c, 't, 'i, N>,
+) -> FrontMid<'c, 't, 'i, N>
     requires timed { IsTimed N.asked turns.now stop }
     requires start { IsFirstStart N.asked pool.now start }
     ensures { IsFirstEnd N.asked stop pool.now start.entry result }
@@ -90,28 +110,27 @@ fn first<'c, 't, 'd: 't, 'r: 'd, 'i: 'r, N: RunName + 'static, G: Gate, R: Wait>
     first_phase(rt, pool, gate, turns, stop, start)
 }
 
-/// All workers, each on a thread of its own, behind the first phase of the front: each works until the pool has no task left.
-fn work_behind<
-    'c,
-    't,
-    'd: 't,
-    'r: 'd,
-    'i: 'r,
-    N: RunName + Send + Sync + 'static,
-    G: Gate,
-    R: Threads + Wait + Sync,
->(
+/// The second phase of the front, behind all workers.
+fn end_side<'c, 't, 'i: 't, N: RunName + 'static, R: Wait>(
     rt: &R,
     alloc: Global,
-    pool: &Pool<ShardTask<'t, 'd, 'r, 'i, N>>,
-    gate: &G,
-    workers: Vec<Worker<'c, 't, 'd, 'r, 'i, N>>,
-    room: WorkerEnds<'t, 'd, 'r, 'i, N>,
-) -> WorkerEnds<'t, 'd, 'r, 'i, N>
-    requires workers { (ids : RunIds) × AreWorkers ids pool.now.id workers.items × HasEndRoom ids.workers room }
-    ensures worlds { (ids : RunIds) → AreWorkers ids pool.now.id workers.entry.items → AreWorldEnds ids result.worlds.items }
-    ensures ends { (ids : RunIds) → AreWorkers ids pool.now.id workers.entry.items → AreAllEnds pool.now.id ids.workers result.ends.items }
-    ensures done { All (λ w. w.refused ≡ false) result.worlds.items → AllDone result.ends.items }
+    turns: &[Turn],
+    stop: Option<usize>,
+    pool: Pool<ShardTask<'t, 'i, N>>,
+    workers: Vec<TaskSlot<'c, 't, 'i, N>>,
+    mid: FrontMid<'c, 't, 'i, N>,
+    room: SideRoom<'t, 'i, N>,
+) -> SideEnd<'t, N>
+    requires timed { IsTimed N.asked turns.now stop }
+    requires behind { (ids : RunIds) × (start : FrontStart N) × (old : List (WorkerSlot TaskSeen (WorldSeen N)))
+        × IsSideStart N.asked ids start pool old room × IsFirstEnd N.asked stop pool start mid × AllRan (HasWorked TaskRan) old workers.items }
+    ensures { (ids : RunIds) (start : FrontStart N) (old : List (WorkerSlot TaskSeen (WorldSeen N))) →
+        IsSideStart N.asked ids start pool old room.entry → IsFirstEnd N.asked stop pool start mid.entry → AllRan (HasWorked TaskRan) old workers.entry.items →
+        IsSideEnd N.asked ids result }
 {
-    work_all(rt, alloc, pool, gate, workers, room, &mut || {})
+    what_ran_can_be_closed::<N>();
+    let SideRoom { ends, helped } = room;
+    let WorkerEnds { ends, worlds } = worker_ends(rt, workers, ends);
+    let left = second_phase(rt, alloc, pool, ends, helped, turns, stop, mid);
+    SideEnd { worlds, left }
 }

@@ -3,58 +3,37 @@ ghost use Rattle.core_cells.specs.Seen.{AreAll};
 ghost use Rattle.fan_base.specs.Outside.{shown};
 ghost use Rattle.run_printing.specs.Ends.{HasPrinted, IsBaseOf, IsNewBase};
 ghost use Rattle.run_stages.specs.Stages.{AllRan, AllReady};
-ghost use Rattle.run_threads.specs.Slots.{HasGatheredIn, IsReadyToGather};
+ghost use Rattle.run_tasks.specs.Worlds.{TaskRan};
+ghost use Rattle.run_threads.specs.Beside.{HasRunAll, MayRunAll};
+ghost use Rattle.run_threads.specs.Slots.{HasGatheredIn, HasWorked, IsReadyToGather, IsReadyToWork};
 ghost use Rattle.run_setup.specs.Ids.{RunIds};
 ghost use Rattle.run_setup.specs.Opening.{IsSetup};
+ghost use Rattle.run_desks.specs.Tables.{AreTablesOf};
+ghost use Rattle.fanout.specs.Beside.{CanEndFront, HasBegunFront, HasEndedFront, IsReadyFront};
 ghost use Rattle.fanout.specs.Ends.{IsEndOf};
-ghost use Rattle.fanout.specs.Homes.{AreEnough};
 ghost use Rattle.fanout.specs.Plans.{IsPlanned};
 
 use crate::ending::put_together;
-use crate::front::{SideStart, both_phases};
+use crate::front::{FrontRun, SideRoom};
 use crate::plan::RunPlan;
 use crate::run::FanEnd;
 use core_word::Tally;
 use event_base::EventBase;
 use fan_base::{Gate, Memory, Sink};
-use fan_model::laws::comings_in_order;
-use fan_parts::{InnerKey, PartDesk, PrintJob, ReplyKey, RunName, RunShards};
-use run_front::{EmptySlots, Front};
+use fan_parts::{PrintJob, RunName, RunShards};
+use prio_pool::{Pool, new_passes_are_unused};
+use run_desks::OpenDesks;
+use run_front::Front;
 use run_phases::FrontStart;
 use run_printing::PrintStage;
 use run_setup::{
     Setup, TaskCellPass, TaskCells, a_setup_is_ready, open_run, what_ran_can_be_closed,
 };
-use run_threads::{GatherSlot, run_beside_front};
+use run_tasks::ShardTask;
+use run_threads::{GatherSlot, PrinterSlot, TaskSlot, run_all_beside};
 use std::alloc::Global;
 use std::sync::Wait;
 use std::thread::Threads;
-
-/// What the front needs of the homes: the slots of desks, and the keys of the replies' cores and of the inner cores.
-pub(crate) struct FrontHomes<'d, 'r: 'd, 'i: 'r, N: RunName> {
-    pub(crate) desks: EmptySlots<'d, PartDesk<'r, 'i, N>>,
-    pub(crate) replies: Vec<ReplyKey<'r, 'i, N>>,
-    pub(crate) inners: Vec<InnerKey<'i, N>>,
-}
-
-impl<'d, 'r: 'd, 'i: 'r, N: RunName + 'static> FrontHomes<'d, 'r, 'i, N> {
-    /// Lets them go.
-    pub(crate) fn end(self) {
-        let FrontHomes {
-            desks,
-            replies,
-            inners: _,
-        } = self;
-        desks.end();
-        let_go_keys(replies);
-    }
-}
-
-/// Lets go of keys, one by one. Their homes are not used.
-pub(crate) fn let_go_keys<'r, 'i: 'r, N: RunName + 'static>(mut keys: Vec<ReplyKey<'r, 'i, N>>) {
-    'keys: while let Some(_key) = keys.pop() {}
-    keys.destroy_empty();
-}
 
 /// Opens the bases, the worlds and the pool, runs all stages on their threads, and closes all.
 pub(crate) fn run_over_cells<
@@ -73,30 +52,28 @@ pub(crate) fn run_over_cells<
     rt: &R,
     alloc: Global,
     plan: &RunPlan<'l, 'g, N, G>,
-    cells: &'c TaskCells<'t, 'd, 'r, 'i, N>,
-    passes: Vec<TaskCellPass<'t, 'd, 'r, 'i, N>>,
-    homes: FrontHomes<'d, 'r, 'i, N>,
+    cells: &'c TaskCells<'t, N>,
+    passes: Vec<TaskCellPass<'t, N>>,
+    desks: OpenDesks<'d, 'r, 'i, N>,
     sink: &mut K,
 ) -> FanEnd
     requires plan { IsPlanned N.asked plan.now.lines.now plan.now.turns.now plan.now.counted.now plan.now.stop plan.now.knobs }
     requires passes { length passes.items ≡ plan.now.knobs.workers + 1 }
     requires all { AreAll cells.now passes.items }
-    requires homes { AreEnough N.asked homes }
+    requires desks { AreTablesOf N.asked desks.tables.items }
     ensures { IsEndOf N.asked (shown (K.holds sink.old) (K.faults sink.old)) (shown (K.holds sink.new) (K.faults sink.new)) result }
 {
     let workers = plan.knobs.workers;
     let bases = plan.knobs.bases;
     let shards = RunShards::new(&*plan.shards.all());
-    match open_run(rt, alloc, cells, passes, &shards, workers, bases) {
-        Ok(setup) => run_opened(rt, alloc, plan, setup, homes, sink),
-        Err(Memory) => {
-            homes.end();
-            FanEnd::refused(alloc)
-        }
+    let OpenDesks { tables, tally } = desks;
+    match open_run(rt, alloc, cells, passes, &shards, tables, workers, bases) {
+        Ok(setup) => run_opened(rt, alloc, plan, setup, tally, sink),
+        Err(Memory) => FanEnd::refused(alloc),
     }
 }
 
-/// Runs the front and the workers, then the other stages, and closes all.
+/// Runs all stages beside each other, and closes all.
 fn run_opened<
     'c,
     't,
@@ -114,12 +91,11 @@ fn run_opened<
     alloc: Global,
     plan: &RunPlan<'l, 'g, N, G>,
     setup: Setup<'c, 't, 'd, 'r, 'i, N>,
-    homes: FrontHomes<'d, 'r, 'i, N>,
+    tally: Tally,
     sink: &mut K,
 ) -> FanEnd
     requires plan { IsPlanned N.asked plan.now.lines.now plan.now.turns.now plan.now.counted.now plan.now.stop plan.now.knobs }
     requires setup { (ids : RunIds) × (ids.workers ≡ plan.now.knobs.workers) × IsSetup N.asked ids setup }
-    requires homes { AreEnough N.asked homes }
     ensures { IsEndOf N.asked (shown (K.holds sink.old) (K.faults sink.old)) (shown (K.holds sink.new) (K.faults sink.new)) result }
 {
     let Setup {
@@ -137,57 +113,72 @@ fn run_opened<
         helped,
         back,
     } = setup;
-    let FrontHomes {
-        desks,
-        replies,
-        inners,
-    } = homes;
     let front = Front {
         world,
         printer: poster,
-        replies,
-        inners,
-        desks,
         lines: &*plan.lines,
         shards: plan.shards.all().len() as u32,
         bases: plan.knobs.bases,
-        alloc,
-        tally: Tally::new(),
     };
-    let start = SideStart {
-        front: FrontStart {
+    let front = FrontRun {
+        start: Some(FrontStart {
             front,
             owner,
             keep,
             adders,
             helper,
-        },
-        pool,
-        workers,
-        ends,
-        helped,
+        }),
+        mid: None,
+        room: Some(SideRoom { ends, helped }),
+        end: None,
+        turns: plan.turns,
+        stop: plan.stop,
+        gate: plan.gate,
+        alloc,
     };
-    comings_in_order();
-    a_setup_is_ready::<N, G>();
-    what_ran_can_be_closed::<N, G>();
-    let end = both_phases(rt, alloc, plan.turns, plan.stop, plan.gate, start);
-    let StagesEnd { printed, gatherers } = gather_and_print(rt, alloc, printer, sink, gatherers);
-    put_together(rt, alloc, plan, back, gatherers, printed, end)
+    a_setup_is_ready::<N>();
+    new_passes_are_unused();
+    what_ran_can_be_closed::<N>();
+    let StagesEnd {
+        printed,
+        gatherers,
+        front,
+    } = run_stages(rt, alloc, printer, sink, gatherers, pool, workers, plan.gate, front);
+    let FrontRun {
+        start,
+        mid,
+        room,
+        end,
+        turns: _,
+        stop: _,
+        gate: _,
+        alloc: _,
+    } = front;
+    let None = start else { unreachable!() };
+    let None = mid else { unreachable!() };
+    let None = room else { unreachable!() };
+    let Some(end) = end else { unreachable!() };
+    put_together(rt, alloc, plan, back, gatherers, printed, end, tally)
 }
 
 /// What the stages come to.
-struct StagesEnd<'d, 'r: 'd, 'i: 'r, N: RunName> {
+struct StagesEnd<'g, 'c, 't, 'd, 'r: 'd, 'i: 'r, N: RunName, G> {
     printed: PrintStage<PrintJob<N>>,
     gatherers: Vec<GatherSlot<'d, 'r, 'i, N>>,
+    front: FrontRun<'g, 'c, 't, 'i, N, G>,
 }
 
-/// The printer's stage and the gathering ones, each on a thread of its own, behind the front and the workers.
-fn gather_and_print<
-    'd,
+/// The printer, the gatherers, the workers and the front, all beside each other.
+fn run_stages<
+    'g,
+    'c,
+    't,
+    'd: 't,
     'r: 'd,
     'i: 'r,
     N: RunName + Send + Sync + 'static,
     K: Sink + Send,
+    G: Gate,
     R: Threads + Wait + Sync,
 >(
     rt: &R,
@@ -195,14 +186,44 @@ fn gather_and_print<
     printer: EventBase<PrintJob<N>>,
     sink: &mut K,
     gatherers: Vec<GatherSlot<'d, 'r, 'i, N>>,
-) -> StagesEnd<'d, 'r, 'i, N>
+    pool: Pool<ShardTask<'t, 'i, N>>,
+    workers: Vec<TaskSlot<'c, 't, 'i, N>>,
+    gate: &G,
+    front: FrontRun<'g, 'c, 't, 'i, N, G>,
+) -> StagesEnd<'g, 'c, 't, 'd, 'r, 'i, N, G>
     requires printer { IsNewBase printer }
     requires gatherers { AllReady (IsReadyToGather N.asked) gatherers.items }
+    requires workers { AllReady (IsReadyToWork pool.id) workers.items }
+    requires front { MayRunAll (IsReadyFront N.asked) (HasBegunFront N.asked) (CanEndFront N.asked) (HasWorked TaskRan) front pool workers.items }
     ensures printed { HasPrinted N.asked.lines (shown (K.holds sink.old) (K.faults sink.old)) (shown (K.holds sink.new) (K.faults sink.new)) result.printed }
     ensures base { IsBaseOf printer result.printed.base }
     ensures gatherers { AllRan HasGatheredIn gatherers.entry.items result.gatherers.items }
+    ensures front { HasRunAll (HasBegunFront N.asked) (HasEndedFront N.asked) (HasWorked TaskRan) front.entry pool workers.entry.items result.front }
 {
     let mut gatherers = gatherers;
-    let printed = run_beside_front(rt, alloc, printer, sink, &mut gatherers, &mut || {});
-    StagesEnd { printed, gatherers }
+    let mut front = front;
+    let mut base = Some(printer);
+    let mut stage = None;
+    let mut slot = PrinterSlot {
+        base: &mut base,
+        sink,
+        stage: &mut stage,
+        alloc,
+    };
+    run_all_beside(rt, &mut slot, &mut gatherers, pool, workers, gate, &mut front);
+    let PrinterSlot {
+        base: _,
+        sink: _,
+        stage: _,
+        alloc: _,
+    } = slot;
+    let None = base else { unreachable!() };
+    let Some(printed) = stage else {
+        unreachable!()
+    };
+    StagesEnd {
+        printed,
+        gatherers,
+        front,
+    }
 }

@@ -6,17 +6,20 @@ ghost use Rattle.query_model.specs.Documents.{IsWithinLimits, docs_of};
 ghost use Rattle.fan_model.specs.Answered.{answered_in, tops_in};
 ghost use Rattle.query_parts.specs.Parts.{AreShards};
 ghost use Rattle.fanout.specs.Ends.{AreKnobs, IsEndOf, asking_of};
+ghost use Rattle.run_desks.specs.Tables.{AreTablesOf};
 ghost use Rattle.fanout.specs.Homes.{AreEnough};
 ghost use Rattle.fanout.specs.Plans.{IsPlanned};
 
-use crate::inside::{FrontHomes, let_go_keys, run_over_cells};
+use crate::inside::run_over_cells;
 use crate::plan::RunPlan;
 use crate::run::{FanEnd, Knobs};
 use core_cells::Cells;
+use core_word::Tally;
 use fan_base::{ExecId, Gate, Memory, Sink};
+use fan_model::laws::comings_in_order;
 use fan_parts::{InnerKey, PartDesk, ReplyHome, ReplyKey, RunName, RunShards, TaskHome};
 use query_model::Lines;
-use run_front::EmptySlots;
+use run_desks::{DeskKeys, EmptySlots, OpenDesks, let_go_keys, open_desks};
 use run_homes::{
     close_desks, close_reply_homes, close_task_homes, empty_slots, keys_of, new_homes,
 };
@@ -29,13 +32,10 @@ use std::thread::Threads;
 // Homes, or those that were made before memory ran out.
 type MadeReplyHomes<'i, N> = Result<Vec<ReplyHome<'i, N>>, Vec<ReplyHome<'i, N>>>;
 
-type MadeTaskHomes<'d, 'r, 'i, N> = Result<
-    Vec<TaskHome<'d, 'r, 'i, N>>,
-    Vec<TaskHome<'d, 'r, 'i, N>>,
->;
+type MadeTaskHomes<N> = Result<Vec<TaskHome<N>>, Vec<TaskHome<N>>>;
 
 // The most homes that the cores of tasks have.
-const MOST_CELLS: u64 = 65_536;
+const MOST_CELLS: u64 = 1_024;
 
 /// Plans the run of this name, and makes the homes of its inner cores.
 pub(crate) fn run_named<
@@ -176,12 +176,17 @@ fn over_reply_keys<
     );
     match made {
         Ok(mut slots) => {
-            let homes = FrontHomes {
-                desks: EmptySlots::new(slots.as_mut_slice()),
+            let keys = DeskKeys {
                 replies,
                 inners,
+                desks: EmptySlots::new(slots.as_mut_slice()),
+                lines: &*plan.lines,
+                shards: plan.shards.all().len() as u32,
+                bases: plan.knobs.bases,
+                alloc,
+                tally: Tally::new(),
             };
-            let end = over_desks(rt, alloc, &*plan, homes, sink);
+            let end = over_slots(rt, alloc, &*plan, keys, sink);
             close_desks(slots);
             end
         }
@@ -189,6 +194,35 @@ fn over_reply_keys<
             let_go_keys(replies);
             FanEnd::refused(alloc)
         }
+    }
+}
+
+/// Opens the desks.
+fn over_slots<
+    'd,
+    'r: 'd,
+    'i: 'r,
+    'l: 'i,
+    'g,
+    N: RunName + Send + Sync + 'static,
+    K: Sink + Send,
+    G: Gate,
+    R: Threads + Wait + Sync,
+>(
+    rt: &R,
+    alloc: Global,
+    plan: &RunPlan<'l, 'g, N, G>,
+    keys: DeskKeys<'d, 'r, 'i, N>,
+    sink: &mut K,
+) -> FanEnd
+    requires plan { IsPlanned N.asked plan.now.lines.now plan.now.turns.now plan.now.counted.now plan.now.stop plan.now.knobs }
+    requires keys { AreEnough N.asked keys }
+    ensures { IsEndOf N.asked (shown (K.holds sink.old) (K.faults sink.old)) (shown (K.holds sink.new) (K.faults sink.new)) result }
+{
+    comings_in_order();
+    match open_desks(rt, plan.turns, keys) {
+        Ok(desks) => over_desks(rt, alloc, &*plan, desks, sink),
+        Err(Memory) => FanEnd::refused(alloc),
     }
 }
 
@@ -207,23 +241,23 @@ fn over_desks<
     rt: &R,
     alloc: Global,
     plan: &RunPlan<'l, 'g, N, G>,
-    homes: FrontHomes<'d, 'r, 'i, N>,
+    desks: OpenDesks<'d, 'r, 'i, N>,
     sink: &mut K,
 ) -> FanEnd
     requires plan { IsPlanned N.asked plan.now.lines.now plan.now.turns.now plan.now.counted.now plan.now.stop plan.now.knobs }
-    requires homes { AreEnough N.asked homes }
+    requires desks { AreTablesOf N.asked desks.tables.items }
     ensures { IsEndOf N.asked (shown (K.holds sink.old) (K.faults sink.old)) (shown (K.holds sink.new) (K.faults sink.new)) result }
 {
-    let made: MadeTaskHomes<'d, 'r, 'i, N> = new_homes(alloc, plan.cells());
+    let made: MadeTaskHomes<N> = new_homes(alloc, plan.cells());
     match made {
         Ok(mut tasks) => {
-            let end = over_task_homes(rt, alloc, &*plan, tasks.as_mut_slice(), homes, sink);
+            let end = over_task_homes(rt, alloc, &*plan, tasks.as_mut_slice(), desks, sink);
             close_task_homes(tasks);
             end
         }
         Err(tasks) => {
             close_task_homes(tasks);
-            homes.end();
+            desks.give_up();
             FanEnd::refused(alloc)
         }
     }
@@ -245,21 +279,21 @@ fn over_task_homes<
     rt: &R,
     alloc: Global,
     plan: &RunPlan<'l, 'g, N, G>,
-    tasks: &'t mut [TaskHome<'d, 'r, 'i, N>],
-    homes: FrontHomes<'d, 'r, 'i, N>,
+    tasks: &'t mut [TaskHome<N>],
+    desks: OpenDesks<'d, 'r, 'i, N>,
     sink: &mut K,
 ) -> FanEnd
     requires plan { IsPlanned N.asked plan.now.lines.now plan.now.turns.now plan.now.counted.now plan.now.stop plan.now.knobs }
     requires untaken { All (λ (home : SeenHome). home.taken ≡ false) tasks.old }
     requires tasks { (0 < length tasks.old) × (length tasks.old ≤ 65536) }
-    requires homes { AreEnough N.asked homes }
+    requires desks { AreTablesOf N.asked desks.tables.items }
     ensures { IsEndOf N.asked (shown (K.holds sink.old) (K.faults sink.old)) (shown (K.holds sink.new) (K.faults sink.new)) result }
 {
     let Ok((cells, passes)) = Cells::new(rt, alloc, tasks, plan.knobs.workers + 1) else {
-        homes.end();
+        desks.give_up();
         return FanEnd::refused(alloc);
     };
-    let end = run_over_cells(rt, alloc, &*plan, &cells, passes, homes, sink);
+    let end = run_over_cells(rt, alloc, &*plan, &cells, passes, desks, sink);
     let_go(cells);
     end
 }
@@ -270,9 +304,9 @@ fn let_go<'h, T, C, P>(cells: Cells<'h, T, C, P>) {
 }
 
 impl<'l, 'g, N: RunName, G> RunPlan<'l, 'g, N, G> {
-    /// How many homes the cores of tasks get: as many as there are tasks, 1 to 65,536.
+    /// How many homes the cores of tasks get: as many as there are tasks, 1 to 1,024.
     fn cells(&self) -> usize
-        ensures { (0 < result) × (result ≤ 65536) }
+        ensures { (0 < result) × (result ≤ 1024) }
     {
         let shards = self.shards.all().len() as u64;
         let tasks = self.counted.answered.saturating_mul(shards);

@@ -38,14 +38,14 @@ impl<'d, 'r: 'd, 'i: 'r, N: RunName + 'static> DeskKeys<'d, 'r, 'i, N> {
             alloc: _,
             tally,
         } = self;
-        let_go(replies);
+        let_go_keys(replies);
         desks.end();
         tally
     }
 }
 
-// Lets go of keys, one by one. Their homes are not used.
-fn let_go<'r, 'i: 'r, N: RunName + 'static>(mut keys: Vec<ReplyKey<'r, 'i, N>>) {
+/// Lets go of keys, one by one. Their homes are not used.
+pub fn let_go_keys<'r, 'i: 'r, N: RunName + 'static>(mut keys: Vec<ReplyKey<'r, 'i, N>>) {
     'keys: while let Some(_key) = keys.pop() {}
     keys.destroy_empty();
 }

@@ -7,7 +7,7 @@
 //! ```
 #![tactic(auto)]
 
-pub use keys::DeskKeys;
+pub use keys::{DeskKeys, let_go_keys};
 pub use laws::{begun_query_is_asked, known_turns};
 pub use run::{OpenDesks, open_desks};
 pub use slots::EmptySlots;

@@ -1,13 +1,11 @@
 //! The tables of the gathering bases, and the arrivals in them.
-ghost use Rattle.std.specs.Prelude.{◌≡◌, ◌≤◌, ◌<◌, IfOk, length};
-ghost use Rattle.fan_parts.specs.Facts.{IsCountable};
+ghost use Rattle.std.specs.Prelude.{◌≡◌, ◌≤◌, IfOk, length};
 ghost use Rattle.query_opening.specs.Turns.{IsDeskOf};
-ghost use Rattle.run_desks.specs.Tables.{AreTablesOf};
 
 use collect_ops::Arrivals;
 use fan_base::Memory;
 use fan_parts::{PartDesk, RunName};
-use run_gathering::{AwaitedPart, PartTable};
+use run_gathering::{AwaitedPart, PartTable, close_tables};
 use std::alloc::Global;
 
 /// A table for each of so many gathering bases, for queries with a number up to the highest. Where memory runs out, those that were made are
@@ -36,14 +34,6 @@ pub(crate) fn new_tables<'d, 'r: 'd, 'i: 'r, N: RunName>(
         }
     }
     Ok(tables)
-}
-
-/// Spends all arrivals in these tables.
-pub fn close_tables<'d, 'r: 'd, 'i: 'r, N: RunName>(mut tables: Vec<PartTable<'d, 'r, 'i, N>>) {
-    'tables: while let Some(table) = tables.pop() {
-        table.close();
-    }
-    tables.destroy_empty();
 }
 
 /// Puts all arrivals at the desk of a query into the table of its base.

@@ -1,6 +1,3 @@
-mod Begun
-mod Keys
 mod Running
 mod Helping
 mod Posting
-mod Counting

@@ -1,4 +1,3 @@
 pub mod Fronts
 pub mod Turns
 pub mod Posted
-pub mod Counted

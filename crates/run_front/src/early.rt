@@ -1,5 +1,4 @@
 ghost use Rattle.std.specs.Prelude.{◌≡◌, ◌+◌, ◌<◌, ◌≤◌, [], ℕ, List, OnOk, length, map, take, drop};
-ghost use Rattle.core_word.specs.Count.{Counts};
 ghost use Rattle.fan_model.specs.Comings.{comings_of};
 ghost use Rattle.fan_model.specs.Tasks.{Run, pool_exec, task_runs};
 ghost use Rattle.fan_parts.specs.declared.jobs.PrintJob.{PrintJob};
@@ -10,33 +9,32 @@ ghost use Rattle.query_tasks.specs.Starting.{HasHelped};
 ghost use Rattle.run_notes.specs.Told.{run_of_add};
 ghost use Rattle.run_plan.specs.Turns.{AreTurnsOf, begun_in};
 ghost use Rattle.run_tasks.specs.Worlds.{told_of};
-ghost use Rattle.run_front.specs.Fronts.{AreRunsTo, HasKeysFor, IsFrontOf};
-ghost use Rattle.run_front.specs.Counted.{HasMade};
+ghost use Rattle.run_front.specs.Fronts.{AreRunsTo, IsFrontOf};
 ghost use Rattle.run_front.specs.Posted.{HasPosted};
-ghost use Rattle.run_front.specs.Turns.{IsTurnAt};
+ghost use Rattle.run_desks.specs.Turns.{IsTurnAt};
 
 use crate::cancelling::cancel_query;
 use crate::front::Front;
-use crate::laws::{begun_query_is_asked, known_turns};
-use crate::opening::{OpenedQuery, open_query};
 use crate::priority::{gathering_exec, prio_at, priority_of};
 use fan_base::{Gate, Memory};
 use fan_parts::RunName;
 use keep_alive::KeepAlive;
+use query_opening::numbered_ask;
 use query_tasks::{TaskAdder, TaskHelper, TaskPool, start_tasks, tasks_are_runs};
+use run_desks::{begun_query_is_asked, known_turns};
 use run_plan::laws::place_by_place;
 use run_plan::{BegunQuery, Turn};
 use std::sync::Wait;
 
 /// The turns before a place, all of whose queries are early: their tasks are added to the pool, which has three queues. It ends at the first
 /// turn that finds no memory.
-pub fn early_turns<'c, 't, 'd: 't, 'r: 'd, 'i: 'r, N: RunName + 'static, G: Gate, R: Wait>(
+pub fn early_turns<'c, 't, 'i: 't, N: RunName + 'static, G: Gate, R: Wait>(
     rt: &R,
-    front: &mut Front<'c, 't, 'd, 'r, 'i, N>,
-    pool: &TaskPool<'t, 'd, 'r, 'i, N>,
+    front: &mut Front<'c, 't, 'i, N>,
+    pool: &TaskPool<'t, 'i, N>,
     keep: &KeepAlive,
-    adder: &mut TaskAdder<'t, 'd, 'r, 'i, N>,
-    helper: &mut TaskHelper<'t, 'd, 'r, 'i, N>,
+    adder: &mut TaskAdder<'t, 'i, N>,
+    helper: &mut TaskHelper<'t, 'i, N>,
     gate: &G,
     turns: &[Turn],
     end: usize,
@@ -45,7 +43,6 @@ pub fn early_turns<'c, 't, 'd: 't, 'r: 'd, 'i: 'r, N: RunName + 'static, G: Gate
     requires end { end ≤ length turns.now }
     requires input { IsInput N.asked.lines }
     requires front { IsFrontOf N.asked front.old }
-    requires keys { HasKeysFor (comings_of N.asked.lines) front.old }
     requires pool { pool.now.exec ≡ pool_exec }
     requires queues { length pool.now.id.queues ≡ 3 }
     requires keep { keep.now.count ≡ pool.now.count }
@@ -59,8 +56,6 @@ pub fn early_turns<'c, 't, 'd: 't, 'r: 'd, 'i: 'r, N: RunName + 'static, G: Gate
     ensures front { IsFrontOf N.asked front.new }
     ensures printer { told_of front.new.printer ≡ told_of front.old.printer }
     ensures posted { (first : List (PrintJob N)) → HasPosted N.asked 0 first front.old.printer → OnOk result (HasPosted N.asked end first front.new.printer) }
-    ensures counted { OnOk result (HasMade N.asked 0 end front.old.tally front.new.tally) }
-    ensures keys { OnOk result (HasKeysFor (drop end (comings_of N.asked.lines)) front.new) }
 {
     known_turns::<N>();
     place_by_place();
@@ -81,20 +76,19 @@ pub fn early_turns<'c, 't, 'd: 't, 'r: 'd, 'i: 'r, N: RunName + 'static, G: Gate
 }
 
 /// One turn, whose query is early if it begins one.
-fn early_turn<'c, 't, 'd: 't, 'r: 'd, 'i: 'r, N: RunName + 'static, G: Gate, R: Wait>(
+fn early_turn<'c, 't, 'i: 't, N: RunName + 'static, G: Gate, R: Wait>(
     rt: &R,
-    front: &mut Front<'c, 't, 'd, 'r, 'i, N>,
-    pool: &TaskPool<'t, 'd, 'r, 'i, N>,
+    front: &mut Front<'c, 't, 'i, N>,
+    pool: &TaskPool<'t, 'i, N>,
     keep: &KeepAlive,
-    adder: &mut TaskAdder<'t, 'd, 'r, 'i, N>,
-    helper: &mut TaskHelper<'t, 'd, 'r, 'i, N>,
+    adder: &mut TaskAdder<'t, 'i, N>,
+    helper: &mut TaskHelper<'t, 'i, N>,
     gate: &G,
     turn: Turn,
     place: u32,
 ) -> Result<(), Memory>
     requires turn { IsTurnAt N.asked place turn }
     requires front { IsFrontOf N.asked front.old }
-    requires keys { HasKeysFor (drop place (comings_of N.asked.lines)) front.old }
     requires pool { pool.now.exec ≡ pool_exec }
     requires queues { length pool.now.id.queues ≡ 3 }
     requires keep { keep.now.count ≡ pool.now.count }
@@ -110,9 +104,6 @@ fn early_turn<'c, 't, 'd: 't, 'r: 'd, 'i: 'r, N: RunName + 'static, G: Gate, R: 
     ensures printer { told_of front.new.printer ≡ told_of front.old.printer }
     ensures posted { (first : List (PrintJob N)) → HasPosted N.asked place first front.old.printer →
         OnOk result (HasPosted N.asked (place + 1) first front.new.printer) }
-    ensures counted { (start : ℕ) (first : Counts) → start ≤ place → HasMade N.asked start place first front.old.tally →
-        OnOk result (HasMade N.asked start (place + 1) first front.new.tally) }
-    ensures keys { OnOk result (HasKeysFor (drop (place + 1) (comings_of N.asked.lines)) front.new) }
 {
     place_by_place();
     match turn {
@@ -121,21 +112,20 @@ fn early_turn<'c, 't, 'd: 't, 'r: 'd, 'i: 'r, N: RunName + 'static, G: Gate, R: 
     }
 }
 
-/// Opens an early query, and adds its tasks to the pool.
-fn early_query<'c, 't, 'd: 't, 'r: 'd, 'i: 'r, N: RunName + 'static, G: Gate, R: Wait>(
+/// Adds the tasks of an early query to the pool.
+fn early_query<'c, 't, 'i: 't, N: RunName + 'static, G: Gate, R: Wait>(
     rt: &R,
-    front: &mut Front<'c, 't, 'd, 'r, 'i, N>,
-    pool: &TaskPool<'t, 'd, 'r, 'i, N>,
+    front: &mut Front<'c, 't, 'i, N>,
+    pool: &TaskPool<'t, 'i, N>,
     keep: &KeepAlive,
-    adder: &mut TaskAdder<'t, 'd, 'r, 'i, N>,
-    helper: &mut TaskHelper<'t, 'd, 'r, 'i, N>,
+    adder: &mut TaskAdder<'t, 'i, N>,
+    helper: &mut TaskHelper<'t, 'i, N>,
     gate: &G,
     query: BegunQuery,
     place: u32,
 ) -> Result<(), Memory>
     requires begun { IsBegun N.asked place query.number query.line query.documents }
     requires front { IsFrontOf N.asked front.old }
-    requires keys { HasKeysFor (drop place (comings_of N.asked.lines)) front.old }
     requires pool { pool.now.exec ≡ pool_exec }
     requires queues { length pool.now.id.queues ≡ 3 }
     requires keep { keep.now.count ≡ pool.now.count }
@@ -151,14 +141,11 @@ fn early_query<'c, 't, 'd: 't, 'r: 'd, 'i: 'r, N: RunName + 'static, G: Gate, R:
     ensures printer { told_of front.new.printer ≡ told_of front.old.printer }
     ensures posted { (first : List (PrintJob N)) → HasPosted N.asked place first front.old.printer →
         OnOk result (HasPosted N.asked (place + 1) first front.new.printer) }
-    ensures counted { (start : ℕ) (first : Counts) → start ≤ place → HasMade N.asked start place first front.old.tally →
-        OnOk result (HasMade N.asked start (place + 1) first front.new.tally) }
-    ensures keys { OnOk result (HasKeysFor (drop (place + 1) (comings_of N.asked.lines)) front.new) }
 {
     begun_query_is_asked::<N>();
     place_by_place();
     tasks_are_runs();
-    let OpenedQuery { ask, arrivals } = open_query(rt, front, place, query)?;
+    let ask = numbered_ask(front.lines, place, query.number, query.line, query.documents);
     let number = ask.number();
     let priority = priority_of(prio_at(front.lines, query.line));
     let exec = gathering_exec(number, front.bases);
@@ -175,6 +162,5 @@ fn early_query<'c, 't, 'd: 't, 'r: 'd, 'i: 'r, N: RunName + 'static, G: Gate, R:
         shards,
         priority,
         exec,
-        arrivals,
     )
 }

@@ -1,5 +1,4 @@
 ghost use Rattle.std.specs.Prelude.{◌≡◌, ◌+◌, ◌≤◌, ◌++◌, List, ℕ, false, OnOk, length, map, drop};
-ghost use Rattle.core_word.specs.Count.{Counts};
 ghost use Rattle.fan_model.specs.Comings.{comings_of};
 ghost use Rattle.fan_model.specs.Tasks.{Run, front_exec, task_runs};
 ghost use Rattle.fan_parts.specs.declared.jobs.PrintJob.{PrintJob};
@@ -8,19 +7,18 @@ ghost use Rattle.query_opening.specs.Turns.{IsBegun};
 ghost use Rattle.run_notes.specs.Told.{run_of_direct};
 ghost use Rattle.run_plan.specs.Turns.{AreTurnsOf, begun_in};
 ghost use Rattle.run_tasks.specs.Worlds.{Follows, told_of};
-ghost use Rattle.run_front.specs.Fronts.{AreRunsTo, HasKeysFor, IsFrontOf};
-ghost use Rattle.run_front.specs.Counted.{HasMade};
+ghost use Rattle.run_front.specs.Fronts.{AreRunsTo, IsFrontOf};
 ghost use Rattle.run_front.specs.Posted.{HasPosted};
-ghost use Rattle.run_front.specs.Turns.{IsTurnAt};
+ghost use Rattle.run_desks.specs.Turns.{IsTurnAt};
 
 use crate::cancelling::cancel_query;
 use crate::front::Front;
-use crate::laws::{begun_query_is_asked, known_turns};
-use crate::opening::{OpenedQuery, open_query};
 use crate::priority::{gathering_exec, prio_at, queue_number};
 use fan_base::{ExecId, Memory};
 use fan_parts::RunName;
+use query_opening::numbered_ask;
 use query_tasks::{run_tasks_here, tasks_are_runs};
+use run_desks::{begun_query_is_asked, known_turns};
 use run_notes::DirectRecords;
 use run_plan::laws::place_by_place;
 use run_plan::{BegunQuery, Turn};
@@ -28,9 +26,9 @@ use std::sync::Wait;
 
 /// The turns from a place on, all of whose queries are late: their tasks run here, one after another. It ends at the first turn that finds no
 /// memory.
-pub fn late_turns<'c, 't, 'd: 't, 'r: 'd, 'i: 'r, N: RunName + 'static, R: Wait>(
+pub fn late_turns<'c, 't, 'i: 't, N: RunName + 'static, R: Wait>(
     rt: &R,
-    front: &mut Front<'c, 't, 'd, 'r, 'i, N>,
+    front: &mut Front<'c, 't, 'i, N>,
     turns: &[Turn],
     start: usize,
     direct: &mut DirectRecords,
@@ -39,7 +37,6 @@ pub fn late_turns<'c, 't, 'd: 't, 'r: 'd, 'i: 'r, N: RunName + 'static, R: Wait>
     requires start { start ≤ length turns.now }
     requires input { IsInput N.asked.lines }
     requires front { IsFrontOf N.asked front.old }
-    requires keys { HasKeysFor (drop start (comings_of N.asked.lines)) front.old }
     ensures direct { OnOk result (front.new.world.refused ≡ false → map run_of_direct direct.new ≡ map run_of_direct direct.old
         ++ task_runs N.asked.lines N.asked.shards (front_exec N.asked.bases) (begun_in (drop start (comings_of N.asked.lines)))) }
     ensures follows { Follows front.old.world front.new.world }
@@ -47,7 +44,6 @@ pub fn late_turns<'c, 't, 'd: 't, 'r: 'd, 'i: 'r, N: RunName + 'static, R: Wait>
     ensures printer { told_of front.new.printer ≡ told_of front.old.printer }
     ensures posted { (first : List (PrintJob N)) → HasPosted N.asked start first front.old.printer →
         OnOk result (HasPosted N.asked (length turns.now) first front.new.printer) }
-    ensures counted { OnOk result (HasMade N.asked start (length turns.now) front.old.tally front.new.tally) }
 {
     known_turns::<N>();
     place_by_place();
@@ -58,16 +54,15 @@ pub fn late_turns<'c, 't, 'd: 't, 'r: 'd, 'i: 'r, N: RunName + 'static, R: Wait>
 }
 
 /// One turn, whose query is late if it begins one.
-fn late_turn<'c, 't, 'd: 't, 'r: 'd, 'i: 'r, N: RunName + 'static, R: Wait>(
+fn late_turn<'c, 't, 'i: 't, N: RunName + 'static, R: Wait>(
     rt: &R,
-    front: &mut Front<'c, 't, 'd, 'r, 'i, N>,
+    front: &mut Front<'c, 't, 'i, N>,
     turn: Turn,
     place: u32,
     direct: &mut DirectRecords,
 ) -> Result<(), Memory>
     requires turn { IsTurnAt N.asked place turn }
     requires front { IsFrontOf N.asked front.old }
-    requires keys { HasKeysFor (drop place (comings_of N.asked.lines)) front.old }
     ensures direct { (start : ℕ) (first : List Run) → start ≤ place →
         AreRunsTo N.asked (front_exec N.asked.bases) start place first (map run_of_direct direct.old) →
         OnOk result (front.new.world.refused ≡ false
@@ -77,9 +72,6 @@ fn late_turn<'c, 't, 'd: 't, 'r: 'd, 'i: 'r, N: RunName + 'static, R: Wait>(
     ensures printer { told_of front.new.printer ≡ told_of front.old.printer }
     ensures posted { (first : List (PrintJob N)) → HasPosted N.asked place first front.old.printer →
         OnOk result (HasPosted N.asked (place + 1) first front.new.printer) }
-    ensures counted { (start : ℕ) (first : Counts) → start ≤ place → HasMade N.asked start place first front.old.tally →
-        OnOk result (HasMade N.asked start (place + 1) first front.new.tally) }
-    ensures keys { OnOk result (HasKeysFor (drop (place + 1) (comings_of N.asked.lines)) front.new) }
 {
     place_by_place();
     match turn {
@@ -88,17 +80,16 @@ fn late_turn<'c, 't, 'd: 't, 'r: 'd, 'i: 'r, N: RunName + 'static, R: Wait>(
     }
 }
 
-/// Opens a late query, and runs its tasks here.
-fn late_query<'c, 't, 'd: 't, 'r: 'd, 'i: 'r, N: RunName + 'static, R: Wait>(
+/// Runs the tasks of a late query here.
+fn late_query<'c, 't, 'i: 't, N: RunName + 'static, R: Wait>(
     rt: &R,
-    front: &mut Front<'c, 't, 'd, 'r, 'i, N>,
+    front: &mut Front<'c, 't, 'i, N>,
     query: BegunQuery,
     place: u32,
     direct: &mut DirectRecords,
 ) -> Result<(), Memory>
     requires begun { IsBegun N.asked place query.number query.line query.documents }
     requires front { IsFrontOf N.asked front.old }
-    requires keys { HasKeysFor (drop place (comings_of N.asked.lines)) front.old }
     ensures direct { (start : ℕ) (first : List Run) → start ≤ place →
         AreRunsTo N.asked (front_exec N.asked.bases) start place first (map run_of_direct direct.old) →
         OnOk result (front.new.world.refused ≡ false
@@ -108,14 +99,11 @@ fn late_query<'c, 't, 'd: 't, 'r: 'd, 'i: 'r, N: RunName + 'static, R: Wait>(
     ensures printer { told_of front.new.printer ≡ told_of front.old.printer }
     ensures posted { (first : List (PrintJob N)) → HasPosted N.asked place first front.old.printer →
         OnOk result (HasPosted N.asked (place + 1) first front.new.printer) }
-    ensures counted { (start : ℕ) (first : Counts) → start ≤ place → HasMade N.asked start place first front.old.tally →
-        OnOk result (HasMade N.asked start (place + 1) first front.new.tally) }
-    ensures keys { OnOk result (HasKeysFor (drop (place + 1) (comings_of N.asked.lines)) front.new) }
 {
     begun_query_is_asked::<N>();
     place_by_place();
     tasks_are_runs();
-    let OpenedQuery { ask, arrivals } = open_query(rt, front, place, query)?;
+    let ask = numbered_ask(front.lines, place, query.number, query.line, query.documents);
     let number = ask.number();
     let queue = queue_number(prio_at(front.lines, query.line));
     let base = gathering_exec(number, front.bases);
@@ -129,7 +117,6 @@ fn late_query<'c, 't, 'd: 't, 'r: 'd, 'i: 'r, N: RunName + 'static, R: Wait>(
         queue,
         exec,
         base,
-        arrivals,
         direct,
     )
 }

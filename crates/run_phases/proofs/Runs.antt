@@ -12,14 +12,12 @@ use Rattle.fan_model.specs.Tasks.{Run, early_runs, front_exec, late_runs, pool_e
 use Rattle.pool_model.specs.Passes.{adds_of, adds_total}
 use Rattle.pool_model.specs.Seen.{PassSeen}
 use Rattle.prio_pool.specs.Running.{DirectSeen}
-use Rattle.run_front.specs.declared.front.Front.{Front}
-use Rattle.run_front.specs.Fronts.{HasKeysFor}
 use Rattle.run_notes.specs.Accounts.{AccountsFor, runs_added}
 use Rattle.run_notes.specs.declared.ending.PoolNotes.{PoolNotes}
 use Rattle.run_notes.specs.Told.{run_of, run_of_add, run_of_direct, told_of}
 use Rattle.run_plan.specs.declared.turn.Turn.{Turn}
 use Rattle.run_plan.specs.Turns.{begun_in}
-use Rattle.run_phases.specs.Phases.{HasKeysBehind, StopsAt}
+use Rattle.run_phases.specs.Phases.{StopsAt}
 
 pub early_are : (asked : Asking) (queries : List Asked) → queries ≡ early_of asked.stop_at (answered_in asked.lines) → task_runs asked.lines asked.shards pool_exec queries ≡ early_runs asked.lines asked.shards asked.stop_at
 unfolding early_runs
@@ -41,10 +39,6 @@ pub late_none : (asked : Asking) (turns : List Turn) (stop : Option ℕ) (direct
 late_none asked turns stop direct stops is none =
     let at : StopsAt asked turns None = subst (λ (s : Option ℕ). StopsAt asked turns s) is stops in
     ap (λ (l : List DirectSeen). map run_of_direct l) none ∙ late_are asked [] (sym at.late)
-
-pub keys_behind : {N : Type 0} (asked : Asking) (stop : Option ℕ) (end : ℕ) (front : Front N) → ((place : ℕ) → stop ≡ Some place → end ≡ place) → HasKeysFor (drop end (comings_of asked.lines)) front → HasKeysBehind asked stop front
-keys_behind asked None end front at keys = tt
-keys_behind asked (Some place) end front at keys = subst (λ (n : ℕ). HasKeysFor (drop n (comings_of asked.lines)) front) (at place refl) keys
 
 adds_counted : (passes : List PassSeen) → adds_total passes ≡ length (runs_added passes)
 adds_counted [] = refl

@@ -1,15 +1,12 @@
 -- The phases of a run's front.
-use Rattle.std.specs.Prelude.{◌≡◌, ℕ, ◌≤◌, Bool, List, [], ◌∷◌, Option, Some, None, drop, length}
-use Rattle.fan_model.specs.Comings.{comings_of}
+use Rattle.std.specs.Prelude.{◌≡◌, ℕ, ◌≤◌, Bool, List, [], ◌∷◌, Option, Some, None, length}
 use Rattle.fan_model.specs.Report.{Asking}
 use Rattle.fan_parts.specs.declared.jobs.PrintJob.{PrintJob}
 use Rattle.fan_parts.specs.Seen.{PosterSeen}
 use Rattle.notify_queue.specs.Ends.{Sending}
 use Rattle.pool_model.specs.Passes.{adds_of}
 use Rattle.pool_model.specs.Seen.{PassSeen, PoolId}
-use Rattle.run_front.specs.declared.front.Front.{Front}
 use Rattle.run_front.specs.declared.front.FrontEnds.{FrontEnds}
-use Rattle.run_front.specs.Fronts.{HasKeysFor}
 use Rattle.run_phases.specs.declared.first.FrontMid.{FrontMid}
 use Rattle.run_plan.specs.declared.turn.Turn.{Turn}
 use Rattle.run_plan.specs.Stopping.{IsStopPlace, IsUnstopped}
@@ -33,18 +30,12 @@ pub record IsOneAdder (pool : PoolId) (passes : List PassSeen) : Type 0 where
   pub unused : adds_of pass ≡ []
 
 module _ {N : Type 0} where
-  -- keys and slots for what comes behind the stop
-  abbrev pub HasKeysBehind : Asking → Option ℕ → Front N → Type 0
-  HasKeysBehind asked None front = Unit {0}
-  HasKeysBehind asked (Some place) front = HasKeysFor (drop place (comings_of asked.lines)) front
-
   -- the end of this poster
   pub record IsDoneBy (poster : PosterSeen (PrintJob N)) (end : Sending (PrintJob N)) : Type 0 where
     pub queue : end.queue ≡ poster.sender.queue
     pub number : end.number ≡ poster.sender.number
 
-  -- No more was posted to the printer's base, no core of a reply was counted, and memory is said to be refused exactly where it was before.
+  -- No more was posted to the printer's base, and memory is said to be refused exactly where it was before.
   pub record IsLeftAsItWas (mid : FrontMid N) (refused : Bool) (ends : FrontEnds N) : Type 0 where
     pub refused_is : refused ≡ mid.refused
     pub printer : ends.printer ≡ mid.front.printer.sender
-    pub tally : ends.tally ≡ mid.front.tally

@@ -7,13 +7,12 @@ ghost use Rattle.front_walk.specs.Following.{IsInput};
 ghost use Rattle.pool_model.specs.Passes.{AreAllPasses};
 ghost use Rattle.query_tasks.specs.Ends.{is_stop, seen_of};
 ghost use Rattle.query_tasks.specs.Starting.{HasHelped};
-ghost use Rattle.run_front.specs.Counted.{HasMade};
-ghost use Rattle.run_front.specs.Fronts.{HasKeysFor, IsFrontOf};
+ghost use Rattle.run_front.specs.Fronts.{IsFrontOf};
 ghost use Rattle.run_front.specs.Posted.{HasPosted};
 ghost use Rattle.run_notes.specs.Accounts.{runs_added};
 ghost use Rattle.run_plan.specs.Turns.{AreTurnsOf, begun_in};
 ghost use Rattle.run_tasks.specs.Worlds.{told_of};
-ghost use Rattle.run_phases.specs.Phases.{HasKeysBehind, IsOneAdder, StopsAt, early_place};
+ghost use Rattle.run_phases.specs.Phases.{IsOneAdder, StopsAt, early_place};
 
 use fan_base::{Gate, Memory};
 use fan_parts::RunName;
@@ -27,37 +26,36 @@ use std::sync::Wait;
 
 /// What the front has before the pool has a task: what it works with, the owner and the first of the pool's keep-alives, the one adder's pass,
 /// and the helper's.
-pub struct FrontStart<'c, 't, 'd: 't, 'r: 'd, 'i: 'r, N: RunName> {
-    pub front: Front<'c, 't, 'd, 'r, 'i, N>,
+pub struct FrontStart<'c, 't, 'i: 't, N: RunName> {
+    pub front: Front<'c, 't, 'i, N>,
     pub owner: KeepOwner,
     pub keep: KeepAlive,
-    pub adders: Vec<TaskAdder<'t, 'd, 'r, 'i, N>>,
-    pub helper: TaskHelper<'t, 'd, 'r, 'i, N>,
+    pub adders: Vec<TaskAdder<'t, 'i, N>>,
+    pub helper: TaskHelper<'t, 'i, N>,
 }
 
 /// What it has once the pool's end has begun, and whether memory was refused.
-pub struct FrontMid<'c, 't, 'd: 't, 'r: 'd, 'i: 'r, N: RunName> {
-    pub front: Front<'c, 't, 'd, 'r, 'i, N>,
-    pub ending: Ending<'t, 'd, 'r, 'i, N>,
-    pub helper: TaskHelper<'t, 'd, 'r, 'i, N>,
+pub struct FrontMid<'c, 't, 'i: 't, N: RunName> {
+    pub front: Front<'c, 't, 'i, N>,
+    pub ending: Ending<'t, 'i, N>,
+    pub helper: TaskHelper<'t, 'i, N>,
     pub refused: bool,
 }
 
 /// Adds the tasks of all early queries to the pool, in the order of answers, and begins the pool's end. `stop` is the place behind which the
 /// pool is stopped; without it the pool is joined. Where memory runs out the end begins earlier.
-pub fn first_phase<'c, 't, 'd: 't, 'r: 'd, 'i: 'r, N: RunName + 'static, G: Gate, R: Wait>(
+pub fn first_phase<'c, 't, 'i: 't, N: RunName + 'static, G: Gate, R: Wait>(
     rt: &R,
-    pool: &TaskPool<'t, 'd, 'r, 'i, N>,
+    pool: &TaskPool<'t, 'i, N>,
     gate: &G,
     turns: &[Turn],
     stop: Option<usize>,
-    start: FrontStart<'c, 't, 'd, 'r, 'i, N>,
-) -> FrontMid<'c, 't, 'd, 'r, 'i, N>
+    start: FrontStart<'c, 't, 'i, N>,
+) -> FrontMid<'c, 't, 'i, N>
     requires turns { AreTurnsOf N.asked.lines turns.now }
     requires stop { StopsAt N.asked turns.now stop }
     requires input { IsInput N.asked.lines }
     requires front { IsFrontOf N.asked start.front }
-    requires keys { HasKeysFor (comings_of N.asked.lines) start.front }
     requires pool { (pool.now.exec ≡ pool_exec) × (length pool.now.id.queues ≡ 3) }
     requires owner { start.owner.count ≡ pool.now.count }
     requires keep { start.keep.count ≡ pool.now.count }
@@ -73,8 +71,6 @@ pub fn first_phase<'c, 't, 'd: 't, 'r: 'd, 'i: 'r, N: RunName + 'static, G: Gate
     ensures printer { told_of result.front.printer ≡ told_of start.entry.front.printer }
     ensures posted { (first : List (PrintJob N)) → HasPosted N.asked 0 first start.entry.front.printer → result.refused ≡ false →
         HasPosted N.asked (early_place stop turns.now) first result.front.printer }
-    ensures counted { result.refused ≡ false → HasMade N.asked 0 (early_place stop turns.now) start.entry.front.tally result.front.tally }
-    ensures keys { result.refused ≡ false → HasKeysBehind N.asked stop result.front }
 {
     let FrontStart {
         mut front,

@@ -8,14 +8,13 @@ ghost use Rattle.fan_parts.specs.declared.jobs.PrintJob.{PrintJob};
 ghost use Rattle.front_walk.specs.Following.{IsInput};
 ghost use Rattle.pool_model.specs.Passes.{AreAllEnds, AreAllPasses};
 ghost use Rattle.query_tasks.specs.Ends.{is_stop, seen_of};
-ghost use Rattle.run_front.specs.Counted.{HasMade};
 ghost use Rattle.run_front.specs.Fronts.{IsFrontOf};
 ghost use Rattle.run_front.specs.Posted.{HasPosted, cancelled_from};
 ghost use Rattle.run_notes.specs.Accounts.{AllDone, runs_added};
 ghost use Rattle.run_notes.specs.Told.{run_of_direct, told_of as told_by};
 ghost use Rattle.run_plan.specs.Turns.{AreTurnsOf};
 ghost use Rattle.run_tasks.specs.Worlds.{AreEndsFor, Follows, StaysPass, told_of};
-ghost use Rattle.run_phases.specs.Phases.{HasKeysBehind, IsDoneBy, IsLeftAsItWas, StopsAt};
+ghost use Rattle.run_phases.specs.Phases.{IsDoneBy, IsLeftAsItWas, StopsAt};
 
 use crate::first::FrontMid;
 use fan_base::Memory;
@@ -30,29 +29,28 @@ use std::alloc::Global;
 use std::sync::Wait;
 
 /// What the front leaves: what became of the pool's tasks, the ends of its posters with what was counted, and whether memory was refused.
-pub struct FrontLeft<'t, 'd: 't, 'r: 'd, 'i: 'r, N: RunName> {
+pub struct FrontLeft<'t, N: RunName> {
     pub note: PoolNote,
-    pub ends: FrontEnds<'t, 'd, 'r, 'i, N>,
+    pub ends: FrontEnds<'t, N>,
     pub refused: bool,
 }
 
 /// Ends the pool with the ends of all workers, runs what still waited or was handed back, then the tasks of all late queries, and ends the
 /// front's posters. `helped` is an empty list with room for the helper's end.
-pub fn second_phase<'c, 't, 'd: 't, 'r: 'd, 'i: 'r, N: RunName + 'static, R: Wait>(
+pub fn second_phase<'c, 't, 'i: 't, N: RunName + 'static, R: Wait>(
     rt: &R,
     alloc: Global,
-    pool: TaskPool<'t, 'd, 'r, 'i, N>,
-    ends: Vec<WorkerEnd<ShardTask<'t, 'd, 'r, 'i, N>>>,
-    helped: Vec<HelperEnd<ShardTask<'t, 'd, 'r, 'i, N>>>,
+    pool: TaskPool<'t, 'i, N>,
+    ends: Vec<WorkerEnd<ShardTask<'t, 'i, N>>>,
+    helped: Vec<HelperEnd<ShardTask<'t, 'i, N>>>,
     turns: &[Turn],
     stop: Option<usize>,
-    mid: FrontMid<'c, 't, 'd, 'r, 'i, N>,
-) -> FrontLeft<'t, 'd, 'r, 'i, N>
+    mid: FrontMid<'c, 't, 'i, N>,
+) -> FrontLeft<'t, N>
     requires turns { AreTurnsOf N.asked.lines turns.now }
     requires stop { StopsAt N.asked turns.now stop }
     requires input { IsInput N.asked.lines }
     requires front { IsFrontOf N.asked mid.front }
-    requires keys { mid.refused ≡ false → HasKeysBehind N.asked stop mid.front }
     requires pool { (seen_of mid.ending).pool ≡ pool.id }
     requires passes { AreAllPasses pool.id pool.adders (seen_of mid.ending).passes }
     requires ends { AreAllEnds pool.id pool.workers ends.items }
@@ -67,8 +65,6 @@ pub fn second_phase<'c, 't, 'd: 't, 'r: 'd, 'i: 'r, N: RunName + 'static, R: Wai
     ensures printer { IsDoneBy mid.entry.front.printer result.ends.printer }
     ensures posted { (place : ℕ) (first : List (PrintJob N)) → stop ≡ Some place → HasPosted N.asked place first mid.entry.front.printer →
         result.refused ≡ false → result.ends.printer.sent ≡ first ++ cancelled_from N.asked 0 (take (length turns.now) (comings_of N.asked.lines)) }
-    ensures counted { (place : ℕ) → stop ≡ Some place → result.refused ≡ false →
-        HasMade N.asked place (length turns.now) mid.entry.front.tally result.ends.tally }
     ensures joined { stop ≡ None → IsLeftAsItWas mid.entry result.refused result.ends }
 {
     let FrontMid {
@@ -100,9 +96,9 @@ pub fn second_phase<'c, 't, 'd: 't, 'r: 'd, 'i: 'r, N: RunName + 'static, R: Wai
 }
 
 /// The late turns, where the pool was stopped and no memory was refused before. Whether all of them were made.
-fn turns_behind<'c, 't, 'd: 't, 'r: 'd, 'i: 'r, N: RunName + 'static, R: Wait>(
+fn turns_behind<'c, 't, 'i: 't, N: RunName + 'static, R: Wait>(
     rt: &R,
-    front: &mut Front<'c, 't, 'd, 'r, 'i, N>,
+    front: &mut Front<'c, 't, 'i, N>,
     turns: &[Turn],
     stop: Option<usize>,
     refused: bool,
@@ -112,7 +108,6 @@ fn turns_behind<'c, 't, 'd: 't, 'r: 'd, 'i: 'r, N: RunName + 'static, R: Wait>(
     requires stop { StopsAt N.asked turns.now stop }
     requires input { IsInput N.asked.lines }
     requires front { IsFrontOf N.asked front.old }
-    requires keys { refused ≡ false → HasKeysBehind N.asked stop front.old }
     requires none { direct.old ≡ [] }
     ensures fine { OnTrue result (refused ≡ false) }
     ensures direct { OnTrue result (front.new.world.refused ≡ false → map run_of_direct direct.new ≡ late_runs N.asked.lines N.asked.shards N.asked.bases N.asked.stop_at) }
@@ -120,7 +115,6 @@ fn turns_behind<'c, 't, 'd: 't, 'r: 'd, 'i: 'r, N: RunName + 'static, R: Wait>(
     ensures printer { told_of front.new.printer ≡ told_of front.old.printer }
     ensures posted { (place : ℕ) (first : List (PrintJob N)) → stop ≡ Some place → HasPosted N.asked place first front.old.printer →
         OnTrue result (HasPosted N.asked (length turns.now) first front.new.printer) }
-    ensures counted { (place : ℕ) → stop ≡ Some place → OnTrue result (HasMade N.asked place (length turns.now) front.old.tally front.new.tally) }
     ensures joined { stop ≡ None → (result ≡ not refused) × (front.new ≡ front.old) }
 {
     if refused {

@@ -19,6 +19,7 @@ use Rattle.run_bases.specs.declared.making.Bases.{Bases}
 use Rattle.run_bases.specs.declared.rows.Column.{Column}
 use Rattle.run_bases.specs.Columns.{AreColumns, IsColumn, exec_at}
 use Rattle.run_bases.specs.Making.{AreOpen, queues_of}
+use Rattle.run_gathering.specs.Awaited.{TableSeen}
 use Rattle.run_threads.specs.declared.gatherer.GatherSlot.{GatherSlot}
 use Rattle.run_setup.specs.Ids.{RunIds}
 use Rattle.run_setup.specs.Opening.{AreNewBases, IsPrinterColumn}
@@ -74,9 +75,9 @@ module _ {N : Type 0} {g : Ghosts N} where
       }
 
   pub slots-more : (asked : Asking) (ids : RunIds) (slots : List (GatherSlot N g)) (b : BaseSeen (GatherJob N)) (bs : List (BaseSeen (GatherJob N))) (column after : Column (PrintJob N)) (slot : GatherSlot N g)
-      → SlotsSoFar asked ids slots (b ∷ bs) column → slot.base ≡ Some b → slot.printer ≡ Some (new_printer_poster asked ids (suc (length bs))) → slot.stage ≡ None
+      → SlotsSoFar asked ids slots (b ∷ bs) column → slot.base ≡ Some b → slot.printer ≡ Some (new_printer_poster asked ids (suc (length bs))) → (table : TableSeen) → slot.table ≡ Some table → slot.stage ≡ None
       → IsPrinterColumn asked ids (suc (length bs)) after → SlotsSoFar asked ids (slots ++ slot ∷ []) bs after
-  slots-more asked ids slots b bs column after slot so base printer none is =
+  slots-more asked ids slots b bs column after slot so base printer table has_table none is =
       let long : length (slots ++ slot ∷ []) ≡ suc (length slots) = omega (arith, length-append slots (slot ∷ [])) in
       let one : IsNewBaseAt ids (length slots) b = each_first (IsNewBaseAt ids) (length slots) b bs so.left in
       record {
@@ -84,6 +85,8 @@ module _ {N : Type 0} {g : Ghosts N} where
         made = each_push (IsGatherSlot asked ids) slots slot so.made record {
           base = λ q. base ∙ ap Some (one.is q);
           printer = printer ∙ ap (λ (n : ℕ). Some (new_printer_poster asked ids n)) (omega (arith, so.many));
+          table = table;
+          has_table = has_table;
           none = none;
         };
         left = subst (λ (n : ℕ). EachFrom (IsNewBaseAt ids) n bs) (sym long) (each_rest (IsNewBaseAt ids) (length slots) b bs so.left);

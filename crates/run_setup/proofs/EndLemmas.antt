@@ -19,19 +19,19 @@ module _ {N : Type 0} where
   abbrev pub left_by : EndSeen → TaskEnds N → WorkerStage N
   left_by e w = record { end = e; ends = w }
 
-module _ {N G : Type 0} where
+module _ {N : Type 0} where
   -- the worker of this slot has worked, and was the one at this place
-  pub record HasWorkedAt (old : List (WorkerSlot TaskSeen (WorldSeen N) G)) (k : ℕ) (slot : WorkerSlot TaskSeen (WorldSeen N) G) : Type 0 where
-    pub ran : (d : WorkerSlot TaskSeen (WorldSeen N) G) → HasWorked TaskRan (get_or old k d) slot
+  pub record HasWorkedAt (old : List (WorkerSlot TaskSeen (WorldSeen N))) (k : ℕ) (slot : WorkerSlot TaskSeen (WorldSeen N)) : Type 0 where
+    pub ran : (d : WorkerSlot TaskSeen (WorldSeen N)) → HasWorked TaskRan (get_or old k d) slot
 
   -- so many workers were taken apart, and these are left
-  pub record EndsSoFar (old : List (WorkerSlot TaskSeen (WorldSeen N) G)) (ends : List EndSeen) (worlds : List (TaskEnds N)) (rest : List (WorkerSlot TaskSeen (WorldSeen N) G)) : Type 0 where
+  pub record EndsSoFar (old : List (WorkerSlot TaskSeen (WorldSeen N))) (ends : List EndSeen) (worlds : List (TaskEnds N)) (rest : List (WorkerSlot TaskSeen (WorldSeen N))) : Type 0 where
     pub many : length ends + length rest ≡ length old
     pub as_many : length worlds ≡ length ends
-    pub each : (k : ℕ) (d : WorkerSlot TaskSeen (WorldSeen N) G) (e : EndSeen) (w : TaskEnds N) → k < length ends → IsStageOf (get_or old k d) (left_by (get_or ends k e) (get_or worlds k w))
+    pub each : (k : ℕ) (d : WorkerSlot TaskSeen (WorldSeen N)) (e : EndSeen) (w : TaskEnds N) → k < length ends → IsStageOf (get_or old k d) (left_by (get_or ends k e) (get_or worlds k w))
     pub left : EachFrom (HasWorkedAt old) (length ends) rest
 
-  pub ends-none : (old slots : List (WorkerSlot TaskSeen (WorldSeen N) G)) (ends : List EndSeen) (worlds : List (TaskEnds N)) → AllRan (HasWorked TaskRan) old slots → ends ≡ [] → worlds ≡ []
+  pub ends-none : (old slots : List (WorkerSlot TaskSeen (WorldSeen N))) (ends : List EndSeen) (worlds : List (TaskEnds N)) → AllRan (HasWorked TaskRan) old slots → ends ≡ [] → worlds ≡ []
       → EndsSoFar old ends worlds slots
   ends-none old slots ends worlds ran no_ends no_worlds =
       let zero_is : length ends ≡ 0 = ap length no_ends in
@@ -44,13 +44,13 @@ module _ {N G : Type 0} where
               let within : k < length old = omega (arith, below, ran.as_many) in
               record {
                 ran = λ x. subst (λ (n : ℕ). HasWorked TaskRan (get_or old n x) (get_or slots k d)) (omega (arith, is, zero_is))
-                    (subst (λ (s : WorkerSlot TaskSeen (WorldSeen N) G). HasWorked TaskRan s (get_or slots k d)) (get_or_default old k d x within) (ran.each k d within));
+                    (subst (λ (s : WorkerSlot TaskSeen (WorldSeen N)). HasWorked TaskRan s (get_or slots k d)) (get_or_default old k d x within) (ran.each k d within));
               };
         };
       }
 
-  pub ends-more : (old : List (WorkerSlot TaskSeen (WorldSeen N) G)) (ends : List EndSeen) (worlds : List (TaskEnds N)) (slot : WorkerSlot TaskSeen (WorldSeen N) G) (rest : List (WorkerSlot TaskSeen (WorldSeen N) G)) (e : EndSeen) (w : TaskEnds N)
-      → EndsSoFar old ends worlds (slot ∷ rest) → ((s : WorkerSlot TaskSeen (WorldSeen N) G) → HasWorked TaskRan s slot → IsStageOf s (left_by e w)) → EndsSoFar old (ends ++ e ∷ []) (worlds ++ w ∷ []) rest
+  pub ends-more : (old : List (WorkerSlot TaskSeen (WorldSeen N))) (ends : List EndSeen) (worlds : List (TaskEnds N)) (slot : WorkerSlot TaskSeen (WorldSeen N)) (rest : List (WorkerSlot TaskSeen (WorldSeen N))) (e : EndSeen) (w : TaskEnds N)
+      → EndsSoFar old ends worlds (slot ∷ rest) → ((s : WorkerSlot TaskSeen (WorldSeen N)) → HasWorked TaskRan s slot → IsStageOf s (left_by e w)) → EndsSoFar old (ends ++ e ∷ []) (worlds ++ w ∷ []) rest
   ends-more old ends worlds slot rest e w so is =
       let long : length (ends ++ e ∷ []) ≡ suc (length ends) = omega (arith, length-append ends (e ∷ [])) in
       let here : HasWorkedAt old (length ends) slot = each_first (HasWorkedAt old) (length ends) slot rest so.left in
@@ -69,7 +69,7 @@ module _ {N G : Type 0} where
         left = subst (λ (n : ℕ). EachFrom (HasWorkedAt old) n rest) (sym long) (each_rest (HasWorkedAt old) (length ends) slot rest so.left);
       }
 
-  pub ends-all : (old : List (WorkerSlot TaskSeen (WorldSeen N) G)) (ends : List EndSeen) (worlds : List (TaskEnds N)) (rest : List (WorkerSlot TaskSeen (WorldSeen N) G)) → EndsSoFar old ends worlds rest → length rest ≡ 0
+  pub ends-all : (old : List (WorkerSlot TaskSeen (WorldSeen N))) (ends : List EndSeen) (worlds : List (TaskEnds N)) (rest : List (WorkerSlot TaskSeen (WorldSeen N))) → EndsSoFar old ends worlds rest → length rest ≡ 0
       → AreEndsOf old ends worlds
   ends-all old ends worlds rest so none = record {
     as_many_ends = omega (arith, so.many, none);

@@ -14,7 +14,7 @@ use Rattle.fan_parts.specs.Seen.{PosterSeen}
 use Rattle.job_trait.specs.Marks.{IsDone}
 use Rattle.notify_queue.specs.Ends.{QueueId, Sending}
 use Rattle.pool_model.specs.Passes.{AreAllEnds}
-use Rattle.pool_model.specs.Seen.{EndSeen, PoolSeen, WorkerSeen}
+use Rattle.pool_model.specs.Seen.{EndSeen, PoolId, WorkerSeen}
 use Rattle.run_bases.specs.Columns.{exec_at}
 use Rattle.run_notes.specs.Accounts.{AllDone}
 use Rattle.run_stages.specs.Stages.{AllRan, AllReady}
@@ -28,7 +28,7 @@ use Rattle.run_threads.specs.Slots.{HasGatheredIn, HasWorked, IsReadyToGather, I
 use Rattle.run_setup.specs.Closing.{AreEndsOf, AreGathered, AreTaskEnds, AreWorldEnds, HaveWorked, IsGatheredSlot, IsPrinterEnd, some_refused}
 use Rattle.run_setup.specs.Ids.{RunIds}
 use Rattle.run_setup.specs.Rows.{row_of}
-use Rattle.run_setup.specs.Slots.{AreGatherSlots, AreWorkerSlots, IsGatherSlot, IsNewWorld, IsWorkerSlot, new_printer_poster}
+use Rattle.run_setup.specs.Slots.{AreGatherSlots, AreWorkers, IsGatherSlot, IsNewWorld, IsWorker, new_printer_poster}
 
 module _ {N : Type 0} where
   pub printer-end : (asked : Asking) (ids : RunIds) (number : ℕ) (e : Sending (PrintJob N)) → e.queue ≡ ids.printer → e.number ≡ number → IsPrinterEnd asked ids number e
@@ -48,18 +48,20 @@ module _ {N : Type 0} {g : Ghosts N} where
     printer = new_printer_poster asked ids (asked.bases - k);
     has_printer = is.printer;
     exec = refl;
+    table = is.table;
+    has_table = is.has_table;
     none = is.none;
   }
 
   pub all-ready-to-gather : (asked : Asking) (ids : RunIds) (slots : List (GatherSlot N g)) → AreGatherSlots asked ids slots → AllReady (IsReadyToGather asked) slots
   all-ready-to-gather asked ids slots are = record { each = λ k d below. ready-to-gather asked ids k (get_or slots k d) (are.each k d (omega (arith, below, are.as_many))) }
 
-module _ {N G : Type 0} where
-  pub all-ready-to-work : (ids : RunIds) (pool : PoolSeen) (slots : List (WorkerSlot TaskSeen (WorldSeen N) G)) → AreWorkerSlots ids pool slots → AllReady IsReadyToWork slots
+module _ {N : Type 0} where
+  pub all-ready-to-work : (ids : RunIds) (pool : PoolId) (slots : List (WorkerSlot TaskSeen (WorldSeen N))) → AreWorkers ids pool slots → AllReady (IsReadyToWork pool) slots
   all-ready-to-work ids pool slots are = record {
     each = λ k d below.
         let is = are.each k d (omega (arith, below, are.as_many)) in
-        record { pass = record { pool = pool.id; number = k }; has = is.pass; of_pool = ap (λ (p : PoolSeen). p.id) (sym is.pool_is) };
+        record { pass = record { pool = pool; number = k }; has = is.pass; of_pool = refl };
   }
 
 module _ {N : Type 0} {g : Ghosts N} where
@@ -100,18 +102,18 @@ module _ {X : Type 0} where
   some-item [] k below = absurd (omega (arith, below))
   some-item (x ∷ xs) k below = x
 
-module _ {N G : Type 0} where
-  pub all-worked : (old new : List (WorkerSlot TaskSeen (WorldSeen N) G)) → AllRan (HasWorked TaskRan) old new → HaveWorked new
+module _ {N : Type 0} where
+  pub all-worked : (old new : List (WorkerSlot TaskSeen (WorldSeen N))) → AllRan (HasWorked TaskRan) old new → HaveWorked new
   all-worked old new ran = record {
     each = λ k d below.
         let did = ran.each k d (omega (arith, below, ran.as_many)) in
         record { end = did.end; has = did.has; spent = did.spent };
   }
 
-  worked : (ids : RunIds) (pool : PoolSeen) (k : ℕ) (slot : WorkerSlot TaskSeen (WorldSeen N) G) (stage : WorkerStage N) → IsWorkerSlot ids pool k slot → IsStageOf slot stage
-      → AreTaskEnds ids (ids.workers - k) stage.ends × ((stage.end.pool ≡ pool.id) × (stage.ends.refused ≡ false → All (λ r. IsDone r.mark) stage.end.records))
+  worked : (ids : RunIds) (pool : PoolId) (k : ℕ) (slot : WorkerSlot TaskSeen (WorldSeen N)) (stage : WorkerStage N) → IsWorker ids pool k slot → IsStageOf slot stage
+      → AreTaskEnds ids (ids.workers - k) stage.ends × ((stage.end.pool ≡ pool) × (stage.ends.refused ≡ false → All (λ r. IsDone r.mark) stage.end.records))
   worked ids pool k slot stage is did =
-      let pass : did.pass ≡ record { pool = pool.id; number = k } = same_Some did.pass _ (sym did.had ∙ is.pass) in (
+      let pass : did.pass ≡ record { pool = pool; number = k } = same_Some did.pass _ (sym did.had ∙ is.pass) in (
         record {
           posters = world-row ids (ids.workers - k) slot.world stage.ends.posters.items is.is_new did.posters;
           pass = record { cells = did.cells.cells ∙ is.is_new.pass.cells; passes = did.cells.passes ∙ is.is_new.pass.passes };
@@ -120,15 +122,15 @@ module _ {N G : Type 0} where
       )
 
   -- what a worker left, at its place
-  left-at : (ids : RunIds) (pool : PoolSeen) (slots : List (WorkerSlot TaskSeen (WorldSeen N) G)) (ends : List EndSeen) (worlds : List (TaskEnds N)) → AreWorkerSlots ids pool slots
+  left-at : (ids : RunIds) (pool : PoolId) (slots : List (WorkerSlot TaskSeen (WorldSeen N))) (ends : List EndSeen) (worlds : List (TaskEnds N)) → AreWorkers ids pool slots
       → AreEndsOf slots ends worlds → (k : ℕ) (e : EndSeen) (w : TaskEnds N) → k < ids.workers
-      → AreTaskEnds ids (ids.workers - k) (get_or worlds k w) × (((get_or ends k e).pool ≡ pool.id) × ((get_or worlds k w).refused ≡ false → All (λ r. IsDone r.mark) (get_or ends k e).records))
+      → AreTaskEnds ids (ids.workers - k) (get_or worlds k w) × (((get_or ends k e).pool ≡ pool) × ((get_or worlds k w).refused ≡ false → All (λ r. IsDone r.mark) (get_or ends k e).records))
   left-at ids pool slots ends worlds are of k e w below =
       let within : k < length slots = omega (arith, below, are.as_many) in
       let d = some-item slots k within in
       worked ids pool k (get_or slots k d) (record { end = get_or ends k e; ends = get_or worlds k w }) (are.each k d below) (of.each k d e w within)
 
-  pub all-worlds : (ids : RunIds) (pool : PoolSeen) (slots : List (WorkerSlot TaskSeen (WorldSeen N) G)) (ends : List EndSeen) (worlds : List (TaskEnds N)) → AreWorkerSlots ids pool slots → AreEndsOf slots ends worlds → AreWorldEnds ids worlds
+  pub all-worlds : (ids : RunIds) (pool : PoolId) (slots : List (WorkerSlot TaskSeen (WorldSeen N))) (ends : List EndSeen) (worlds : List (TaskEnds N)) → AreWorkers ids pool slots → AreEndsOf slots ends worlds → AreWorldEnds ids worlds
   all-worlds ids pool slots ends worlds are of = record {
     as_many = of.as_many_worlds ∙ are.as_many;
     each = λ k w below.
@@ -136,7 +138,7 @@ module _ {N G : Type 0} where
         (left-at ids pool slots ends worlds are of k e w below).0;
   }
 
-  pub all-ends : (ids : RunIds) (pool : PoolSeen) (slots : List (WorkerSlot TaskSeen (WorldSeen N) G)) (ends : List EndSeen) (worlds : List (TaskEnds N)) → AreWorkerSlots ids pool slots → AreEndsOf slots ends worlds → AreAllEnds pool.id ids.workers ends
+  pub all-ends : (ids : RunIds) (pool : PoolId) (slots : List (WorkerSlot TaskSeen (WorldSeen N))) (ends : List EndSeen) (worlds : List (TaskEnds N)) → AreWorkers ids pool slots → AreEndsOf slots ends worlds → AreAllEnds pool ids.workers ends
   all-ends ids pool slots ends worlds are of = record {
     of_pool = λ k e below.
         let within : k < ids.workers = omega (arith, below, of.as_many_ends, are.as_many) in
@@ -145,7 +147,7 @@ module _ {N G : Type 0} where
     count_is = of.as_many_ends ∙ are.as_many;
   }
 
-  pub all-done : (ids : RunIds) (pool : PoolSeen) (slots : List (WorkerSlot TaskSeen (WorldSeen N) G)) (ends : List EndSeen) (worlds : List (TaskEnds N)) → AreWorkerSlots ids pool slots → AreEndsOf slots ends worlds → All (λ (w : TaskEnds N). w.refused ≡ false) worlds → AllDone ends
+  pub all-done : (ids : RunIds) (pool : PoolId) (slots : List (WorkerSlot TaskSeen (WorldSeen N))) (ends : List EndSeen) (worlds : List (TaskEnds N)) → AreWorkers ids pool slots → AreEndsOf slots ends worlds → All (λ (w : TaskEnds N). w.refused ≡ false) worlds → AllDone ends
   all-done ids pool slots ends worlds are of calm = λ k e below.
       let within : k < ids.workers = omega (arith, below, of.as_many_ends, are.as_many) in
       let placed : k < length worlds = omega (arith, within, of.as_many_worlds, are.as_many) in

@@ -29,16 +29,16 @@ use Rattle.run_setup.specs.Opening.{IsNewBack}
 use Rattle.run_setup.specs.Rows.{print_head, row_of}
 use Rattle.run_setup.specs.Slots.{IsCellPass}
 
-module _ {N G : Type 0} where
+module _ {N : Type 0} where
   -- the slots of workers that have worked
-  pub record HaveWorked (slots : List (WorkerSlot TaskSeen (WorldSeen N) G)) : Type 0 where
-    pub each : (k : ℕ) (d : WorkerSlot TaskSeen (WorldSeen N) G) → k < length slots → IsWorked (slice_index_or slots k d)
+  pub record HaveWorked (slots : List (WorkerSlot TaskSeen (WorldSeen N))) : Type 0 where
+    pub each : (k : ℕ) (d : WorkerSlot TaskSeen (WorldSeen N)) → k < length slots → IsWorked (slice_index_or slots k d)
 
   -- these are what the workers of these slots came to: their ends and what is left of their worlds, by worker
-  pub record AreEndsOf (slots : List (WorkerSlot TaskSeen (WorldSeen N) G)) (ends : List EndSeen) (worlds : List (TaskEnds N)) : Type 0 where
+  pub record AreEndsOf (slots : List (WorkerSlot TaskSeen (WorldSeen N))) (ends : List EndSeen) (worlds : List (TaskEnds N)) : Type 0 where
     pub as_many_ends : length ends ≡ length slots
     pub as_many_worlds : length worlds ≡ length slots
-    pub each : (k : ℕ) (d : WorkerSlot TaskSeen (WorldSeen N) G) (e : EndSeen) (w : TaskEnds N) → k < length slots
+    pub each : (k : ℕ) (d : WorkerSlot TaskSeen (WorldSeen N)) (e : EndSeen) (w : TaskEnds N) → k < length slots
         → IsStageOf (slice_index_or slots k d) (record { end = slice_index_or ends k e; ends = slice_index_or worlds k w })
 
 module _ {N : Type 0} where

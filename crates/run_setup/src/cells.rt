@@ -3,12 +3,7 @@ use core_proxy::NoProxy;
 use fan_parts::{Part, PartCallback};
 
 /// The cells of the tasks' cores.
-pub type TaskCells<'t, 'd, 'r, 'i, N> = Cells<'t, Part<N>, PartCallback<'d, 'r, 'i, N>, NoProxy>;
+pub type TaskCells<'t, N> = Cells<'t, Part<N>, PartCallback<N>, NoProxy>;
 
 /// A pass of them.
-pub type TaskCellPass<'t, 'd, 'r, 'i, N> = CellPass<
-    't,
-    Part<N>,
-    PartCallback<'d, 'r, 'i, N>,
-    NoProxy,
->;
+pub type TaskCellPass<'t, N> = CellPass<'t, Part<N>, PartCallback<N>, NoProxy>;

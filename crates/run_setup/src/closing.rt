@@ -21,19 +21,19 @@ use run_threads::GatherSlot;
 use std::sync::Wait;
 
 /// The columns to which the posters' ends come back, and room for what the close collects.
-pub struct Back<'t, 'd: 't, 'r: 'd, 'i: 'r, N: RunName> {
+pub struct Back<'t, N: RunName> {
     /// Of the gathering bases, by base.
-    pub columns: Vec<Column<GatherJob<'d, 'r, 'i, N>>>,
+    pub columns: Vec<Column<GatherJob<N>>>,
     /// Of the printer's base.
     pub printer: Column<PrintJob<N>>,
     /// Room for the notes of the gathering bases.
     pub notes: Vec<QueueNote>,
     /// Room for the passes of the cells.
-    pub passes: Vec<TaskCellPass<'t, 'd, 'r, 'i, N>>,
+    pub passes: Vec<TaskCellPass<'t, N>>,
 }
 
 /// A run that is closed.
-pub struct Closed<'t, 'd: 't, 'r: 'd, 'i: 'r, N: RunName> {
+pub struct Closed<'t, N: RunName> {
     /// What the queues of the gathering bases had, by base.
     pub notes: Vec<QueueNote>,
     /// How printing ended, with the note and the tally of the printer's base.
@@ -43,22 +43,22 @@ pub struct Closed<'t, 'd: 't, 'r: 'd, 'i: 'r, N: RunName> {
     /// Whether one of them notes want of memory.
     pub refused: bool,
     /// All passes of the cells, for their close.
-    pub passes: Vec<TaskCellPass<'t, 'd, 'r, 'i, N>>,
+    pub passes: Vec<TaskCellPass<'t, N>>,
 }
 
 /// Closes the gathering bases and then the printer's base, with all ends of their posters. `worlds` are what is left of the workers' worlds, by
 /// worker, `front` is what is left of the front's, and `poster` the end of its poster to the printer's base; `queries` is how many queries the
 /// input has. It takes no memory.
-pub fn close_run<'t, 'd: 't, 'r: 'd, 'i: 'r, N: RunName, R: Wait>(
+pub fn close_run<'t, 'd, 'r: 'd, 'i: 'r, N: RunName, R: Wait>(
     rt: &R,
-    back: Back<'t, 'd, 'r, 'i, N>,
+    back: Back<'t, N>,
     gatherers: Vec<GatherSlot<'d, 'r, 'i, N>>,
     printer: PrintStage<PrintJob<N>>,
-    worlds: Vec<TaskEnds<'t, 'd, 'r, 'i, N>>,
-    front: TaskEnds<'t, 'd, 'r, 'i, N>,
+    worlds: Vec<TaskEnds<'t, N>>,
+    front: TaskEnds<'t, N>,
     poster: SenderEnd<PrintJob<N>>,
     queries: u64,
-) -> Closed<'t, 'd, 'r, 'i, N>
+) -> Closed<'t, N>
     requires all { (ids : RunIds) × IsAllOf N.asked ids back gatherers.items printer worlds.items front poster }
     ensures bases { length result.notes.items ≡ N.asked.bases }
     ensures emptied { result.refused ≡ false → AreEmptied result.notes.items }

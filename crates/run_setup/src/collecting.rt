@@ -29,9 +29,9 @@ pub(crate) struct Counted {
 }
 
 /// What is put back of worlds: the ends of their posters, by base, and their passes.
-pub(crate) struct Worlds<'t, 'd: 't, 'r: 'd, 'i: 'r, N: RunName> {
-    pub(crate) columns: Vec<Column<GatherJob<'d, 'r, 'i, N>>>,
-    pub(crate) passes: Vec<TaskCellPass<'t, 'd, 'r, 'i, N>>,
+pub(crate) struct Worlds<'t, N: RunName> {
+    pub(crate) columns: Vec<Column<GatherJob<N>>>,
+    pub(crate) passes: Vec<TaskCellPass<'t, N>>,
     pub(crate) counted: Counted,
 }
 
@@ -75,9 +75,9 @@ fn put_ends<J: Headed>(columns: &mut Vec<Column<J>>, row: Vec<SenderEnd<J>>)
     put_row(columns.as_mut_slice(), row);
 }
 
-impl<'t, 'd: 't, 'r: 'd, 'i: 'r, N: RunName> Worlds<'t, 'd, 'r, 'i, N> {
+impl<'t, N: RunName> Worlds<'t, N> {
     /// Puts back and counts what is left of a world.
-    pub(crate) fn put(&mut self, ends: TaskEnds<'t, 'd, 'r, 'i, N>)
+    pub(crate) fn put(&mut self, ends: TaskEnds<'t, N>)
         requires back { (ids : RunIds) × (number : ℕ) × AreColumnsBack ids (suc number) self.old.columns.items × AreTaskEnds ids number ends }
         requires room { length self.old.passes.items < vec_capacity self.old.passes }
         ensures columns { (ids : RunIds) (number : ℕ) → AreColumnsBack ids (suc number) self.old.columns.items → AreTaskEnds ids number ends.entry
@@ -99,7 +99,7 @@ impl<'t, 'd: 't, 'r: 'd, 'i: 'r, N: RunName> Worlds<'t, 'd, 'r, 'i, N> {
     }
 
     /// Puts back and counts what is left of the workers' worlds.
-    pub(crate) fn put_all(&mut self, worlds: Vec<TaskEnds<'t, 'd, 'r, 'i, N>>)
+    pub(crate) fn put_all(&mut self, worlds: Vec<TaskEnds<'t, N>>)
         requires back { (ids : RunIds) × AreColumnsBack ids (suc ids.workers) self.old.columns.items × AreWorldEnds ids worlds.items }
         requires room { length self.old.passes.items + length worlds.items ≤ vec_capacity self.old.passes }
         ensures columns { (ids : RunIds) → AreColumnsBack ids (suc ids.workers) self.old.columns.items → AreWorldEnds ids worlds.entry.items
@@ -121,7 +121,7 @@ impl<'t, 'd: 't, 'r: 'd, 'i: 'r, N: RunName> Worlds<'t, 'd, 'r, 'i, N> {
 fn close_slot<'d, 'r: 'd, 'i: 'r, N: RunName, R: Wait>(
     rt: &R,
     slot: GatherSlot<'d, 'r, 'i, N>,
-    column: Column<GatherJob<'d, 'r, 'i, N>>,
+    column: Column<GatherJob<N>>,
 ) -> GatherEnd<N>
     requires { (ids : RunIds) × (k : ℕ) × IsGatheredSlot N.asked ids k slot × IsFullColumn ids k column }
     ensures emptied { (ids : RunIds) (k : ℕ) → IsGatheredSlot N.asked ids k slot.entry → result.refused ≡ false → IsEmptied (1 + k) result.queue }
@@ -141,7 +141,7 @@ fn close_slot<'d, 'r: 'd, 'i: 'r, N: RunName, R: Wait>(
     let Some(stage) = stage else { unreachable!() };
     let Column { posters, ends } = column;
     posters.destroy_empty();
-    all_are_back::<GatherJob<'d, 'r, 'i, N>>();
+    all_are_back::<GatherJob<N>>();
     close_gathering(rt, stage, ends)
 }
 
@@ -173,7 +173,7 @@ impl<N: RunName> Gatherers<N> {
         &mut self,
         rt: &R,
         slots: Vec<GatherSlot<'d, 'r, 'i, N>>,
-        columns: Vec<Column<GatherJob<'d, 'r, 'i, N>>>,
+        columns: Vec<Column<GatherJob<N>>>,
     )
         requires bases { (ids : RunIds) × (length ids.queues ≡ N.asked.bases) × AreGathered N.asked ids slots.items
             × AreColumnsBack ids 0 columns.items × IsPrinterBack N.asked ids (suc N.asked.bases) self.old.printer }

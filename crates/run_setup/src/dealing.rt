@@ -13,24 +13,24 @@ ghost use Rattle.run_setup.specs.Slots.{AreGatherSlots, AreWorkers, IsNewWorld};
 
 use crate::cells::{TaskCellPass, TaskCells};
 use crate::rooms::WorldRoom;
-use crate::workers::Worker;
 use event_base::EventBase;
 use fan_base::ExecId;
 use fan_parts::{BasePoster, GatherJob, PrintJob, RunName, RunShards};
 use job_trait::Headed;
 use prio_pool::WorkerPass;
 use run_bases::{Column, take_one};
+use run_gathering::PartTable;
 use run_tasks::{ShardTask, TaskWorld};
-use run_threads::GatherSlot;
+use run_threads::{GatherSlot, TaskSlot, WorkerSlot};
 use std::alloc::Global;
 
 /// What worlds are made of: the cells with a pass for each, the shards, the posters to the gathering bases, and room for each.
-pub(crate) struct Dealing<'c, 't, 'd: 't, 'r: 'd, 'i: 'r, N: RunName> {
-    pub(crate) cells: &'c TaskCells<'t, 'd, 'r, 'i, N>,
-    pub(crate) passes: Vec<TaskCellPass<'t, 'd, 'r, 'i, N>>,
+pub(crate) struct Dealing<'c, 't, 'i: 't, N: RunName> {
+    pub(crate) cells: &'c TaskCells<'t, N>,
+    pub(crate) passes: Vec<TaskCellPass<'t, N>>,
     pub(crate) shards: RunShards<'i, N>,
-    pub(crate) columns: Vec<Column<GatherJob<'d, 'r, 'i, N>>>,
-    pub(crate) rooms: Vec<WorldRoom<'d, 'r, 'i, N>>,
+    pub(crate) columns: Vec<Column<GatherJob<N>>>,
+    pub(crate) rooms: Vec<WorldRoom<N>>,
 }
 
 /// Takes the last poster of each column. The column at place k is that of the base with the executor 1 + k.
@@ -50,9 +50,9 @@ fn deal_row<J: Headed>(columns: &mut Vec<Column<J>>, row: &mut Vec<BasePoster<J>
     }
 }
 
-impl<'c, 't, 'd: 't, 'r: 'd, 'i: 'r, N: RunName> Dealing<'c, 't, 'd, 'r, 'i, N> {
+impl<'c, 't, 'i: 't, N: RunName> Dealing<'c, 't, 'i, N> {
     /// The next world, with the last poster to each gathering base.
-    pub(crate) fn next_world(&mut self) -> TaskWorld<'c, 't, 'd, 'r, 'i, N>
+    pub(crate) fn next_world(&mut self) -> TaskWorld<'c, 't, 'i, N>
         requires few { N.asked.bases ≤ 8 }
         requires left { (ids : RunIds) × (left : ℕ) × IsDealing N.asked ids (suc left) self.old }
         ensures world { (ids : RunIds) (left : ℕ) → IsDealing N.asked ids (suc left) self.old → IsNewWorld ids left result }
@@ -72,9 +72,9 @@ impl<'c, 't, 'd: 't, 'r: 'd, 'i: 'r, N: RunName> Dealing<'c, 't, 'd, 'r, 'i, N> 
     /// All workers, by number.
     pub(crate) fn all_workers(
         &mut self,
-        passes: Vec<WorkerPass<ShardTask<'t, 'd, 'r, 'i, N>>>,
-        room: Vec<Worker<'c, 't, 'd, 'r, 'i, N>>,
-    ) -> Vec<Worker<'c, 't, 'd, 'r, 'i, N>>
+        passes: Vec<WorkerPass<ShardTask<'t, 'i, N>>>,
+        room: Vec<TaskSlot<'c, 't, 'i, N>>,
+    ) -> Vec<TaskSlot<'c, 't, 'i, N>>
         requires few { N.asked.bases ≤ 8 }
         requires empty { room.items ≡ [] }
         requires room { length passes.items ≤ vec_capacity room }
@@ -89,25 +89,31 @@ impl<'c, 't, 'd: 't, 'r: 'd, 'i: 'r, N: RunName> Dealing<'c, 't, 'd, 'r, 'i, N> 
         let mut left = passes.into_iter();
         while let Some(pass) = left.next() {
             let world = self.next_world();
-            workers.push_reserved(Worker { pass, world });
+            workers.push_reserved(WorkerSlot {
+                pass: Some(pass),
+                end: None,
+                world,
+            });
         }
         left.destroy_empty();
         workers
     }
 }
 
-/// The slots of all gathering bases, by base, each with the last poster of the printer's column.
+/// The slots of all gathering bases, by base, each with the last poster of the printer's column and its table.
 pub(crate) fn gather_slots<'d, 'r: 'd, 'i: 'r, N: RunName>(
     alloc: Global,
-    bases: Vec<EventBase<GatherJob<'d, 'r, 'i, N>>>,
+    bases: Vec<EventBase<GatherJob<N>>>,
     printer: ExecId,
     column: &mut Column<PrintJob<N>>,
     shards: &RunShards<'i, N>,
+    tables: Vec<PartTable<'d, 'r, 'i, N>>,
     room: Vec<GatherSlot<'d, 'r, 'i, N>>,
 ) -> Vec<GatherSlot<'d, 'r, 'i, N>>
     requires printer { printer ≡ printer_exec N.asked.bases }
     requires empty { room.items ≡ [] }
     requires room { length bases.items ≤ vec_capacity room }
+    requires tables { length tables.items ≡ length bases.items }
     requires bases { (ids : RunIds) × AreNewBases N.asked ids bases.items × IsPrinterColumn N.asked ids (suc N.asked.bases) column.old }
     ensures slots { (ids : RunIds) → AreNewBases N.asked ids bases.entry.items → IsPrinterColumn N.asked ids (suc N.asked.bases) column.old
         → AreGatherSlots N.asked ids result.items }
@@ -115,17 +121,23 @@ pub(crate) fn gather_slots<'d, 'r: 'd, 'i: 'r, N: RunName>(
         → IsPrinterColumn N.asked ids 1 column.new }
 {
     let mut slots = room;
+    let mut given = tables.into_iter();
     let mut left = bases.into_iter();
     while let Some(base) = left.next() {
+        let Some(table) = given.next() else {
+            unreachable!()
+        };
         let poster = BasePoster::new(take_one(&mut *column), printer);
         slots.push_reserved(GatherSlot {
             base: Some(base),
             printer: Some(poster),
+            table: Some(table),
             shards: shards.again(),
             stage: None,
             alloc,
         });
     }
     left.destroy_empty();
+    given.destroy_empty();
     slots
 }

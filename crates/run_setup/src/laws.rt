@@ -6,7 +6,7 @@ ghost use Rattle.fan_model.specs.Tasks.{printer_exec};
 ghost use Rattle.fan_parts.specs.declared.jobs.PrintJob.{PrintJob};
 ghost use Rattle.notify_queue.specs.Ends.{Sending};
 ghost use Rattle.pool_model.specs.Passes.{AreAllEnds};
-ghost use Rattle.pool_model.specs.Seen.{EndSeen, PoolSeen};
+ghost use Rattle.pool_model.specs.Seen.{EndSeen, PoolId};
 ghost use Rattle.run_notes.specs.Accounts.{AllDone};
 ghost use Rattle.run_printing.specs.Ends.{IsBaseOf, IsNewBase};
 ghost use Rattle.run_stages.specs.Stages.{AllRan, AllReady};
@@ -18,31 +18,31 @@ ghost use Rattle.run_threads.specs.declared.worker.WorkerSlot.{WorkerSlot};
 ghost use Rattle.run_threads.specs.Slots.{HasGatheredIn, HasWorked, IsReadyToGather, IsReadyToWork};
 ghost use Rattle.run_setup.specs.Closing.{AreEndsOf, AreGathered, AreTaskEnds, AreWorldEnds, HaveWorked, IsPrinterBase, IsPrinterEnd, some_refused};
 ghost use Rattle.run_setup.specs.Ids.{RunIds};
-ghost use Rattle.run_setup.specs.Slots.{AreGatherSlots, AreWorkerSlots, IsNewWorld};
+ghost use Rattle.run_setup.specs.Slots.{AreGatherSlots, AreWorkers, IsNewWorld};
 
 use fan_parts::RunName;
 
 /// The slots of a new run are ready for their threads, and its printer's base is new.
-pub fn a_setup_is_ready<N: RunName, G>()
+pub fn a_setup_is_ready<N: RunName>()
     ensures gatherers { (ids : RunIds) (slots : List (GatherSlot N N.RunName)) → AreGatherSlots N.asked ids slots
         → AllReady (IsReadyToGather N.asked) slots }
-    ensures workers { (ids : RunIds) (pool : PoolSeen) (slots : List (WorkerSlot TaskSeen (WorldSeen N) G)) → AreWorkerSlots ids pool slots
-        → AllReady IsReadyToWork slots }
+    ensures workers { (ids : RunIds) (pool : PoolId) (slots : List (WorkerSlot TaskSeen (WorldSeen N))) → AreWorkers ids pool slots
+        → AllReady (IsReadyToWork pool) slots }
     ensures printer { (ids : RunIds) (base : BaseSeen (PrintJob N))
         → base ≡ new_base (printer_exec N.asked.bases) 0 ids.printer (N.asked.bases + 1) → IsNewBase base }
 {}
 
 /// What the threads leave is what the close asks for; and where no world notes want of memory, each task that a worker took was done.
-pub fn what_ran_can_be_closed<N: RunName, G>()
+pub fn what_ran_can_be_closed<N: RunName>()
     ensures gathered { (ids : RunIds) (old new : List (GatherSlot N N.RunName)) → AreGatherSlots N.asked ids old → AllRan HasGatheredIn old new
         → AreGathered N.asked ids new }
-    ensures worked { (old new : List (WorkerSlot TaskSeen (WorldSeen N) G)) → AllRan (HasWorked TaskRan) old new → HaveWorked new }
-    ensures worlds { (ids : RunIds) (pool : PoolSeen) (slots : List (WorkerSlot TaskSeen (WorldSeen N) G))
-        (ends : List EndSeen) (worlds : List (TaskEnds N)) → AreWorkerSlots ids pool slots → AreEndsOf slots ends worlds → AreWorldEnds ids worlds }
-    ensures ends { (ids : RunIds) (pool : PoolSeen) (slots : List (WorkerSlot TaskSeen (WorldSeen N) G))
-        (ends : List EndSeen) (worlds : List (TaskEnds N)) → AreWorkerSlots ids pool slots → AreEndsOf slots ends worlds → AreAllEnds pool.id ids.workers ends }
-    ensures done { (ids : RunIds) (pool : PoolSeen) (slots : List (WorkerSlot TaskSeen (WorldSeen N) G))
-        (ends : List EndSeen) (worlds : List (TaskEnds N)) → AreWorkerSlots ids pool slots → AreEndsOf slots ends worlds → All (λ w. w.refused ≡ false) worlds → AllDone ends }
+    ensures worked { (old new : List (WorkerSlot TaskSeen (WorldSeen N))) → AllRan (HasWorked TaskRan) old new → HaveWorked new }
+    ensures worlds { (ids : RunIds) (pool : PoolId) (slots : List (WorkerSlot TaskSeen (WorldSeen N)))
+        (ends : List EndSeen) (worlds : List (TaskEnds N)) → AreWorkers ids pool slots → AreEndsOf slots ends worlds → AreWorldEnds ids worlds }
+    ensures ends { (ids : RunIds) (pool : PoolId) (slots : List (WorkerSlot TaskSeen (WorldSeen N)))
+        (ends : List EndSeen) (worlds : List (TaskEnds N)) → AreWorkers ids pool slots → AreEndsOf slots ends worlds → AreAllEnds pool ids.workers ends }
+    ensures done { (ids : RunIds) (pool : PoolId) (slots : List (WorkerSlot TaskSeen (WorldSeen N)))
+        (ends : List EndSeen) (worlds : List (TaskEnds N)) → AreWorkers ids pool slots → AreEndsOf slots ends worlds → All (λ w. w.refused ≡ false) worlds → AllDone ends }
     ensures printed { (ids : RunIds) (old new : BaseSeen (PrintJob N))
         → old ≡ new_base (printer_exec N.asked.bases) 0 ids.printer (N.asked.bases + 1) → IsBaseOf old new → IsPrinterBase N.asked ids new }
     ensures front { (ids : RunIds) (old new : WorldSeen N) (ends : TaskEnds N) → IsNewWorld ids 0 old → Follows old new

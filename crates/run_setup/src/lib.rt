@@ -2,13 +2,12 @@
 //! pool. All is opened before the threads start, and closed when they have ended.
 //!
 //! ```text
-//! open_run --> Setup: gatherers  a slot for each gathering base: the base, a poster to the printer's base
+//! open_run --> Setup: gatherers  a slot for each gathering base: the base, a poster to the printer's base, a table of arrivals
 //!                     printer    the printer's base
-//!                     workers    a pass of the pool and a world, with a poster to each gathering base
+//!                     workers    a slot for each: a pass of the pool and a world, with a poster to each gathering base
 //!                     world      the front's, and its poster to the printer's base
 //!                     pool       with its owner, a keep-alive, one adder and one helper
 //!                     ends, helped, back: room for what the threads leave
-//! worker_slots: the workers --> their slots
 //! .. the threads run ..
 //! worker_ends:  the slots --> the workers' ends, for the pool's end, and what is left of their worlds
 //! close_run:    the bases, with every poster's end --> Closed: the queues' notes, how printing ended, a tally
@@ -22,7 +21,7 @@ pub use cells::{TaskCellPass, TaskCells};
 pub use closing::{Back, Closed, close_run};
 pub use laws::{a_setup_is_ready, nothing_was_refused, what_ran_can_be_closed};
 pub use opening::{Setup, open_run};
-pub use workers::{Worker, WorkerEnds, worker_ends, worker_slots};
+pub use workers::{WorkerEnds, worker_ends};
 
 mod cells;
 mod closing;

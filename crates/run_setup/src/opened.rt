@@ -11,20 +11,20 @@ use std::alloc::Global;
 use std::sync::Wait;
 
 /// The bases, their posters, and the pool.
-pub(crate) struct Opened<'t, 'd: 't, 'r: 'd, 'i: 'r, N: RunName> {
-    pub(crate) gathering: Bases<GatherJob<'d, 'r, 'i, N>>,
+pub(crate) struct Opened<'t, 'i: 't, N: RunName> {
+    pub(crate) gathering: Bases<GatherJob<N>>,
     pub(crate) printer: EventBase<PrintJob<N>>,
     pub(crate) column: Column<PrintJob<N>>,
-    pub(crate) parts: PoolParts<ShardTask<'t, 'd, 'r, 'i, N>>,
+    pub(crate) parts: PoolParts<ShardTask<'t, 'i, N>>,
 }
 
 /// Opens all bases and the pool. Where memory runs out, those that were opened are closed.
-pub(crate) fn open_all<'t, 'd: 't, 'r: 'd, 'i: 'r, N: RunName + 'static, R: Wait>(
+pub(crate) fn open_all<'t, 'i: 't, N: RunName + 'static, R: Wait>(
     rt: &R,
     alloc: Global,
     workers: u32,
     bases: u32,
-) -> Result<Opened<'t, 'd, 'r, 'i, N>, Memory>
+) -> Result<Opened<'t, 'i, N>, Memory>
     requires workers { (1 ≤ workers) × (workers ≤ 32) }
     requires bases { bases ≤ 8 }
     ensures { IfOk result (λ opened. HasOpened N.asked workers bases opened) }

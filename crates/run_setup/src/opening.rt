@@ -9,15 +9,16 @@ use crate::closing::Back;
 use crate::dealing::{Dealing, gather_slots};
 use crate::opened::{Opened, open_all};
 use crate::rooms::{EndRooms, Rooms, SlotRooms, drop_passes};
-use crate::workers::{Worker, WorkerEnds};
+use crate::workers::WorkerEnds;
 use event_base::EventBase;
 use fan_base::{ExecId, Memory};
 use fan_parts::{BasePoster, PrintJob, RunName, RunShards};
 use keep_alive::{KeepAlive, KeepOwner};
 use prio_pool::{HelperEnd, HelperPass, Pool, PoolParts, PoolPass};
 use run_bases::{Bases, take_one};
+use run_gathering::{PartTable, close_tables};
 use run_tasks::{ShardTask, TaskWorld};
-use run_threads::GatherSlot;
+use run_threads::{GatherSlot, TaskSlot};
 use std::alloc::Global;
 use std::sync::Wait;
 
@@ -27,34 +28,36 @@ pub struct Setup<'c, 't, 'd: 't, 'r: 'd, 'i: 'r, N: RunName> {
     pub gatherers: Vec<GatherSlot<'d, 'r, 'i, N>>,
     /// The printer's base.
     pub printer: EventBase<PrintJob<N>>,
-    /// The workers, by number. `worker_slots` makes their slots.
-    pub workers: Vec<Worker<'c, 't, 'd, 'r, 'i, N>>,
+    /// The slots of the workers, by number.
+    pub workers: Vec<TaskSlot<'c, 't, 'i, N>>,
     /// The front's world.
-    pub world: TaskWorld<'c, 't, 'd, 'r, 'i, N>,
+    pub world: TaskWorld<'c, 't, 'i, N>,
     /// The front's poster to the printer's base.
     pub poster: BasePoster<PrintJob<N>>,
-    pub pool: Pool<ShardTask<'t, 'd, 'r, 'i, N>>,
+    pub pool: Pool<ShardTask<'t, 'i, N>>,
     pub owner: KeepOwner,
     pub keep: KeepAlive,
     /// The one adder of the pool.
-    pub adders: Vec<PoolPass<ShardTask<'t, 'd, 'r, 'i, N>>>,
-    pub helper: HelperPass<ShardTask<'t, 'd, 'r, 'i, N>>,
+    pub adders: Vec<PoolPass<ShardTask<'t, 'i, N>>>,
+    pub helper: HelperPass<ShardTask<'t, 'i, N>>,
     /// Room for what the workers leave.
-    pub ends: WorkerEnds<'t, 'd, 'r, 'i, N>,
+    pub ends: WorkerEnds<'t, 'i, N>,
     /// Room for the end of the helper.
-    pub helped: Vec<HelperEnd<ShardTask<'t, 'd, 'r, 'i, N>>>,
+    pub helped: Vec<HelperEnd<ShardTask<'t, 'i, N>>>,
     /// Room for the ends of all posters.
-    pub back: Back<'t, 'd, 'r, 'i, N>,
+    pub back: Back<'t, N>,
 }
 
-/// Opens a run with 1 to 32 workers and 1 to 8 gathering bases. `passes` are all passes of the cells, one for each worker and one for the front.
+/// Opens a run with 1 to 32 workers and 1 to 8 gathering bases. `passes` are all passes of the cells, one for each worker and one for the front, and `tables`
+/// those of the arrivals for the queries' parts, one for each gathering base.
 /// Where memory runs out, all that was opened is closed again.
 pub fn open_run<'c, 't, 'd: 't, 'r: 'd, 'i: 'r, N: RunName + 'static, R: Wait>(
     rt: &R,
     alloc: Global,
-    cells: &'c TaskCells<'t, 'd, 'r, 'i, N>,
-    passes: Vec<TaskCellPass<'t, 'd, 'r, 'i, N>>,
+    cells: &'c TaskCells<'t, N>,
+    passes: Vec<TaskCellPass<'t, N>>,
     shards: &RunShards<'i, N>,
+    tables: Vec<PartTable<'d, 'r, 'i, N>>,
     workers: u32,
     bases: u32,
 ) -> Result<Setup<'c, 't, 'd, 'r, 'i, N>, Memory>
@@ -63,16 +66,21 @@ pub fn open_run<'c, 't, 'd: 't, 'r: 'd, 'i: 'r, N: RunName + 'static, R: Wait>(
     requires bases { bases ≡ N.asked.bases }
     requires passes { length passes.items ≡ workers + 1 }
     requires all { AreAll cells.now passes.items }
+    requires tables { length tables.items ≡ bases }
     ensures { IfOk result (λ setup. (ids : RunIds) × (ids.workers ≡ workers) × (ids.cells ≡ cells.now) × IsSetup N.asked ids setup) }
 {
     let Ok(rooms) = Rooms::new(alloc, workers, bases) else {
+        close_tables(tables);
         drop_passes(passes);
         return Err(Memory);
     };
     match open_all(rt, alloc, workers, bases) {
-        Ok(opened) => Ok(deal_out(alloc, cells, passes, shards, workers, bases, rooms, opened)),
+        Ok(opened) => Ok(deal_out(
+            alloc, cells, passes, shards, tables, workers, bases, rooms, opened,
+        )),
         Err(Memory) => {
             rooms.give_up();
+            close_tables(tables);
             drop_passes(passes);
             Err(Memory)
         }
@@ -82,17 +90,19 @@ pub fn open_run<'c, 't, 'd: 't, 'r: 'd, 'i: 'r, N: RunName + 'static, R: Wait>(
 /// Deals out the posters and the passes, and puts all parts together. It takes no memory.
 fn deal_out<'c, 't, 'd: 't, 'r: 'd, 'i: 'r, N: RunName>(
     alloc: Global,
-    cells: &'c TaskCells<'t, 'd, 'r, 'i, N>,
-    passes: Vec<TaskCellPass<'t, 'd, 'r, 'i, N>>,
+    cells: &'c TaskCells<'t, N>,
+    passes: Vec<TaskCellPass<'t, N>>,
     shards: &RunShards<'i, N>,
+    tables: Vec<PartTable<'d, 'r, 'i, N>>,
     workers: u32,
     bases: u32,
     rooms: Rooms<'c, 't, 'd, 'r, 'i, N>,
-    opened: Opened<'t, 'd, 'r, 'i, N>,
+    opened: Opened<'t, 'i, N>,
 ) -> Setup<'c, 't, 'd, 'r, 'i, N>
     requires bases { (bases ≡ N.asked.bases) × (bases ≤ 8) }
     requires passes { length passes.items ≡ workers + 1 }
     requires all { AreAll cells.now passes.items }
+    requires tables { length tables.items ≡ bases }
     requires rooms { HasRooms workers bases rooms }
     requires opened { HasOpened N.asked workers bases opened }
     ensures { (ids : RunIds) × (ids.workers ≡ workers) × (ids.cells ≡ cells.now) × IsSetup N.asked ids result }
@@ -128,7 +138,15 @@ fn deal_out<'c, 't, 'd: 't, 'r: 'd, 'i: 'r, N: RunName>(
         mut helpers,
     } = parts;
     let exec = ExecId(bases + 1);
-    let gatherers = gather_slots(alloc, gathering, exec, &mut column, shards, gatherers);
+    let gatherers = gather_slots(
+        alloc,
+        gathering,
+        exec,
+        &mut column,
+        shards,
+        tables,
+        gatherers,
+    );
     let poster = BasePoster::new(take_one(&mut column), exec);
     let mut dealing = Dealing {
         cells,

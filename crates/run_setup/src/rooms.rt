@@ -2,7 +2,6 @@ ghost use Rattle.std.specs.Prelude.{◌≡◌, ◌≤◌, ℕ, [], IfOk, length}
 ghost use Rattle.std.specs.List.{All};
 ghost use Rattle.run_setup.specs.Rooms.{HasEndRooms, HasRooms, HasSlotRooms, HasWorldRoom};
 
-use crate::workers::Worker;
 use core_cells::CellPass;
 use event_base::QueueNote;
 use fan_base::Memory;
@@ -10,38 +9,38 @@ use fan_parts::{BasePoster, GatherJob, RunName};
 use notify_queue::SenderEnd;
 use prio_pool::{HelperEnd, WorkerEnd};
 use run_tasks::{ShardTask, TaskEnds};
-use run_threads::GatherSlot;
+use run_threads::{GatherSlot, TaskSlot};
 use std::alloc::Global;
 
 /// Room for the posters of a world, and for their ends.
-pub(crate) struct WorldRoom<'d, 'r: 'd, 'i: 'r, N: RunName> {
-    pub(crate) posters: Vec<BasePoster<GatherJob<'d, 'r, 'i, N>>>,
-    pub(crate) ends: Vec<SenderEnd<GatherJob<'d, 'r, 'i, N>>>,
+pub(crate) struct WorldRoom<N: RunName> {
+    pub(crate) posters: Vec<BasePoster<GatherJob<N>>>,
+    pub(crate) ends: Vec<SenderEnd<GatherJob<N>>>,
 }
 
 /// Room for the gathering bases' slots, for the workers, and for what is left of the workers' worlds.
 pub(crate) struct SlotRooms<'c, 't, 'd: 't, 'r: 'd, 'i: 'r, N: RunName> {
     pub(crate) gatherers: Vec<GatherSlot<'d, 'r, 'i, N>>,
-    pub(crate) workers: Vec<Worker<'c, 't, 'd, 'r, 'i, N>>,
-    pub(crate) worlds: Vec<TaskEnds<'t, 'd, 'r, 'i, N>>,
+    pub(crate) workers: Vec<TaskSlot<'c, 't, 'i, N>>,
+    pub(crate) worlds: Vec<TaskEnds<'t, N>>,
 }
 
 /// Room for the ends of the workers and of the helper.
-pub(crate) struct EndRooms<'t, 'd: 't, 'r: 'd, 'i: 'r, N: RunName> {
-    pub(crate) ends: Vec<WorkerEnd<ShardTask<'t, 'd, 'r, 'i, N>>>,
-    pub(crate) helped: Vec<HelperEnd<ShardTask<'t, 'd, 'r, 'i, N>>>,
+pub(crate) struct EndRooms<'t, 'i: 't, N: RunName> {
+    pub(crate) ends: Vec<WorkerEnd<ShardTask<'t, 'i, N>>>,
+    pub(crate) helped: Vec<HelperEnd<ShardTask<'t, 'i, N>>>,
 }
 
 /// All room that a run takes beside its bases and its pool.
 pub(crate) struct Rooms<'c, 't, 'd: 't, 'r: 'd, 'i: 'r, N: RunName> {
-    pub(crate) worlds: Vec<WorldRoom<'d, 'r, 'i, N>>,
+    pub(crate) worlds: Vec<WorldRoom<N>>,
     pub(crate) slots: SlotRooms<'c, 't, 'd, 'r, 'i, N>,
-    pub(crate) ends: EndRooms<'t, 'd, 'r, 'i, N>,
+    pub(crate) ends: EndRooms<'t, 'i, N>,
     pub(crate) notes: Vec<QueueNote>,
 }
 
-impl<'d, 'r: 'd, 'i: 'r, N: RunName> WorldRoom<'d, 'r, 'i, N> {
-    fn new(alloc: Global, bases: u32) -> Result<WorldRoom<'d, 'r, 'i, N>, Memory>
+impl<N: RunName> WorldRoom<N> {
+    fn new(alloc: Global, bases: u32) -> Result<WorldRoom<N>, Memory>
         ensures { IfOk result (λ room. HasWorldRoom bases room) }
     {
         let posters = Vec::with_capacity(alloc, bases as usize)?;
@@ -62,11 +61,11 @@ impl<'d, 'r: 'd, 'i: 'r, N: RunName> WorldRoom<'d, 'r, 'i, N> {
 }
 
 /// The rooms of so many worlds, for posters to so many bases.
-fn world_rooms<'d, 'r: 'd, 'i: 'r, N: RunName>(
+fn world_rooms<N: RunName>(
     alloc: Global,
     count: u32,
     bases: u32,
-) -> Result<Vec<WorldRoom<'d, 'r, 'i, N>>, Memory>
+) -> Result<Vec<WorldRoom<N>>, Memory>
     ensures { IfOk result (λ rooms. (length rooms.items ≡ count) × All (HasWorldRoom bases) rooms.items) }
 {
     let mut rooms = Vec::with_capacity(alloc, count as usize)?;
@@ -82,7 +81,7 @@ fn world_rooms<'d, 'r: 'd, 'i: 'r, N: RunName>(
     Ok(rooms)
 }
 
-fn give_up_worlds<'d, 'r: 'd, 'i: 'r, N: RunName>(rooms: Vec<WorldRoom<'d, 'r, 'i, N>>)
+fn give_up_worlds<N: RunName>(rooms: Vec<WorldRoom<N>>)
     requires { (bases : ℕ) × All (HasWorldRoom bases) rooms.items }
 {
     let mut rooms = rooms;
@@ -131,8 +130,8 @@ impl<'c, 't, 'd: 't, 'r: 'd, 'i: 'r, N: RunName> SlotRooms<'c, 't, 'd, 'r, 'i, N
     }
 }
 
-impl<'t, 'd: 't, 'r: 'd, 'i: 'r, N: RunName> EndRooms<'t, 'd, 'r, 'i, N> {
-    fn new(alloc: Global, workers: u32) -> Result<EndRooms<'t, 'd, 'r, 'i, N>, Memory>
+impl<'t, 'i: 't, N: RunName> EndRooms<'t, 'i, N> {
+    fn new(alloc: Global, workers: u32) -> Result<EndRooms<'t, 'i, N>, Memory>
         ensures { IfOk result (λ rooms. HasEndRooms workers rooms) }
     {
         let ends = Vec::with_capacity(alloc, workers as usize)?;

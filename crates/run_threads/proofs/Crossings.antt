@@ -33,17 +33,17 @@ use Rattle.run_threads.specs.contracts.worker.WorkerSlot as worker_slot
 
 ruleset all = (global_std.the_field_send, global_std.the_send, option_std.the_send, vec_std.the_send, exec_fan_base.the_send, tally_core_word.the_send, noproxy_core_proxy.the_send, part_fan_parts.the_send, crossing_fan_parts.PartCallback-send, crossing_fan_parts.GatherJob-send, crossing_fan_parts.PrintJob-send, crossing_fan_parts.BasePoster-send, shards_fan_parts.the_field_send, crossing_fan_parts.RunShards-send, crossing_notify_queue.SenderEnd-send, crosses, sendable)
 
-task_inside : (t d r i : NamedLft) (N : RattleType) (g : Ghosts N.Denot) → IsSend N → IsSend (of_task.the_row t d r i N g)
-task_inside t d r i N g n = recorded_send (of_task.the_field t d r i N g).row _ _ (of_task.the_type t d r i N g).to_one (struct_send (shape (of_task.the_type t d r i N g)) (
+task_inside : (t i : NamedLft) (N : RattleType) (g : Ghosts N.Denot) → IsSend N → IsSend (of_task.the_row t i N g)
+task_inside t i N g n = recorded_send (of_task.the_field t i N g).row _ _ (of_task.the_type t i N g).to_one (struct_send (shape (of_task.the_type t i N g)) (
   search (producer_core_word.the_send, all) depth 60 fits 20000,
   (search (crossing_fan_parts.NumberedAsk-send, all) depth 60 fits 20000, (search all depth 60 fits 20000, (search all depth 60 fits 20000, tt))),
 ))
 
-pub ShardTask-send : (t d r i : NamedLft) (N : RattleType) (g : Ghosts N.Denot) → IsSend N → IsSend (task.the_row t d r i N g)
-ShardTask-send t d r i N g n = view_send (of_task.the_row t d r i N g) _ _ _ _ (task_inside t d r i N g n)
+pub ShardTask-send : (t i : NamedLft) (N : RattleType) (g : Ghosts N.Denot) → IsSend N → IsSend (task.the_row t i N g)
+ShardTask-send t i N g n = view_send (of_task.the_row t i N g) _ _ _ _ (task_inside t i N g n)
 
-world_inside : (c t d r i : NamedLft) (N : RattleType) (g : Ghosts N.Denot) → IsSend N → IsSend (of_world.the_row c t d r i N g)
-world_inside c t d r i N g n = recorded_send (of_world.the_field c t d r i N g).row _ _ (of_world.the_type c t d r i N g).to_one (struct_send (shape (of_world.the_type c t d r i N g)) (
+world_inside : (c t i : NamedLft) (N : RattleType) (g : Ghosts N.Denot) → IsSend N → IsSend (of_world.the_row c t i N g)
+world_inside c t i N g n = recorded_send (of_world.the_field c t i N g).row _ _ (of_world.the_type c t i N g).to_one (struct_send (shape (of_world.the_type c t i N g)) (
   search all depth 60 fits 20000,
   (
     search (crossing_core_cells.Cells-sync, all) depth 60 fits 20000,
@@ -54,20 +54,20 @@ world_inside c t d r i N g n = recorded_send (of_world.the_field c t d r i N g).
   ),
 ))
 
-pub TaskWorld-send : (c t d r i : NamedLft) (N : RattleType) (g : Ghosts N.Denot) → IsSend N → IsSend (world.the_row c t d r i N g)
-TaskWorld-send c t d r i N g n = view_send (of_world.the_row c t d r i N g) _ _ _ _ (world_inside c t d r i N g n)
+pub TaskWorld-send : (c t i : NamedLft) (N : RattleType) (g : Ghosts N.Denot) → IsSend N → IsSend (world.the_row c t i N g)
+TaskWorld-send c t i N g n = view_send (of_world.the_row c t i N g) _ _ _ _ (world_inside c t i N g n)
 
-ends_field : (t d r i : NamedLft) (N : RattleType) (g : Ghosts N.Denot) → IsSend N → IsSend (ends.the_field t d r i N g).row
-ends_field t d r i N g n = struct_send (shape (ends.the_type t d r i N g)) (
+ends_field : (t : NamedLft) (N : RattleType) (g : Ghosts N.Denot) → IsSend N → IsSend (ends.the_field t N g).row
+ends_field t N g n = struct_send (shape (ends.the_type t N g)) (
   search all depth 60 fits 20000,
   (search (crossing_core_cells.CellPass-send, all) depth 60 fits 20000, (search all depth 60 fits 20000, (search all depth 60 fits 20000, tt))),
 )
 
-pub TaskEnds-send : (t d r i : NamedLft) (N : RattleType) (g : Ghosts N.Denot) → IsSend N → IsSend (ends.the_row t d r i N g)
-TaskEnds-send t d r i N g n = recorded_send (ends.the_field t d r i N g).row _ _ (ends.the_type t d r i N g).to_one (ends_field t d r i N g n)
+pub TaskEnds-send : (t : NamedLft) (N : RattleType) (g : Ghosts N.Denot) → IsSend N → IsSend (ends.the_row t N g)
+TaskEnds-send t N g n = recorded_send (ends.the_field t N g).row _ _ (ends.the_type t N g).to_one (ends_field t N g n)
 
-pub WorkerStage-send : (t d r i : NamedLft) (N : RattleType) (g : Ghosts N.Denot) → IsSend N → IsSend (worker_stage.the_row t d r i N g)
-WorkerStage-send t d r i N g n = recorded_send (worker_stage.the_field t d r i N g).row _ _ (worker_stage.the_type t d r i N g).to_one (struct_send (shape (worker_stage.the_type t d r i N g)) (
+pub WorkerStage-send : (t i : NamedLft) (N : RattleType) (g : Ghosts N.Denot) → IsSend N → IsSend (worker_stage.the_row t i N g)
+WorkerStage-send t i N g n = recorded_send (worker_stage.the_field t i N g).row _ _ (worker_stage.the_type t i N g).to_one (struct_send (shape (worker_stage.the_type t i N g)) (
   search (ShardTask-send, crossing_prio_pool.WorkerEnd-send, all) depth 60 fits 20000,
   (search (ends_field, all) depth 60 fits 20000, tt),
 ))
@@ -77,7 +77,10 @@ GatherSlot-send d r i N g n = recorded_send (gather_slot.the_field d r i N g).ro
   search (crossing_run_gathering.EventBase-send, all) depth 60 fits 20000,
   (
     search all depth 60 fits 20000,
-    (search all depth 60 fits 20000, (search (crossing_run_gathering.GatherStage-send, all) depth 60 fits 20000, (search all depth 60 fits 20000, tt))),
+    (
+      search (crossing_run_gathering.PartTable-send, all) depth 60 fits 20000,
+      (search all depth 60 fits 20000, (search (crossing_run_gathering.GatherStage-send, all) depth 60 fits 20000, (search all depth 60 fits 20000, tt))),
+    ),
   ),
 ))
 
@@ -90,14 +93,8 @@ PrinterSlot-send k N K g n s = recorded_send (printer_slot.the_field k N K g).ro
   ),
 ))
 
-pub WorkerSlot-send : (p : NamedLft) (J W G : RattleType) (g : HeadedGhosts J.Denot) → IsSend J → IsSend W → IsSync G → IsSend (worker_slot.the_row p J W G g)
-WorkerSlot-send p J W G g j w s = recorded_send (worker_slot.the_field p J W G g).row _ _ (worker_slot.the_type p J W G g).to_one (struct_send (shape (worker_slot.the_type p J W G g)) (
-  search (crossing_prio_pool.Pool-sync, all) depth 60 fits 20000,
-  (
-    search all depth 60 fits 20000,
-    (
-      search (crossing_prio_pool.WorkerPass-send, all) depth 60 fits 20000,
-      (search (crossing_prio_pool.WorkerEnd-send, all) depth 60 fits 20000, (search all depth 60 fits 20000, tt)),
-    ),
-  ),
+pub WorkerSlot-send : (J W : RattleType) (g : HeadedGhosts J.Denot) → IsSend J → IsSend W → IsSend (worker_slot.the_row J W g)
+WorkerSlot-send J W g j w = recorded_send (worker_slot.the_field J W g).row _ _ (worker_slot.the_type J W g).to_one (struct_send (shape (worker_slot.the_type J W g)) (
+  search (crossing_prio_pool.WorkerPass-send, all) depth 60 fits 20000,
+  (search (crossing_prio_pool.WorkerEnd-send, all) depth 60 fits 20000, (search all depth 60 fits 20000, tt)),
 ))

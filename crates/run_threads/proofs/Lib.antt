@@ -1,3 +1,3 @@
 pub mod Crossings
-mod Living
+pub mod Living
 mod Whole

@@ -12,32 +12,21 @@ use mir.Syntax.{named}
 use Rattle.std.specs.contracts.option.Option as option
 use Rattle.atomic_table.specs.contracts.shared.Seat as seat
 use Rattle.crossbeam_queue.specs.contracts.array_queue.Doing as doing
-use Rattle.fan_base.specs.contracts.outcome.Try as try
 use Rattle.core_word.specs.contracts.producer.Producer as producer
-use Rattle.core_word.specs.contracts.consumer.Consumer as consumer
 use Rattle.core_word.specs.contracts.fire.Fire as fire
 use Rattle.core_word.specs.contracts.home.Key as key
 use Rattle.core_cells.specs.contracts.cells.Cells as cells
 use Rattle.core_cells.specs.contracts.cells.Cells.TheInside as of_cells
 use Rattle.core_cells.specs.contracts.pass.CellPass as pass
 use Rattle.core_cells.specs.contracts.pass.CellPass.TheInside as of_pass
-use Rattle.collect_ops.specs.contracts.arrival.Arrival as arrival
-use Rattle.collect_ops.specs.contracts.desk.Desk as desk
 use Rattle.notify_queue.specs.contracts.sender.Sender as sender
 use Rattle.notify_queue.specs.contracts.sender.Sender.TheInside as of_sender
 use Rattle.notify_queue.specs.contracts.sender.SenderEnd as sender_end
 use Rattle.notify_queue.specs.contracts.sender.SenderEnd.TheInside as of_sender_end
 use Rattle.fan_parts.specs.declared.run_name.RunName.{Ghosts}
 use Rattle.fan_parts.specs.contracts.part.Part as part
-use Rattle.fan_parts.specs.contracts.reply.PlacedReply as placed
-use Rattle.fan_parts.specs.contracts.reply.ReplyCallback as reply_callback
 use Rattle.fan_parts.specs.contracts.ask.NumberedAsk as numbered
-use Rattle.fan_parts.specs.contracts.cores.End as end
-use Rattle.fan_parts.specs.contracts.cores.End.TheInside as of_end
 use Rattle.fan_parts.specs.contracts.cores.PartCallback as part_callback
-use Rattle.fan_parts.specs.contracts.cores.PartCallback.TheInside as of_part_callback
-use Rattle.fan_parts.specs.contracts.jobs.Scoring as scoring
-use Rattle.fan_parts.specs.contracts.jobs.Scoring.TheInside as of_scoring
 use Rattle.fan_parts.specs.contracts.jobs.GatherJob as gather_job
 use Rattle.fan_parts.specs.contracts.shards.RunShards as shards
 use Rattle.run_tasks.specs.contracts.task.ShardTask as task
@@ -62,26 +51,14 @@ Seat-lives κ s d h0 h1 = simp (in_lives, h0, h1) (search rules)
 Doing-lives : (κ t v : Lft) → κ ⊑ t → κ ⊑ v → κ ⊑ (doing.the_row (row_of t) (row_of v)).lives
 Doing-lives κ t v h0 h1 = simp (in_lives, h0, h1) (search rules)
 
-Try-lives : (κ t : Lft) → κ ⊑ t → κ ⊑ (try.the_row (row_of t)).lives
-Try-lives κ t h0 = simp (in_lives, h0) (search rules)
-
 Fire-lives : (κ t c : Lft) → κ ⊑ t → κ ⊑ c → κ ⊑ (fire.the_row (row_of t) (row_of c)).lives
 Fire-lives κ t c h0 h1 = simp (in_lives, h0, h1) (search rules)
-
-Desk-lives : (κ x e k : Lft) → κ ⊑ x → κ ⊑ e → κ ⊑ k → κ ⊑ (desk.the_row (row_of x) (row_of e) (row_of k)).lives
-Desk-lives κ x e k h0 h1 h2 = simp (in_lives, h0, h1, h2) (search rules)
 
 Producer-lives : (κ h t c p : Lft) → κ ⊑ h → κ ⊑ t → κ ⊑ c → κ ⊑ p → κ ⊑ (producer.the_row (named_at h) (row_of t) (row_of c) (row_of p)).lives
 Producer-lives κ h t c p h0 h1 h2 h3 = simp (in_lives, h0, h1, h2, h3) (search rules)
 
-Consumer-lives : (κ h t c p : Lft) → κ ⊑ h → κ ⊑ t → κ ⊑ c → κ ⊑ p → κ ⊑ (consumer.the_row (named_at h) (row_of t) (row_of c) (row_of p)).lives
-Consumer-lives κ h t c p h0 h1 h2 h3 = simp (in_lives, h0, h1, h2, h3) (search rules)
-
 Key-lives : (κ h t c p : Lft) → κ ⊑ h → κ ⊑ t → κ ⊑ c → κ ⊑ p → κ ⊑ (key.the_row (named_at h) (row_of t) (row_of c) (row_of p)).lives
 Key-lives κ h t c p h0 h1 h2 h3 = simp (in_lives, h0, h1, h2, h3) (search rules)
-
-Arrival-lives : (κ d k x e : Lft) → κ ⊑ d → κ ⊑ k → κ ⊑ x → κ ⊑ e → κ ⊑ (arrival.the_row (named_at d) (row_of k) (row_of x) (row_of e)).lives
-Arrival-lives κ d k x e h0 h1 h2 h3 = simp (in_lives, h0, h1, h2, h3) (search rules)
 
 -- a vector, and an Arc, of the global allocator
 Held-lives : (κ t : Lft) → κ ⊑ t → κ ⊑ (t ++ []) ++ []
@@ -160,61 +137,35 @@ module _ (κ : Lft) (N : RattleType) (g : Ghosts N.Denot) (n : κ ⊑ N.lives) w
   Part-lives : κ ⊑ (part.the_row N g).lives
   Part-lives = simp (in_lives, n) (search rules)
 
-  Placed-lives : κ ⊑ (placed.the_row N g).lives
-  Placed-lives = simp (in_lives, n) (search rules)
-
-  Reply-lives : κ ⊑ (reply_callback.the_row N g).lives
-  Reply-lives = simp (in_lives, n) (search rules)
-
   Ask-lives : (i : NamedLft) → κ ⊑ i.lft → κ ⊑ (numbered.the_row i N g).lives
   Ask-lives i at_i = simp (in_lives, n, at_i) (search rules)
 
-  End-lives : (r i : NamedLft) → κ ⊑ r.lft → κ ⊑ i.lft → κ ⊑ (end.the_row r i N g).lives
-  End-lives r i at_r at_i =
-      in_struct κ (of_end.the_type r i N g) (n, tt) (
-        Producer-lives κ _ _ _ _ at_r Placed-lives Reply-lives (Consumer-lives κ _ _ _ _ at_i Placed-lives Reply-lives (⊑_static κ)),
-        (Ask-lives i at_i, (⊑_static κ, (Option-lives κ _ (Key-lives κ _ _ _ _ at_i Placed-lives Reply-lives (⊑_static κ)), tt))),
-      )
+  Callback-lives : κ ⊑ (part_callback.the_row N g).lives
+  Callback-lives = simp (in_lives, n) (search rules)
 
-  Callback-lives : (d r i : NamedLft) → κ ⊑ d.lft → κ ⊑ r.lft → κ ⊑ i.lft → κ ⊑ (part_callback.the_row d r i N g).lives
-  Callback-lives d r i at_d at_r at_i =
-      let outcome = Try-lives κ _ Part-lives in
-      let at_end = End-lives r i at_r at_i in
-      in_struct κ (of_part_callback.the_type d r i N g) (n, tt)
-      (Arrival-lives κ _ _ _ _ at_d (Desk-lives κ _ _ _ outcome at_end (⊑_static κ)) outcome at_end, (⊑_static κ, (⊑_static κ, (⊑_static κ, tt))))
-
-  Scoring-lives : (i : NamedLft) → κ ⊑ i.lft → κ ⊑ (scoring.the_row i N g).lives
-  Scoring-lives i at_i =
-      in_struct κ (of_scoring.the_type i N g) (n, tt)
-      (Producer-lives κ _ _ _ _ at_i Placed-lives Reply-lives (⊑_static κ), (Ask-lives i at_i, (⊑_static κ, (⊑_static κ, (⊑_static κ, tt)))))
-
-  GatherJob-lives : (d r i : NamedLft) → κ ⊑ d.lft → κ ⊑ r.lft → κ ⊑ i.lft → κ ⊑ (gather_job.the_row d r i N g).lives
-  GatherJob-lives d r i at_d at_r at_i =
-      in_enum κ (gather_job.the_type d r i N g) (n, tt)
-      ((Fire-lives κ _ _ Part-lives (Callback-lives d r i at_d at_r at_i), tt), ((Scoring-lives i at_i, tt), tt))
+  GatherJob-lives : κ ⊑ (gather_job.the_row N g).lives
+  GatherJob-lives = in_enum κ (gather_job.the_type N g) (n, tt) ((Fire-lives κ _ _ Part-lives Callback-lives, tt), ((⊑_static κ, tt), tt))
 
   Shards-lives : (i : NamedLft) → κ ⊑ i.lft → κ ⊑ (shards.the_row i N g).lives
   Shards-lives i at_i = simp (in_lives, n, at_i) (search rules)
 
-  pub ShardTask-lives : (t d r i : NamedLft) → κ ⊑ t.lft → κ ⊑ d.lft → κ ⊑ r.lft → κ ⊑ i.lft → κ ⊑ (task.the_row t d r i N g).lives
-  ShardTask-lives t d r i at_t at_d at_r at_i =
-      in_struct κ (of_task.the_type t d r i N g) (n, tt)
-      (Producer-lives κ _ _ _ _ at_t Part-lives (Callback-lives d r i at_d at_r at_i) (⊑_static κ), (Ask-lives i at_i, (⊑_static κ, (⊑_static κ, tt))))
+  pub ShardTask-lives : (t i : NamedLft) → κ ⊑ t.lft → κ ⊑ i.lft → κ ⊑ (task.the_row t i N g).lives
+  ShardTask-lives t i at_t at_i =
+      in_struct κ (of_task.the_type t i N g) (n, tt)
+      (Producer-lives κ _ _ _ _ at_t Part-lives Callback-lives (⊑_static κ), (Ask-lives i at_i, (⊑_static κ, (⊑_static κ, tt))))
 
-  pub TaskWorld-lives : (c t d r i : NamedLft) → κ ⊑ c.lft → κ ⊑ t.lft → κ ⊑ d.lft → κ ⊑ r.lft → κ ⊑ i.lft → κ ⊑ (world.the_row c t d r i N g).lives
-  TaskWorld-lives c t d r i at_c at_t at_d at_r at_i =
+  pub TaskWorld-lives : (c t i : NamedLft) → κ ⊑ c.lft → κ ⊑ t.lft → κ ⊑ i.lft → κ ⊑ (world.the_row c t i N g).lives
+  TaskWorld-lives c t i at_c at_t at_i =
       let part_row = part.the_row N g in
-      let callback_row = part_callback.the_row d r i N g in
-      let at_callback = Callback-lives d r i at_d at_r at_i in
-      let job = gather_job.the_row d r i N g in
-      let at_job = GatherJob-lives d r i at_d at_r at_i in
-      in_struct κ (of_world.the_type c t d r i N g) (n, tt) (
+      let callback_row = part_callback.the_row N g in
+      let job = gather_job.the_row N g in
+      in_struct κ (of_world.the_type c t i N g) (n, tt) (
         Shards-lives i at_i,
         (
-          ⊑_meet κ c.lft _ at_c (Cells-lives κ t part_row callback_row builtin.u8 at_t Part-lives at_callback (⊑_static κ)),
+          ⊑_meet κ c.lft _ at_c (Cells-lives κ t part_row callback_row builtin.u8 at_t Part-lives Callback-lives (⊑_static κ)),
           (
-            CellPass-lives κ t part_row callback_row builtin.u8 at_t Part-lives at_callback (⊑_static κ),
-            (Held-lives κ _ (Poster-lives κ job at_job), (Held-lives κ _ (SenderEnd-lives κ job at_job), (⊑_static κ, (⊑_static κ, tt)))),
+            CellPass-lives κ t part_row callback_row builtin.u8 at_t Part-lives Callback-lives (⊑_static κ),
+            (Held-lives κ _ (Poster-lives κ job GatherJob-lives), (Held-lives κ _ (SenderEnd-lives κ job GatherJob-lives), (⊑_static κ, (⊑_static κ, tt)))),
           ),
         ),
       )

@@ -12,7 +12,7 @@ use Rattle.event_base.specs.Closing.{held_by}
 use Rattle.event_base.specs.Looping.{HoldsNoCallback}
 use Rattle.event_base.specs.Seen.{BaseSeen}
 use Rattle.pool_model.specs.Records.{ran_of}
-use Rattle.pool_model.specs.Seen.{EndSeen, WorkerSeen}
+use Rattle.pool_model.specs.Seen.{EndSeen, PoolId, WorkerSeen}
 use Rattle.fan_model.specs.Report.{Asking}
 use Rattle.fan_model.specs.Tasks.{printer_exec}
 use Rattle.fan_parts.specs.declared.jobs.GatherJob.{GatherJob}
@@ -20,6 +20,7 @@ use Rattle.fan_parts.specs.declared.jobs.PrintJob.{PrintJob}
 use Rattle.fan_parts.specs.declared.run_name.RunName.{Ghosts}
 use Rattle.fan_parts.specs.Seen.{PosterSeen}
 use Rattle.run_gathering.specs.declared.looping.GatherStage.{GatherStage}
+use Rattle.run_gathering.specs.Awaited.{TableSeen}
 use Rattle.run_gathering.specs.Gathering.{HoldsScorings}
 use Rattle.run_gathering.specs.Stages.{CameTo, IsSameBase}
 use Rattle.run_printing.specs.declared.stage.PrintStage.{PrintStage}
@@ -54,7 +55,7 @@ module _ {N K : Type 0} where
     pub stage_loan : new.stage.ghost_name ≡ old.stage.ghost_name
 
 module _ {N : Type 0} {g : Ghosts N} where
-  -- it has a base that holds nothing but scorings, and a poster to the printer's base, and has not run
+  -- it has a base that holds nothing but scorings, a poster to the printer's base, and the arrivals for the parts of its queries, and has not run
   pub record IsReadyToGather (asked : Asking) (slot : GatherSlot N g) : Type 0 where
     pub base : BaseSeen (GatherJob N)
     pub has_base : slot.base ≡ Some base
@@ -62,6 +63,8 @@ module _ {N : Type 0} {g : Ghosts N} where
     pub printer : PosterSeen (PrintJob N)
     pub has_printer : slot.printer ≡ Some printer
     pub exec : printer.exec ≡ printer_exec asked.bases
+    pub table : TableSeen
+    pub has_table : slot.table ≡ Some table
     pub none : slot.stage ≡ None
 
   -- its base and its poster were spent on a stage, which says what they came to
@@ -74,20 +77,21 @@ module _ {N : Type 0} {g : Ghosts N} where
     pub has : new.stage ≡ Some stage
     pub spent_base : new.base ≡ None
     pub spent_printer : new.printer ≡ None
+    pub spent_table : new.table ≡ None
     pub same_base : IsSameBase base stage.base
     pub did : CameTo base stage.base printer.sender stage.printer stage.tally stage.refused
     pub closed : stage.refused ≡ false → IsDry stage.base.queue × HoldsNoCallback stage.base.agenda
     pub empty : stage.refused ≡ false → held_by stage.base.agenda ≡ []
 
-module _ {J W G : Type 0} where
-  -- it has a pass of its pool
-  pub record IsReadyToWork (slot : WorkerSlot J W G) : Type 0 where
+module _ {J W : Type 0} where
+  -- it has a pass of this pool
+  pub record IsReadyToWork (pool : PoolId) (slot : WorkerSlot J W) : Type 0 where
     pub pass : WorkerSeen
     pub has : slot.pass ≡ Some pass
-    pub of_pool : pass.pool ≡ slot.pool.now.id
+    pub of_pool : pass.pool ≡ pool
 
   -- its pass was spent on an end, and the runs of the end's records led from the world before to the world after
-  pub record HasWorked (runs : JobId → W → Mark → W → Type 0) (old new : WorkerSlot J W G) : Type 0 where
+  pub record HasWorked (runs : JobId → W → Mark → W → Type 0) (old new : WorkerSlot J W) : Type 0 where
     pub pass : WorkerSeen
     pub had : old.pass ≡ Some pass
     pub end : EndSeen
@@ -98,15 +102,15 @@ module _ {J W G : Type 0} where
     pub led : Leads runs old.world (ran_of end.records) new.world
 
   -- it has an end, and no pass
-  pub record IsWorked (slot : WorkerSlot J W G) : Type 0 where
+  pub record IsWorked (slot : WorkerSlot J W) : Type 0 where
     pub end : EndSeen
     pub has : slot.end ≡ Some end
     pub spent : slot.pass ≡ None
 
-module _ {N G : Type 0} where
+module _ {N : Type 0} where
   -- What a worker came to: the end is that of its pass; where no want of memory is noted, none was noted before, each task ran, and the tally counts
   -- the cores that they freed; its posters ended, and the pass of the cells is of the same cells.
-  pub record IsStageOf (old : WorkerSlot TaskSeen (WorldSeen N) G) (stage : WorkerStage N) : Type 0 where
+  pub record IsStageOf (old : WorkerSlot TaskSeen (WorldSeen N)) (stage : WorkerStage N) : Type 0 where
     pub pass : WorkerSeen
     pub had : old.pass ≡ Some pass
     pub end_pool : stage.end.pool ≡ pass.pool

@@ -1,20 +1,22 @@
 use event_base::EventBase;
 use fan_parts::{BasePoster, GatherJob, PrintJob, RunName, RunShards};
-use run_gathering::{GatherStage, gather};
+use run_gathering::{GatherStage, PartTable, gather};
 use run_stages::Stage;
 use std::alloc::Global;
 use std::sync::Wait;
 
-/// The stage of a gathering base: the base and its poster to the printer's base before it has run, what it came to afterwards, and the shards.
+/// The stage of a gathering base: the base, its poster to the printer's base and the arrivals for the parts of its queries before it has run, what
+/// it came to afterwards, and the shards.
 pub struct GatherSlot<'d, 'r: 'd, 'i: 'r, N: RunName> {
-    pub base: Option<EventBase<GatherJob<'d, 'r, 'i, N>>>,
+    pub base: Option<EventBase<GatherJob<N>>>,
     pub printer: Option<BasePoster<PrintJob<N>>>,
+    pub table: Option<PartTable<'d, 'r, 'i, N>>,
     pub shards: RunShards<'i, N>,
-    pub stage: Option<GatherStage<'d, 'r, 'i, N>>,
+    pub stage: Option<GatherStage<N>>,
     pub alloc: Global,
 }
 
-impl<'d, 'r: 'd, 'i: 'r, N: RunName> Stage<()> for GatherSlot<'d, 'r, 'i, N> {
+impl<'d, 'r: 'd, 'i: 'r, N: RunName + 'static> Stage<()> for GatherSlot<'d, 'r, 'i, N> {
     ghost use Rattle.run_threads.specs.Slots.{HasGatheredIn, IsReadyToGather};
 
     ghost ready = { λ shared slot. IsReadyToGather N.asked slot };
@@ -29,7 +31,10 @@ impl<'d, 'r: 'd, 'i: 'r, N: RunName> Stage<()> for GatherSlot<'d, 'r, 'i, N> {
         let Some(printer) = self.printer.take() else {
             unreachable!()
         };
-        let stage = gather(rt, self.alloc, base, printer, self.shards.again());
+        let Some(table) = self.table.take() else {
+            unreachable!()
+        };
+        let stage = gather(rt, self.alloc, base, printer, self.shards.again(), table);
         let none = self.stage.replace(stage);
         let None = none else { unreachable!() };
     }

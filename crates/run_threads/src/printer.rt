@@ -7,11 +7,11 @@ use std::alloc::Global;
 use std::sync::Wait;
 
 /// The printer's stage: its base before it has run, what it came to afterwards, and the sink. All of them are lent.
-pub(crate) struct PrinterSlot<'k, N: RunName, K> {
-    pub(crate) base: &'k mut Option<EventBase<PrintJob<N>>>,
-    pub(crate) sink: &'k mut K,
-    pub(crate) stage: &'k mut Option<PrintStage<PrintJob<N>>>,
-    pub(crate) alloc: Global,
+pub struct PrinterSlot<'k, N: RunName, K> {
+    pub base: &'k mut Option<EventBase<PrintJob<N>>>,
+    pub sink: &'k mut K,
+    pub stage: &'k mut Option<PrintStage<PrintJob<N>>>,
+    pub alloc: Global,
 }
 
 impl<'k, N: RunName, K: Sink> Stage<()> for PrinterSlot<'k, N, K> {

@@ -9,5 +9,4 @@ returns g c = record {
   helped = c.first_phase.ensures.helped;
   front = c.first_phase.ensures.front;
   printer = c.first_phase.ensures.printer;
-  keys = c.first_phase.ensures.keys;
 }

@@ -1,4 +1,4 @@
-use Rattle.std.proofs.Common.{◌≡◌, ◌≤◌, ℕ, List, map, sym, ap, ◌∙◌, arith, w8}
+use Rattle.std.proofs.Common.{◌≡◌, ◌≤◌, ℕ, List, map, refl, sym, ap, ◌∙◌, arith, w8}
 use mir.Val.{of_z, to_z}
 use Rattle.std.specs.List.{range_with_len, slice_get}
 use Rattle.std.proofs.lemmas.Result.{on_ok_weaker}
@@ -13,7 +13,6 @@ use Rattle.run_notes.specs.Told.{run_of_add}
 use Rattle.run_front.proofs.Running.{added_few, added_runs, queue_is, runs_more}
 use Rattle.fan_parts.specs.Seen.{PosterSeen}
 use Rattle.fan_parts.specs.declared.jobs.PrintJob.{PrintJob}
-use Rattle.run_front.proofs.Counting.{counted_begun}
 use Rattle.run_front.proofs.Posting.{posted_begun}
 use Rattle.run_front.proofs.Running.{on_ok}
 use Rattle.run_front.proofs.early.early_query.Goals as goal
@@ -22,7 +21,7 @@ pub prio_at-requires : goal.prio_at-requires
 prio_at-requires g c =
     let b = c.requires.begun in (
       b.query.query,
-      ap (λ (l : List Line). slice_get l c.args.query.line) c.open_query.ensures.front.lines
+      ap (λ (l : List Line). slice_get l c.args.query.line) c.requires.front.lines
           ∙ c.begun_query_is_asked.ensures.line c.args.place c.args.query.number c.args.query.line c.args.query.documents b,
     )
 
@@ -30,21 +29,21 @@ pub gathering_exec-exec-requires-clause-number : goal.gathering_exec-exec-requir
 gathering_exec-exec-requires-clause-number g c =
     let one : 1 ≤ c.args.query.number = c.begun_query_is_asked.ensures.from_one c.args.place c.args.query.number c.args.query.line c.args.query.documents c.requires.begun in
     let same : c.number-number.result ≡ c.args.query.number =
-    c.number-number.ensures.number ∙ c.in_ok-ask.ensures.number in
+    c.number-number.ensures.number ∙ c.numbered_ask-ask.ensures.number_is in
     omega (arith, one, same)
 
 pub returns-clause-added : goal.returns-clause-added
 returns-clause-added g c = λ first so_far.
     let asked = g.N.RunName.asked in
     let b = c.requires.begun in
-    let ask = c.in_ok-ask.field-0.ask in
-    let shards = c.open_query.new.front.shards in
+    let ask = c.numbered_ask-ask.result in
+    let shards = c.args.front.now.shards in
     let is_ask : IsAskOf asked ask.number ask.asks ask.before = c.number-number.ensures.is_ask in
-    let here : ask.number ≡ c.args.query.number = c.in_ok-ask.ensures.number in
+    let here : ask.number ≡ c.args.query.number = c.numbered_ask-ask.ensures.number_is in
     let same : is_ask.query ≡ b.query =
     c.begun_query_is_asked.ensures.same c.args.place c.args.query.number c.args.query.line c.args.query.documents b ask is_ask here in
     let prio : c.prio_at.result ≡ b.query.query.prio =
-    c.prio_at.ensures b.query.query (ap (λ (l : List Line). slice_get l c.args.query.line) c.open_query.ensures.front.lines
+    c.prio_at.ensures b.query.query (ap (λ (l : List Line). slice_get l c.args.query.line) c.requires.front.lines
     ∙ c.begun_query_is_asked.ensures.line c.args.place c.args.query.number c.args.query.line c.args.query.documents b) in
     let at : ℕ = queue_in c.args.pool.now.id (to_z w8 (of_z w8 c.priority_of-priority.result)) in
     let queue : at ≡ queue_of is_ask.query.query.prio =
@@ -55,7 +54,7 @@ returns-clause-added g c = λ first so_far.
     ap (λ (k : ℕ). map run_of_add (adds_for asked ask k shards)) queue
     ∙ (c.tasks_are_runs.ensures.added asked ask is_ask shards
     ∙ (ap (λ (q : Asked). map (task_run asked.lines asked.shards pool_exec q) (range_with_len 0 shards)) same
-    ∙ ap (λ (n : ℕ). map (task_run asked.lines asked.shards pool_exec b.query) (range_with_len 0 n)) c.open_query.ensures.front.shards)) in
+    ∙ ap (λ (n : ℕ). map (task_run asked.lines asked.shards pool_exec b.query) (range_with_len 0 n)) c.requires.front.shards)) in
     on_ok_weaker c.start_tasks.result (λ has.
     runs_more asked pool_exec 0 c.args.place b.query first _ _ (c.place_by_place.ensures.begun asked.lines 0 c.args.place b.query b.comes (omega arith))
     (added_runs (adds_of c.args.adder.now) (adds_for asked ask at shards) (adds_of c.start_tasks.new.adder) _ has.adds runs) so_far) c.start_tasks.ensures.added
@@ -63,10 +62,10 @@ returns-clause-added g c = λ first so_far.
 pub returns-clause-few : goal.returns-clause-few
 returns-clause-few g c =
     let asked = g.N.RunName.asked in
-    let few : c.open_query.new.front.shards ≤ 64 =
-    let most = c.requires.front.countable.few_shards in let same : c.open_query.new.front.shards ≡ asked.shards = c.open_query.ensures.front.shards in omega (arith, most, same) in
+    let few : c.args.front.now.shards ≤ 64 =
+    let most = c.requires.front.countable.few_shards in let same : c.args.front.now.shards ≡ asked.shards = c.requires.front.shards in omega (arith, most, same) in
     on_ok_weaker c.start_tasks.result (λ has.
-    added_few asked c.in_ok-ask.field-0.ask (queue_in c.args.pool.now.id (to_z w8 (of_z w8 c.priority_of-priority.result))) c.open_query.new.front.shards (adds_of c.args.adder.now) (adds_of c.start_tasks.new.adder)
+    added_few asked c.numbered_ask-ask.result (queue_in c.args.pool.now.id (to_z w8 (of_z w8 c.priority_of-priority.result))) c.args.front.now.shards (adds_of c.args.adder.now) (adds_of c.start_tasks.new.adder)
     has.adds few) c.start_tasks.ensures.added
 
 pub returns-clause-posted : goal.returns-clause-posted
@@ -74,13 +73,5 @@ returns-clause-posted g c = λ first so_far.
     let asked = g.N.RunName.asked in
     let b = c.requires.begun in
     on_ok c.start_tasks.result
-    (posted_begun asked c.args.place b.query first c.args.front.now.printer c.open_query.new.front.printer b.comes.at
-    (ap (λ (p : PosterSeen (PrintJob g.row.N.Denot)). p.sender.sent) c.open_query.ensures.printer) so_far)
-
-pub returns-clause-counted : goal.returns-clause-counted
-returns-clause-counted g c = λ start first within so_far.
-    let asked = g.N.RunName.asked in
-    let b = c.requires.begun in
-    on_ok c.start_tasks.result
-    (counted_begun asked start c.args.place b.query first c.args.front.now.tally c.open_query.new.front.tally
-    (c.place_by_place.ensures.begun asked.lines start c.args.place b.query b.comes within) c.in_ok-ask.ensures.tally so_far)
+    (posted_begun asked c.args.place b.query first c.args.front.now.printer c.args.front.now.printer b.comes.at
+    refl so_far)

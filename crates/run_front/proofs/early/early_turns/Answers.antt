@@ -19,6 +19,4 @@ loop-place-preserved g c =
       front = e.front;
       printer = e.printer ∙ i.printer;
       posted = λ first so_far. ok.posted first (i.posted first so_far);
-      counted = ok.counted 0 c.args.front.now.tally (omega arith) i.counted;
-      keys = ok.keys;
     }

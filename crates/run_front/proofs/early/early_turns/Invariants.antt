@@ -5,9 +5,8 @@ use Rattle.pool_model.specs.Passes.{adds_of}
 use Rattle.query_tasks.specs.Starting.{HasHelped}
 use Rattle.run_notes.specs.Told.{run_of_add}
 use Rattle.run_tasks.specs.Worlds.{told_of}
-use Rattle.run_front.specs.Fronts.{AreRunsTo, HasKeysFor, IsFrontOf}
+use Rattle.run_front.specs.Fronts.{AreRunsTo, IsFrontOf}
 use Rattle.fan_parts.specs.declared.jobs.PrintJob.{PrintJob}
-use Rattle.run_front.specs.Counted.{HasMade}
 use Rattle.run_front.specs.Posted.{HasPosted}
 use Rattle.run_front.proofs.early.early_turns.Given as goal
 
@@ -22,6 +21,4 @@ invariant-loop-place g l = record {
   printer : told_of l.front.printer ≡ told_of l.initial.front.printer;
   posted : (first : List (PrintJob g.row.N.Denot)) → HasPosted g.N.RunName.asked 0 first l.initial.front.printer
       → HasPosted g.N.RunName.asked l.place first l.front.printer;
-  counted : HasMade g.N.RunName.asked 0 l.place l.initial.front.tally l.front.tally;
-  keys : HasKeysFor (drop l.place (comings_of g.N.RunName.asked.lines)) l.front;
 }

@@ -1,4 +1,4 @@
-use Rattle.std.proofs.Common.{◌≡◌, ◌+◌, ◌++◌, ◌≤◌, ℕ, List, map, sym, ap, ◌∙◌, arith}
+use Rattle.std.proofs.Common.{◌≡◌, ◌+◌, ◌++◌, ◌≤◌, ℕ, List, map, refl, sym, ap, ◌∙◌, arith}
 use Rattle.std.specs.List.{range_with_len, slice_get}
 use Rattle.std.proofs.lemmas.Result.{on_ok_weaker}
 use Rattle.fan_base.specs.declared.number.ExecId.{ExecId}
@@ -11,7 +11,6 @@ use Rattle.run_notes.specs.Told.{run_of_direct}
 use Rattle.run_front.proofs.Running.{runs_more}
 use Rattle.fan_parts.specs.Seen.{PosterSeen}
 use Rattle.fan_parts.specs.declared.jobs.PrintJob.{PrintJob}
-use Rattle.run_front.proofs.Counting.{counted_begun}
 use Rattle.run_front.proofs.Posting.{posted_begun}
 use Rattle.run_front.proofs.Running.{on_ok}
 use Rattle.run_front.proofs.late.late_query.Goals as goal
@@ -20,7 +19,7 @@ pub prio_at-requires : goal.prio_at-requires
 prio_at-requires g c =
     let b = c.requires.begun in (
       b.query.query,
-      ap (λ (l : List Line). slice_get l c.args.query.line) c.open_query.ensures.front.lines
+      ap (λ (l : List Line). slice_get l c.args.query.line) c.requires.front.lines
           ∙ c.begun_query_is_asked.ensures.line c.args.place c.args.query.number c.args.query.line c.args.query.documents b,
     )
 
@@ -28,33 +27,33 @@ pub gathering_exec-base-requires-clause-number : goal.gathering_exec-base-requir
 gathering_exec-base-requires-clause-number g c =
     let one : 1 ≤ c.args.query.number = c.begun_query_is_asked.ensures.from_one c.args.place c.args.query.number c.args.query.line c.args.query.documents c.requires.begun in
     let same : c.number-number.result ≡ c.args.query.number =
-    c.number-number.ensures.number ∙ c.in_ok-ask.ensures.number in
+    c.number-number.ensures.number ∙ c.numbered_ask-ask.ensures.number_is in
     omega (arith, one, same)
 
 pub returns-clause-direct : goal.returns-clause-direct
 returns-clause-direct g c = λ start first within so_far.
     let asked = g.N.RunName.asked in
     let b = c.requires.begun in
-    let ask = c.in_ok-ask.field-0.ask in
-    let shards = c.open_query.new.front.shards in
-    let exec : ExecId = record { 0 = c.open_query.new.front.bases + 2 } in
+    let ask = c.numbered_ask-ask.result in
+    let shards = c.args.front.now.shards in
+    let exec : ExecId = record { 0 = c.args.front.now.bases + 2 } in
     let is_ask : IsAskOf asked ask.number ask.asks ask.before = c.number-number.ensures.is_ask in
-    let here : ask.number ≡ c.args.query.number = c.in_ok-ask.ensures.number in
+    let here : ask.number ≡ c.args.query.number = c.numbered_ask-ask.ensures.number_is in
     let same : is_ask.query ≡ b.query =
     c.begun_query_is_asked.ensures.same c.args.place c.args.query.number c.args.query.line c.args.query.documents b ask is_ask here in
     let prio : c.prio_at.result ≡ b.query.query.prio =
-    c.prio_at.ensures b.query.query (ap (λ (l : List Line). slice_get l c.args.query.line) c.open_query.ensures.front.lines
+    c.prio_at.ensures b.query.query (ap (λ (l : List Line). slice_get l c.args.query.line) c.requires.front.lines
     ∙ c.begun_query_is_asked.ensures.line c.args.place c.args.query.number c.args.query.line c.args.query.documents b) in
     let queue : c.queue_number-queue.result ≡ queue_of is_ask.query.query.prio =
     c.queue_number-queue.ensures ∙ (ap queue_of prio ∙ ap (λ (q : Asked). queue_of q.query.prio) (sym same)) in
-    let on_front : exec ≡ front_exec asked.bases = ap (λ (n : ℕ). front_exec n) c.open_query.ensures.front.bases in
+    let on_front : exec ≡ front_exec asked.bases = ap (λ (n : ℕ). front_exec n) c.requires.front.bases in
     let runs : runs_for asked ask c.queue_number-queue.result exec shards
     ≡ map (task_run asked.lines asked.shards (front_exec asked.bases) b.query) (range_with_len 0 asked.shards) =
     ap (λ (k : ℕ). runs_for asked ask k exec shards) queue
     ∙ (c.tasks_are_runs.ensures.ran_here asked ask is_ask exec shards
     ∙ (ap (λ (q : Asked). map (task_run asked.lines asked.shards exec q) (range_with_len 0 shards)) same
     ∙ (ap (λ (x : ExecId). map (task_run asked.lines asked.shards x b.query) (range_with_len 0 shards)) on_front
-    ∙ ap (λ (n : ℕ). map (task_run asked.lines asked.shards (front_exec asked.bases) b.query) (range_with_len 0 n)) c.open_query.ensures.front.shards))) in
+    ∙ ap (λ (n : ℕ). map (task_run asked.lines asked.shards (front_exec asked.bases) b.query) (range_with_len 0 n)) c.requires.front.shards))) in
     on_ok_weaker c.run_tasks_here.result (λ has down.
     runs_more asked (front_exec asked.bases) start c.args.place b.query first (map run_of_direct c.args.direct.now) _
     (c.place_by_place.ensures.begun asked.lines start c.args.place b.query b.comes within)
@@ -65,13 +64,5 @@ returns-clause-posted g c = λ first so_far.
     let asked = g.N.RunName.asked in
     let b = c.requires.begun in
     on_ok c.run_tasks_here.result
-    (posted_begun asked c.args.place b.query first c.args.front.now.printer c.open_query.new.front.printer b.comes.at
-    (ap (λ (p : PosterSeen (PrintJob g.row.N.Denot)). p.sender.sent) c.open_query.ensures.printer) so_far)
-
-pub returns-clause-counted : goal.returns-clause-counted
-returns-clause-counted g c = λ start first within so_far.
-    let asked = g.N.RunName.asked in
-    let b = c.requires.begun in
-    on_ok c.run_tasks_here.result
-    (counted_begun asked start c.args.place b.query first c.args.front.now.tally c.open_query.new.front.tally
-    (c.place_by_place.ensures.begun asked.lines start c.args.place b.query b.comes within) c.in_ok-ask.ensures.tally so_far)
+    (posted_begun asked c.args.place b.query first c.args.front.now.printer c.args.front.now.printer b.comes.at
+    refl so_far)

@@ -4,11 +4,9 @@ use Rattle.fan_model.specs.Tasks.{front_exec}
 use Rattle.query_opening.specs.Turns.{IsCancelled}
 use Rattle.run_notes.specs.Told.{run_of_direct}
 use Rattle.run_plan.specs.declared.turn.Turn.{Turn}
-use Rattle.run_front.specs.Turns.{IsTurnAt}
-use Rattle.run_front.proofs.Keys.{keys_same}
+use Rattle.run_desks.specs.Turns.{IsTurnAt}
 use Rattle.run_front.proofs.Running.{on_ok, runs_same}
 use Rattle.std.proofs.lemmas.Result.{on_ok_weaker}
-use Rattle.run_front.proofs.Counting.{counted_same}
 use Rattle.run_front.proofs.Posting.{posted_cancelled}
 use Rattle.run_front.proofs.late.late_turn.Goals as goal
 
@@ -20,14 +18,6 @@ returns-in-Cancel-clause-direct g c = λ start first within so_far.
     (λ down. runs_same asked (front_exec asked.bases) start c.args.place first (map run_of_direct c.args.direct.now)
     (c.place_by_place.ensures.cancelled asked.lines start c.args.place cancelled.query cancelled.comes within) so_far)
 
-pub returns-in-Cancel-clause-keys : goal.returns-in-Cancel-clause-keys
-returns-in-Cancel-clause-keys g c =
-    let asked = g.N.RunName.asked in
-    let cancelled : IsCancelled asked c.args.place c.in-Cancel.number = subst (λ (t : Turn). IsTurnAt asked c.args.place t) c.in-Cancel.is c.requires.turn in
-    on_ok c.cancel_query.result
-    (keys_same (drop c.args.place (comings_of asked.lines)) (drop (c.args.place + 1) (comings_of asked.lines)) c.args.front.now c.cancel_query.new.front
-    (c.place_by_place.ensures.next_cancelled asked.lines c.args.place cancelled.query cancelled.comes) c.cancel_query.ensures.keys c.requires.keys)
-
 pub returns-in-Cancel-clause-posted : goal.returns-in-Cancel-clause-posted
 returns-in-Cancel-clause-posted g c = λ first so_far.
     let asked = g.N.RunName.asked in
@@ -35,12 +25,3 @@ returns-in-Cancel-clause-posted g c = λ first so_far.
     on_ok_weaker c.cancel_query.result (λ more.
     posted_cancelled asked c.args.place c.in-Cancel.number cancelled.query first c.args.front.now.printer c.cancel_query.new.front.printer cancelled.comes.at cancelled.number_is more so_far)
     c.cancel_query.ensures.posted
-
-pub returns-in-Cancel-clause-counted : goal.returns-in-Cancel-clause-counted
-returns-in-Cancel-clause-counted g c = λ start first within so_far.
-    let asked = g.N.RunName.asked in
-    let cancelled : IsCancelled asked c.args.place c.in-Cancel.number = subst (λ (t : Turn). IsTurnAt asked c.args.place t) c.in-Cancel.is c.requires.turn in
-    on_ok_weaker c.cancel_query.result (λ same.
-    counted_same asked start c.args.place first c.args.front.now.tally c.cancel_query.new.front.tally
-    (c.place_by_place.ensures.cancelled asked.lines start c.args.place cancelled.query cancelled.comes within) same so_far)
-    c.cancel_query.ensures.tally

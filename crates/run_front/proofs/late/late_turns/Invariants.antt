@@ -3,9 +3,8 @@ use Rattle.fan_model.specs.Comings.{comings_of}
 use Rattle.fan_model.specs.Tasks.{front_exec}
 use Rattle.run_notes.specs.Told.{run_of_direct}
 use Rattle.run_tasks.specs.Worlds.{Follows, told_of}
-use Rattle.run_front.specs.Fronts.{AreRunsTo, HasKeysFor, IsFrontOf}
+use Rattle.run_front.specs.Fronts.{AreRunsTo, IsFrontOf}
 use Rattle.fan_parts.specs.declared.jobs.PrintJob.{PrintJob}
-use Rattle.run_front.specs.Counted.{HasMade}
 use Rattle.run_front.specs.Posted.{HasPosted}
 use Rattle.run_front.proofs.late.late_turns.Given as goal
 
@@ -18,6 +17,4 @@ invariant-loop-place g l = record {
   printer : told_of l.front.printer ≡ told_of l.initial.front.printer;
   posted : (first : List (PrintJob g.row.N.Denot)) → HasPosted g.N.RunName.asked l.start first l.initial.front.printer
       → HasPosted g.N.RunName.asked l.place first l.front.printer;
-  counted : HasMade g.N.RunName.asked l.start l.place l.initial.front.tally l.front.tally;
-  keys : HasKeysFor (drop l.place (comings_of g.N.RunName.asked.lines)) l.front;
 }

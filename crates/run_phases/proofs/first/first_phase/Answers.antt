@@ -1,8 +1,7 @@
 use Rattle.std.proofs.Common.{ℕ, sym, ◌∙◌, subst, true≢false}
-use Rattle.run_front.specs.Counted.{HasMade}
 use Rattle.run_front.specs.Posted.{HasPosted}
 use Rattle.run_phases.proofs.Adders.{runs_of_one, set_first}
-use Rattle.run_phases.proofs.Runs.{early_are, keys_behind}
+use Rattle.run_phases.proofs.Runs.{early_are}
 use Rattle.run_phases.proofs.first.first_phase.Goals.{in-Ok, in-Err}
 use Rattle.run_phases.proofs.first.first_phase.Goals as goal
 
@@ -12,20 +11,8 @@ returns-clause-added g c = elim c.match-added.branch [
   | in-Err w ↦ λ e. absurd (true≢false (sym w.refused-is ∙ e))
 ]
 
-pub returns-clause-keys : goal.returns-clause-keys
-returns-clause-keys g c = elim c.match-added.branch [
-  | in-Ok w ↦ λ _. keys_behind g.N.RunName.asked _ _ _ c.early_end-end.ensures.place w.in-Ok.ensures.keys
-  | in-Err w ↦ λ e. absurd (true≢false (sym w.refused-is ∙ e))
-]
-
 pub returns-clause-posted : goal.returns-clause-posted
 returns-clause-posted g c = λ first so_far. elim c.match-added.branch [
   | in-Ok w ↦ λ _. subst (λ (place : ℕ). HasPosted g.N.RunName.asked place first c.early_turns-added.new.front.printer) c.early_end-end.ensures.at (w.in-Ok.ensures.posted first so_far)
-  | in-Err w ↦ λ e. absurd (true≢false (sym w.refused-is ∙ e))
-]
-
-pub returns-clause-counted : goal.returns-clause-counted
-returns-clause-counted g c = elim c.match-added.branch [
-  | in-Ok w ↦ λ _. subst (λ (place : ℕ). HasMade g.N.RunName.asked 0 place c.args.start.front.tally c.early_turns-added.new.front.tally) c.early_end-end.ensures.at w.in-Ok.ensures.counted
   | in-Err w ↦ λ e. absurd (true≢false (sym w.refused-is ∙ e))
 ]

@@ -2,8 +2,6 @@ use Rattle.std.proofs.Common.{◌≡◌, Bool, true, false, not, List, ◌++◌,
 use Rattle.std.specs.Bool.{OnTrue}
 use Rattle.pool_model.specs.Seen.{EndSeen}
 use Rattle.run_notes.specs.Accounts.{AllDone}
-use Rattle.core_word.specs.Count.{Counts}
-use Rattle.run_front.specs.Counted.{HasMade}
 use Rattle.run_phases.proofs.Runs.{is_unstopped, report_is}
 use Rattle.run_phases.proofs.second.second_phase.Goals.{then-missed, else-missed}
 use Rattle.run_phases.proofs.second.second_phase.Goals as goal
@@ -44,14 +42,4 @@ returns-clause-joined g c none =
         | else-missed w ↦ w.result-is ∙ (ap not behind.0 ∙ not_not _)
       ];
       printer = c.end-2.ensures.printer ∙ ap (λ front. front.printer.sender) behind.1;
-      tally = c.end-2.ensures.tallies.1 ∙ ap (λ front. front.tally) behind.1;
     }
-
-pub returns-clause-counted : goal.returns-clause-counted
-returns-clause-counted g c place stops fine = elim c.if-missed.branch [
-  | then-missed w ↦ absurd (true≢false (sym w.if-missed.true ∙ (sym w.result-is ∙ fine)))
-  | else-missed w ↦
-      let made = was_true _ (sym w.result-is ∙ fine) in
-      subst (λ (counts : Counts). HasMade g.N.RunName.asked place (length c.args.turns.now) c.args.mid.front.tally counts) (sym c.end-2.ensures.tallies.1)
-      (held _ _ made (c.turns_behind-done.ensures.counted place stops))
-]

@@ -17,6 +17,9 @@ gather_slots-gatherers-requires-clause-bases g c =
     let o = subst (λ (n : ℕ). HasOpened asked c.args.workers n c.args.opened) c.requires.bases.0 c.requires.opened in
     (ids_of c.args.workers c.args.cells.now c.args.opened, opened-new asked c.args.workers c.args.cells.now c.args.opened o, opened-column asked c.args.workers c.args.cells.now c.args.opened o)
 
+pub gather_slots-gatherers-requires-clause-tables : goal.gather_slots-gatherers-requires-clause-tables
+gather_slots-gatherers-requires-clause-tables g c = c.requires.tables ∙ sym c.requires.opened.gathering.as_many
+
 pub take_one-requires : goal.take_one-requires
 take_one-requires g c =
     let asked = g.N.RunName.asked in

@@ -15,8 +15,8 @@ loop-slot-init g c =
     let items = into_iter_items c.into_iter-left.result in
     let same : items ≡ c.args.slots.items = c.into_iter-left.ensures.rest in
     record {
-      worked = subst (λ (l : List (WorkerSlot TaskSeen (WorldSeen g.row.N.Denot) g.row.G.Denot)). All IsWorked l) (sym same) (c.requires.slots.each);
-      so_far = λ old ran. subst (λ (l : List (WorkerSlot TaskSeen (WorldSeen g.row.N.Denot) g.row.G.Denot)). EndsSoFar old c.args.room.ends.items c.args.room.worlds.items l) (sym same)
+      worked = subst (λ (l : List (WorkerSlot TaskSeen (WorldSeen g.row.N.Denot))). All IsWorked l) (sym same) (c.requires.slots.each);
+      so_far = λ old ran. subst (λ (l : List (WorkerSlot TaskSeen (WorldSeen g.row.N.Denot))). EndsSoFar old c.args.room.ends.items c.args.room.worlds.items l) (sym same)
           (ends-none old c.args.slots.items c.args.room.ends.items c.args.room.worlds.items ran c.requires.empty.0 c.requires.empty.1);
       for_ends = omega (arith, ap length same, ap length c.requires.empty.0, c.requires.room.0);
       for_worlds = omega (arith, ap length same, ap length c.requires.empty.1, c.requires.room.1);
@@ -26,7 +26,7 @@ pub end_worker-end-requires : goal.end_worker-end-requires
 end_worker-end-requires g c = (
   search rules,
   All-head IsWorked c.in-Some.slot (into_iter_items c.next.new.self)
-      (subst (λ (l : List (WorkerSlot TaskSeen (WorldSeen g.row.N.Denot) g.row.G.Denot)). All IsWorked l) c.in-Some.ensures.cases.0 c.loop-slot.invariant.worked),
+      (subst (λ (l : List (WorkerSlot TaskSeen (WorldSeen g.row.N.Denot))). All IsWorked l) c.in-Some.ensures.cases.0 c.loop-slot.invariant.worked),
 )
 
 pub loop-slot-preserved : goal.loop-slot-preserved
@@ -38,9 +38,9 @@ loop-slot-preserved g c =
     let stage = c.end_worker-end.result in
     let next : into_iter_items c.loop-slot.left ≡ c.in-Some.slot ∷ rest = c.in-Some.ensures.cases.0 in
     record {
-      worked = All-tail IsWorked c.in-Some.slot rest (subst (λ (l : List (WorkerSlot TaskSeen (WorldSeen g.row.N.Denot) g.row.G.Denot)). All IsWorked l) next i.worked);
+      worked = All-tail IsWorked c.in-Some.slot rest (subst (λ (l : List (WorkerSlot TaskSeen (WorldSeen g.row.N.Denot))). All IsWorked l) next i.worked);
       so_far = λ old ran.
-          let so = subst (λ (l : List (WorkerSlot TaskSeen (WorldSeen g.row.N.Denot) g.row.G.Denot)). EndsSoFar old ends worlds l) next (i.so_far old ran) in
+          let so = subst (λ (l : List (WorkerSlot TaskSeen (WorldSeen g.row.N.Denot))). EndsSoFar old ends worlds l) next (i.so_far old ran) in
           let more = ends-more old ends worlds c.in-Some.slot rest stage.end stage.ends so c.end_worker-end.ensures in
           subst (λ (l : List (TaskEnds g.row.N.Denot)). EndsSoFar old c.push_reserved.new.self.items l rest) (sym c.push_reserved-in-Some.ensures.items)
           (subst (λ (l : List EndSeen). EndsSoFar old l (worlds ++ stage.ends ∷ []) rest) (sym c.push_reserved.ensures.items) more);

@@ -12,7 +12,7 @@ use Rattle.run_setup.proofs.workers.worker_ends.Given as goal
 abbrev pub invariant-loop-slot : goal.invariant-loop-slot
 invariant-loop-slot g l = record {
   worked : All IsWorked (into_iter_items l.left);
-  so_far : (old : List (WorkerSlot TaskSeen (WorldSeen g.row.N.Denot) g.row.G.Denot)) → AllRan (HasWorked TaskRan) old l.fn.slots.items → EndsSoFar old l.ends.items l.worlds.items (into_iter_items l.left);
+  so_far : (old : List (WorkerSlot TaskSeen (WorldSeen g.row.N.Denot))) → AllRan (HasWorked TaskRan) old l.fn.slots.items → EndsSoFar old l.ends.items l.worlds.items (into_iter_items l.left);
   for_ends : length l.ends.items + length (into_iter_items l.left) ≤ vec_capacity l.ends;
   for_worlds : length l.worlds.items + length (into_iter_items l.left) ≤ vec_capacity l.worlds;
 }

@@ -1,4 +1,5 @@
 use denote.Param.Send.{arg_send, param_send, sendable}
+use Rattle.prio_pool.proofs.Crossings.{Pool-sync}
 use Rattle.run_threads.proofs.Crossings.{WorkerSlot-send}
 use Rattle.run_threads.proofs.worker.work_all_beside.Goals as goal
 

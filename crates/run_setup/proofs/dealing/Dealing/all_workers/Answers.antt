@@ -1,8 +1,10 @@
 use Rattle.std.proofs.Common.{◌≡◌, ℕ, suc, List, [], ◌∷◌, length, length-append, sym, ap, ◌∙◌, subst, arith}
+use Rattle.std.specs.Prelude.{Some, None}
 use Rattle.std.specs.Vec.Iter.{into_iter_items}
 use Rattle.pool_model.specs.Seen.{WorkerSeen}
 use Rattle.prio_pool.specs.Made.{new_workers}
-use Rattle.run_setup.specs.declared.workers.Worker.{Worker}
+use Rattle.run_tasks.specs.Seen.{TaskSeen, WorldSeen}
+use Rattle.run_threads.specs.declared.worker.WorkerSlot.{WorkerSlot}
 use Rattle.run_setup.specs.Opening.{IsDealing}
 use Rattle.run_setup.specs.Slots.{IsNewWorld, IsWorker}
 use Rattle.run_setup.proofs.DealLemmas.{IsPassAt, each-worker, workers-length}
@@ -30,7 +32,7 @@ loop-pass-preserved g c =
     let rest = into_iter_items c.next.new.self in
     let next : into_iter_items c.loop-pass.left ≡ c.in-Some.pass ∷ rest = c.in-Some.ensures.cases.0 in
     let pushed = c.push_reserved.ensures.items in
-    let worker : Worker g.row.N.Denot = record { pass = c.in-Some.pass; world = c.next_world-world.result } in
+    let worker : WorkerSlot TaskSeen (WorldSeen g.row.N.Denot) = record { pass = Some c.in-Some.pass; end = None; world = c.next_world-world.result } in
     let long : length c.push_reserved.new.self.items ≡ suc (length made) = omega (arith, ap length pushed, length-append made (worker ∷ [])) in
     record {
       room = omega (arith, i.room, long, ap length next, c.push_reserved.ensures.capacity);
@@ -44,8 +46,8 @@ loop-pass-preserved g c =
           let now = subst (λ (l : List WorkerSeen). IsDealing g.N.RunName.asked ids (suc (length l)) c.loop-pass.self) next (i.rest ids many dealing) in
           let pass = each_first (IsPassAt pool) (length made) c.in-Some.pass rest (subst (λ (l : List WorkerSeen). EachFrom (IsPassAt pool) (length made) l) next (i.passes pool is)) in
           let world = subst (λ (n : ℕ). IsNewWorld ids n c.next_world-world.result) (omega (arith, i.many, many, ap length next)) (c.next_world-world.ensures.world ids (suc (length rest)) now) in
-          subst (λ (l : List (Worker g.row.N.Denot)). EachFrom (IsWorker ids pool) 0 l) (sym pushed)
-          (each_push (IsWorker ids pool) made worker (i.workers pool ids many is dealing) record { pass = pass; is_new = world });
+          subst (λ (l : List (WorkerSlot TaskSeen (WorldSeen g.row.N.Denot))). EachFrom (IsWorker ids pool) 0 l) (sym pushed)
+          (each_push (IsWorker ids pool) made worker (i.workers pool ids many is dealing) record { pass = ap Some pass; is_new = world });
     }
 
 pub returns-clause-workers : goal.returns-clause-workers

@@ -1,5 +1,0 @@
-use Rattle.std.proofs.Common.{length}
-use Rattle.run_desks.proofs.keys.let_go.Given as goal
-
-abbrev pub decreases-keys : goal.decreases-keys
-decreases-keys g l = length l.keys.items
