@@ -2,3 +2,4 @@ pub mod Outcomes
 pub mod Sides
 pub mod Totals
 pub mod Starts
+mod Running

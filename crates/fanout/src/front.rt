@@ -1,5 +1,4 @@
-ghost use Rattle.std.specs.Prelude.{◌≡◌, List};
-ghost use Rattle.pool_model.specs.Seen.{PoolSeen};
+ghost use Rattle.std.specs.Prelude.{List};
 ghost use Rattle.run_phases.specs.declared.first.FrontStart.{FrontStart};
 ghost use Rattle.run_setup.specs.Ids.{RunIds};
 ghost use Rattle.run_stages.specs.Stages.{AllRan};
@@ -7,6 +6,7 @@ ghost use Rattle.run_tasks.specs.Seen.{TaskSeen, WorldSeen};
 ghost use Rattle.run_tasks.specs.Worlds.{TaskRan};
 ghost use Rattle.run_threads.specs.declared.worker.WorkerSlot.{WorkerSlot};
 ghost use Rattle.run_threads.specs.Slots.{HasWorked};
+ghost use Rattle.fanout.specs.Beside.{IsBehind};
 ghost use Rattle.fanout.specs.First.{IsFirstEnd, IsFirstStart};
 ghost use Rattle.fanout.specs.Fronts.{IsSideEnd, IsSideStart};
 ghost use Rattle.fanout.specs.Plans.{IsTimed};
@@ -122,8 +122,7 @@ fn end_side<'c, 't, 'i: 't, N: RunName + 'static, R: Wait>(
     room: SideRoom<'t, 'i, N>,
 ) -> SideEnd<'t, N>
     requires timed { IsTimed N.asked turns.now stop }
-    requires behind { (ids : RunIds) × (start : FrontStart N) × (old : List (WorkerSlot TaskSeen (WorldSeen N)))
-        × IsSideStart N.asked ids start pool old room × IsFirstEnd N.asked stop pool start mid × AllRan (HasWorked TaskRan) old workers.items }
+    requires behind { IsBehind N.asked stop pool workers.items mid room }
     ensures { (ids : RunIds) (start : FrontStart N) (old : List (WorkerSlot TaskSeen (WorldSeen N))) →
         IsSideStart N.asked ids start pool old room.entry → IsFirstEnd N.asked stop pool start mid.entry → AllRan (HasWorked TaskRan) old workers.entry.items →
         IsSideEnd N.asked ids result }

@@ -1,3 +1,3 @@
 mod Begun
-mod Keys
+mod KeyCounts
 mod Counting

@@ -1,3 +1,5 @@
+ghost use Rattle.std.specs.Prelude.{◌≡◌};
+
 use crate::slots::EmptySlots;
 use core_word::Tally;
 use fan_parts::{InnerKey, PartDesk, ReplyKey, RunName};

@@ -1,7 +1,8 @@
-ghost use Rattle.std.specs.Prelude.{◌≡◌, ◌+◌, ◌≤◌, ℕ, IfOk, OnOk, length, drop};
+ghost use Rattle.std.specs.Prelude.{◌≡◌, ◌+◌, ◌<◌, ◌≤◌, ℕ, IfOk, OnOk, length, drop};
 ghost use Rattle.core_word.specs.Count.{Counts};
 ghost use Rattle.fan_model.specs.Comings.{comings_of};
 ghost use Rattle.front_walk.specs.Following.{IsInput};
+ghost use Rattle.query_opening.specs.Turns.{IsBegun};
 ghost use Rattle.run_plan.specs.Turns.{AreTurnsOf};
 ghost use Rattle.run_desks.specs.Counted.{HasMade};
 ghost use Rattle.run_desks.specs.Keys.{AreKeysOf, HasKeysFor};
@@ -11,13 +12,13 @@ ghost use Rattle.run_desks.specs.Turns.{IsTurnAt};
 use crate::keys::DeskKeys;
 use crate::laws::{begun_query_is_asked, known_turns};
 use crate::opening::{OpenedQuery, open_query};
-use crate::tables::{await_parts, new_tables};
+use crate::tables::{await_parts, close_tables, new_tables};
 use core_word::Tally;
 use fan_base::Memory;
 use fan_parts::RunName;
-use run_gathering::{PartTable, close_tables};
-use run_plan::Turn;
+use run_gathering::PartTable;
 use run_plan::laws::place_by_place;
+use run_plan::{BegunQuery, Turn};
 use std::sync::Wait;
 
 /// The open desks of a run: the arrivals at them, by gathering base, and what became of the replies' cores. The tables must be spent.
@@ -45,8 +46,8 @@ pub fn open_desks<'d, 'r: 'd, 'i: 'r, N: RunName + 'static, R: Wait>(
     requires input { IsInput N.asked.lines }
     requires of { AreKeysOf N.asked keys }
     requires keys { HasKeysFor (comings_of N.asked.lines) keys }
-    ensures tables { IfOk result (λ open. AreTablesOf N.asked open.tables.items) }
-    ensures counted { IfOk result (λ open. HasMade N.asked 0 (length turns.now) keys.entry.tally open.tally) }
+    ensures tables { IfOk result (λ opened. AreTablesOf N.asked opened.tables.items) }
+    ensures counted { IfOk result (λ opened. HasMade N.asked 0 (length turns.now) keys.entry.tally opened.tally) }
 {
     known_turns::<N>();
     let mut keys = keys;
@@ -106,15 +107,48 @@ fn open_turn<'d, 'r: 'd, 'i: 'r, N: RunName + 'static, R: Wait>(
         OnOk result (HasMade N.asked start (place + 1) first keys.new.tally) }
     ensures keys { OnOk result (HasKeysFor (drop (place + 1) (comings_of N.asked.lines)) keys.new) }
 {
+    place_by_place();
+    match turn {
+        Turn::Begin(query) => begin_query(rt, query, place, keys, tables),
+        Turn::Cancel(number) => {
+            let _number = number;
+            Ok(())
+        }
+    }
+}
+
+/// Opens the desk of a query that is begun, and puts its arrivals into the table of its base.
+fn begin_query<'d, 'r: 'd, 'i: 'r, N: RunName + 'static, R: Wait>(
+    rt: &R,
+    query: BegunQuery,
+    place: u32,
+    keys: &mut DeskKeys<'d, 'r, 'i, N>,
+    tables: &mut Vec<PartTable<'d, 'r, 'i, N>>,
+) -> Result<(), Memory>
+    requires begun { IsBegun N.asked place query.number query.line query.documents }
+    requires of { AreKeysOf N.asked keys.old }
+    requires keys { HasKeysFor (drop place (comings_of N.asked.lines)) keys.old }
+    requires tables { AreTablesOf N.asked tables.old.items }
+    ensures of { AreKeysOf N.asked keys.new }
+    ensures tables { AreTablesOf N.asked tables.new.items }
+    ensures counted { (start : ℕ) (first : Counts) → start ≤ place → HasMade N.asked start place first keys.old.tally →
+        OnOk result (HasMade N.asked start (place + 1) first keys.new.tally) }
+    ensures keys { OnOk result (HasKeysFor (drop (place + 1) (comings_of N.asked.lines)) keys.new) }
+{
     begun_query_is_asked::<N>();
     place_by_place();
-    let query = match turn {
-        Turn::Begin(query) => query,
-        Turn::Cancel(_) => return Ok(()),
-    };
-    let number = query.number;
-    let OpenedQuery { ask: _, arrivals } = open_query(rt, keys, place, query)?;
-    let base = (number - 1) % keys.bases;
-    await_parts(&mut tables[base as usize], number, keys.shards, arrivals);
+    let OpenedQuery { ask, arrivals } = open_query(rt, keys, place, query)?;
+    let number = ask.number();
+    let base = base_place(number, keys.bases);
+    await_parts(&mut tables[base], number, keys.shards, arrivals);
     Ok(())
+}
+
+/// The place of the base on which the parts of a query are gathered.
+fn base_place(number: u32, bases: u32) -> usize
+    requires number { 1 ≤ number }
+    requires bases { 1 ≤ bases }
+    ensures { result < bases }
+{
+    ((number - 1) % bases) as usize
 }

@@ -5,7 +5,7 @@ ghost use Rattle.query_opening.specs.Turns.{IsDeskOf};
 use collect_ops::Arrivals;
 use fan_base::Memory;
 use fan_parts::{PartDesk, RunName};
-use run_gathering::{AwaitedPart, PartTable, close_tables};
+use run_gathering::{AwaitedPart, PartTable};
 use std::alloc::Global;
 
 /// A table for each of so many gathering bases, for queries with a number up to the highest. Where memory runs out, those that were made are
@@ -34,6 +34,14 @@ pub(crate) fn new_tables<'d, 'r: 'd, 'i: 'r, N: RunName>(
         }
     }
     Ok(tables)
+}
+
+/// Spends all arrivals in these tables.
+pub(crate) fn close_tables<'d, 'r: 'd, 'i: 'r, N: RunName>(mut tables: Vec<PartTable<'d, 'r, 'i, N>>) {
+    'tables: while let Some(table) = tables.pop() {
+        table.close();
+    }
+    tables.destroy_empty();
 }
 
 /// Puts all arrivals at the desk of a query into the table of its base.

@@ -11,7 +11,7 @@
 #![tactic(auto)]
 
 pub use looping::{GatherEnd, GatherStage, close_gathering, gather};
-pub use table::{AwaitedPart, PartTable, close_tables};
+pub use table::{AwaitedPart, PartTable};
 
 mod job;
 mod looping;

@@ -192,14 +192,6 @@ impl<'d, 'r: 'd, 'i: 'r, N: RunName> PartTable<'d, 'r, 'i, N> {
     }
 }
 
-/// Spends all arrivals in these tables.
-pub fn close_tables<'d, 'r: 'd, 'i: 'r, N: RunName>(mut tables: Vec<PartTable<'d, 'r, 'i, N>>) {
-    'tables: while let Some(table) = tables.pop() {
-        table.close();
-    }
-    tables.destroy_empty();
-}
-
 /// Whether a slot has the arrival for the part of this query and this shard.
 fn is_for<'d, 'r: 'd, 'i: 'r, N: RunName>(
     slot: &Option<AwaitedPart<'d, 'r, 'i, N>>,

@@ -8,6 +8,7 @@ use fan_base::Memory;
 use fan_parts::{BasePoster, GatherJob, RunName};
 use notify_queue::SenderEnd;
 use prio_pool::{HelperEnd, WorkerEnd};
+use run_gathering::PartTable;
 use run_tasks::{ShardTask, TaskEnds};
 use run_threads::{GatherSlot, TaskSlot};
 use std::alloc::Global;
@@ -201,4 +202,12 @@ impl<'c, 't, 'd: 't, 'r: 'd, 'i: 'r, N: RunName> Rooms<'c, 't, 'd, 'r, 'i, N> {
 /// Lets these passes go, with the cells that they are of.
 pub(crate) fn drop_passes<'h, T, C, P>(passes: Vec<CellPass<'h, T, C, P>>) {
     let _ = passes;
+}
+
+/// Spends all arrivals in these tables.
+pub(crate) fn close_tables<'d, 'r: 'd, 'i: 'r, N: RunName>(mut tables: Vec<PartTable<'d, 'r, 'i, N>>) {
+    'tables: while let Some(table) = tables.pop() {
+        table.close();
+    }
+    tables.destroy_empty();
 }

@@ -13,7 +13,6 @@ use Rattle.core_word.proofs.tally.Tally.TheSendSync as tally_core_word
 use Rattle.core_proxy.proofs.proxy.NoProxy.TheSendSync as noproxy_core_proxy
 use Rattle.core_cells.proofs.Crossings as crossing_core_cells
 use Rattle.notify_queue.proofs.Crossings as crossing_notify_queue
-use Rattle.job_trait.specs.declared.job.Headed.{Ghosts as HeadedGhosts}
 use Rattle.fan_parts.specs.declared.run_name.RunName.{Ghosts}
 use Rattle.fan_parts.proofs.Crossings as crossing_fan_parts
 use Rattle.fan_parts.proofs.part.Part.TheSendSync as part_fan_parts
@@ -93,8 +92,8 @@ PrinterSlot-send k N K g n s = recorded_send (printer_slot.the_field k N K g).ro
   ),
 ))
 
-pub WorkerSlot-send : (J W : RattleType) (g : HeadedGhosts J.Denot) → IsSend J → IsSend W → IsSend (worker_slot.the_row J W g)
-WorkerSlot-send J W g j w = recorded_send (worker_slot.the_field J W g).row _ _ (worker_slot.the_type J W g).to_one (struct_send (shape (worker_slot.the_type J W g)) (
+pub WorkerSlot-send : (J W : RattleType) → IsSend J → IsSend W → IsSend (worker_slot.the_row J W)
+WorkerSlot-send J W j w = recorded_send (worker_slot.the_field J W).row _ _ (worker_slot.the_type J W).to_one (struct_send (shape (worker_slot.the_type J W)) (
   search (crossing_prio_pool.WorkerPass-send, all) depth 60 fits 20000,
   (search (crossing_prio_pool.WorkerEnd-send, all) depth 60 fits 20000, (search all depth 60 fits 20000, tt)),
 ))

@@ -3,13 +3,13 @@ ghost use Rattle.run_threads.specs.Slots.{HasWorked, IsReadyToWork};
 
 use crate::beside::call_all_beside;
 use fan_base::Gate;
-use job_trait::{Headed, Job};
+use job_trait::Job;
 use prio_pool::{Pool, WorkerEnd, WorkerPass};
 use std::sync::Wait;
 use std::thread::Threads;
 
 /// A worker: its pass before it has worked and its end afterwards, and the world that its jobs run on.
-pub struct WorkerSlot<J: Headed, W> {
+pub struct WorkerSlot<J, W> {
     pub pass: Option<WorkerPass<J>>,
     pub end: Option<WorkerEnd<J>>,
     pub world: W,

@@ -4,7 +4,7 @@ use Rattle.query_model.specs.Order.{Asked}
 use Rattle.fan_model.specs.Answered.{is_top}
 use Rattle.fan_model.specs.Comings.{comings_of}
 use Rattle.fan_parts.specs.Seen.{AskSeen}
-use Rattle.run_desks.proofs.Keys.{keys_behind, some_inner}
+use Rattle.run_desks.proofs.KeyCounts.{keys_behind, some_inner}
 use Rattle.run_desks.proofs.opening.open_query.Goals as goal
 
 pub begin_end-end-requires-clause-inner : goal.begin_end-end-requires-clause-inner

@@ -1,5 +1,5 @@
 use Rattle.std.proofs.Common.{length}
-use Rattle.run_gathering.proofs.table.close_tables.Given as goal
+use Rattle.run_setup.proofs.rooms.close_tables.Given as goal
 
 abbrev pub invariant-tables : goal.invariant-tables
 invariant-tables g l = Unit {0}

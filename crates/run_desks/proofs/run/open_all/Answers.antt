@@ -1,0 +1,23 @@
+use Rattle.std.proofs.Common.{arith}
+use Rattle.run_desks.proofs.Counting.{counted_none}
+use Rattle.run_desks.proofs.run.open_all.Goals as goal
+
+pub loop-place-init : goal.loop-place-init
+loop-place-init g c = record {
+  of = c.requires.of;
+  tables = c.requires.tables;
+  counted = counted_none g.N.RunName.asked 0 c.args.keys.now.tally (c.place_by_place.ensures.none g.N.RunName.asked.lines 0);
+  keys = c.requires.keys;
+}
+
+pub loop-place-preserved : goal.loop-place-preserved
+loop-place-preserved g c =
+    let i = c.loop-place.invariant in
+    let e = c.open_turn.ensures in
+    let ok = c.in_ok-open_turn.ensures in
+    record {
+      of = e.of;
+      tables = e.tables;
+      counted = ok.counted 0 c.args.keys.now.tally (omega arith) i.counted;
+      keys = ok.keys;
+    }
