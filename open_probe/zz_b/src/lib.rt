@@ -1,5 +1,0 @@
-//! Probe.
-#![tactic(auto)]
-
-mod kinds;
-mod calls;
