@@ -1,8 +1,8 @@
-// What runs at the same time: a gate at which tasks wait for each other.
+// What runs at the same time: a gate at which tasks wait for each other, and one at which a task waits for a reply.
 use super::{RED, args};
 use crate::report::Status;
 use crate::run::query_main;
-use fan_base::{HoldGate, JobId, MemSink, MemSource};
+use fan_base::{HoldGate, JobId, LineGate, LineSink, MemSink, MemSource};
 use std::alloc::AllocGlobal;
 use std::process::Abort;
 use std::sync::Wait;
@@ -42,5 +42,22 @@ fn two_workers_run_tasks_at_the_same_time(rt: HostRuntime) -> Result<(), Fail> {
 #[test]
 fn one_worker_runs_tasks_one_after_another(rt: HostRuntime) -> Result<(), Fail> {
     assert!(rt; !tasks_meet(&rt, "run --shards 2 --workers 1", FEW_TURNS)?);
+    Ok(())
+}
+
+// The last task of the first query finds no byte written, and the first task of the second query waits for a line.
+#[test]
+fn a_reply_is_printed_while_a_later_task_waits(rt: HostRuntime) -> Result<(), Fail> {
+    let alloc = rt.alloc();
+    let words = args(alloc, "run")?;
+    let input = Vec::from_slice(alloc, b"doc 7 red apple\ndoc 4 red\nfind red\ncount red\n")?;
+    let mut source = MemSource::new(input, 100, Vec::new(alloc));
+    let gate = LineGate::new(JobId(67), JobId(128), TURNS);
+    let mut sink = LineSink::new(&gate, MemSink::new(alloc, 1000, 1000, Vec::new(alloc))?);
+    let report = query_main(&rt, alloc, &words, &mut source, &mut sink, &gate);
+    assert_eq!(rt; report.status, Status::Done);
+    let written = sink.into_inner();
+    assert_eq!(rt; written.bytes(), b"1 find 2: 4 7\n2 count 2\n".as_slice());
+    assert!(rt; gate.met());
     Ok(())
 }
