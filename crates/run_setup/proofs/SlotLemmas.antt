@@ -83,6 +83,7 @@ module _ {N : Type 0} {g : Ghosts N} where
         };
         no_base = did.spent_base;
         no_printer = did.spent_printer;
+        no_table = did.spent_table;
       }
 
   pub all-gathered : (asked : Asking) (ids : RunIds) (old new : List (GatherSlot N g)) → AreGatherSlots asked ids old → AllRan HasGatheredIn old new → AreGathered asked ids new

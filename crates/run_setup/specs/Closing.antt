@@ -74,6 +74,7 @@ module _ {N : Type 0} {g : Ghosts N} where
     pub is : IsGathered asked ids k stage
     pub no_base : slot.base ≡ None
     pub no_printer : slot.printer ≡ None
+    pub no_table : slot.table ≡ None
 
   -- the slots of all gathering bases that have run, by base
   pub record AreGathered (asked : Asking) (ids : RunIds) (slots : List (GatherSlot N g)) : Type 0 where

@@ -132,12 +132,14 @@ fn close_slot<'d, 'r: 'd, 'i: 'r, N: RunName, R: Wait>(
     let GatherSlot {
         base,
         printer,
+        table,
         shards: _,
         stage,
         alloc: _,
     } = slot;
     let None = base else { unreachable!() };
     let None = printer else { unreachable!() };
+    let None = table else { unreachable!() };
     let Some(stage) = stage else { unreachable!() };
     let Column { posters, ends } = column;
     posters.destroy_empty();
@@ -182,7 +184,7 @@ impl<N: RunName> Gatherers<N> {
         ensures bases { length self.new.notes.items ≡ N.asked.bases }
         ensures emptied { list_any (λ s. has_refused s.stage) slots.entry.items ≡ false → AreEmptied self.new.notes.items }
         ensures printer { (ids : RunIds) → length ids.queues ≡ N.asked.bases → AreGathered N.asked ids slots.entry.items
-            → AreColumnsBack ids 0 columns.entry.items
+            → AreColumnsBack ids 0 columns.items
             → IsPrinterBack N.asked ids (suc N.asked.bases) self.old.printer → IsPrinterBack N.asked ids 1 self.new.printer }
         ensures tally { list_any (λ s. has_refused s.stage) slots.entry.items ≡ false →
             self.new.counted.tally ≡ merged_with self.old.counted.tally (map (λ s. tally_of s.stage) slots.entry.items) }

@@ -115,9 +115,9 @@ pub(crate) fn gather_slots<'d, 'r: 'd, 'i: 'r, N: RunName>(
     requires room { length bases.items ≤ vec_capacity room }
     requires tables { length tables.items ≡ length bases.items }
     requires bases { (ids : RunIds) × AreNewBases N.asked ids bases.items × IsPrinterColumn N.asked ids (suc N.asked.bases) column.old }
-    ensures slots { (ids : RunIds) → AreNewBases N.asked ids bases.entry.items → IsPrinterColumn N.asked ids (suc N.asked.bases) column.old
+    ensures slots { (ids : RunIds) → AreNewBases N.asked ids bases.items → IsPrinterColumn N.asked ids (suc N.asked.bases) column.old
         → AreGatherSlots N.asked ids result.items }
-    ensures column { (ids : RunIds) → AreNewBases N.asked ids bases.entry.items → IsPrinterColumn N.asked ids (suc N.asked.bases) column.old
+    ensures column { (ids : RunIds) → AreNewBases N.asked ids bases.items → IsPrinterColumn N.asked ids (suc N.asked.bases) column.old
         → IsPrinterColumn N.asked ids 1 column.new }
 {
     let mut slots = room;

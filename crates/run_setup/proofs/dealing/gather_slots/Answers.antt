@@ -47,19 +47,19 @@ loop-base-preserved g c =
     let made = c.loop-base.slots.items in
     let rest = into_iter_items c.next.new.self in
     let next : into_iter_items c.loop-base.left ≡ c.in-Some.base ∷ rest = c.in-Some.ensures.cases.0 in
-    let slot : GatherSlot g.row.N.Denot g.N.RunName = record { base = Some c.in-Some.base; printer = Some c.new-poster.result; table = Some c.in-Some-2.table; shards = c.again.result; stage = None; alloc = c.args.alloc } in
+    let slot : GatherSlot g.row.N.Denot g.N.RunName = record { base = Some c.in-Some.base; printer = Some c.new-poster.result; table = Some c.in-Some-next.table; shards = c.again.result; stage = None; alloc = c.args.alloc } in
     let pushed = c.push_reserved.ensures.items in
     let long : length c.push_reserved.new.self.items ≡ suc (length made) = omega (arith, ap length pushed, length-append made (slot ∷ [])) in
     record {
       room = omega (arith, i.room, long, ap length next, c.push_reserved.ensures.capacity);
-      tables = omega (arith, i.tables, ap length next, ap length c.in-Some-2.ensures.cases.0);
+      tables = omega (arith, i.tables, ap length next, ap length c.in-Some-next.ensures.cases.0);
       so_far = λ ids are is.
           let so = subst (λ (l : List (BaseSeen (GatherJob g.row.N.Denot))). SlotsSoFar asked ids made l c.loop-base.column) next (i.so_far ids are is) in
           let taken = c.take_one.ensures.poster ids.printer (printer_exec asked.bases) (asked.bases + 1) (suc (length rest)) (asked.bases + 1) so.column_is.is in
           let after = c.take_one.ensures.column ids.printer (printer_exec asked.bases) (asked.bases + 1) (suc (length rest)) (asked.bases + 1) so.column_is.is in
           subst (λ (l : List (GatherSlot g.row.N.Denot g.N.RunName)). SlotsSoFar asked ids l rest c.take_one.new.column) (sym pushed)
           (slots-more asked ids made c.in-Some.base rest c.loop-base.column c.take_one.new.column slot so refl
-          (ap Some (poster-new asked ids (suc (length rest)) c.new-poster.result c.take_one.result c.args.printer c.new-poster.ensures taken c.requires.printer)) c.in-Some-2.table refl refl record { is = after });
+          (ap Some (poster-new asked ids (suc (length rest)) c.new-poster.result c.take_one.result c.args.printer c.new-poster.ensures taken c.requires.printer)) c.in-Some-next.table refl refl record { is = after });
     }
 
 pub returns-clause-slots : goal.returns-clause-slots
