@@ -47,14 +47,10 @@ pub(crate) struct FrontRun<'g, 'c, 't, 'i: 't, N: RunName, G> {
     pub(crate) alloc: Global,
 }
 
-impl<
-    'g,
-    'c,
-    't,
-    'i: 't,
-    N: RunName + 'static,
-    G: Gate,
-> PoolFront<Pool<ShardTask<'t, 'i, N>>, TaskSlot<'c, 't, 'i, N>> for FrontRun<'g, 'c, 't, 'i, N, G> {
+impl<'g, 'c, 't, 'i: 't, N: RunName + 'static, G: Gate> PoolFront<
+    Pool<ShardTask<'t, 'i, N>>,
+    TaskSlot<'c, 't, 'i, N>,
+> for FrontRun<'g, 'c, 't, 'i, N, G> {
     ghost use Rattle.fanout.specs.Beside.{CanEndFront, HasBegunFront, HasEndedFront, IsReadyFront};
 
     ghost ready = { IsReadyFront N.asked };
@@ -88,7 +84,9 @@ impl<
         let Some(room) = self.room.take() else {
             unreachable!()
         };
-        let end = end_side(rt, self.alloc, self.turns, self.stop, pool, workers, mid, room);
+        let end = end_side(
+            rt, self.alloc, self.turns, self.stop, pool, workers, mid, room,
+        );
         let none = self.end.replace(end);
         let None = none else { unreachable!() };
     }

@@ -143,7 +143,9 @@ fn run_opened<
         printed,
         gatherers,
         front,
-    } = run_stages(rt, alloc, printer, sink, gatherers, pool, workers, plan.gate, front);
+    } = run_stages(
+        rt, alloc, printer, sink, gatherers, pool, workers, plan.gate, front,
+    );
     let FrontRun {
         start,
         mid,
@@ -210,7 +212,15 @@ fn run_stages<
         stage: &mut stage,
         alloc,
     };
-    run_all_beside(rt, &mut slot, &mut gatherers, pool, workers, gate, &mut front);
+    run_all_beside(
+        rt,
+        &mut slot,
+        &mut gatherers,
+        pool,
+        workers,
+        gate,
+        &mut front,
+    );
     let PrinterSlot {
         base: _,
         sink: _,
@@ -218,9 +228,7 @@ fn run_stages<
         alloc: _,
     } = slot;
     let None = base else { unreachable!() };
-    let Some(printed) = stage else {
-        unreachable!()
-    };
+    let Some(printed) = stage else { unreachable!() };
     StagesEnd {
         printed,
         gatherers,

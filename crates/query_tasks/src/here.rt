@@ -69,10 +69,7 @@ fn core_in_turn<'c, 't, 'i: 't, N: RunName + 'static, R: Wait>(
     rt: &R,
     world: &mut TaskWorld<'c, 't, 'i, N>,
     no: u64,
-) -> (
-    TaskProducer<'t, N>,
-    TaskConsumer<'t, N>,
-)
+) -> (TaskProducer<'t, N>, TaskConsumer<'t, N>)
     ensures { Follows world.old world.new }
 {
     for _ in rt.forever() {

@@ -75,8 +75,7 @@ pub fn end_pool<'c, 't, 'i: 't, N: RunName + 'static, R: Wait>(
 /// That a world notes no refusal of memory.
 struct NoneRefused;
 
-impl<'c, 't, 'i: 't, N: RunName> WorldFact<TaskWorld<'c, 't, 'i, N>>
-    for NoneRefused {
+impl<'c, 't, 'i: 't, N: RunName> WorldFact<TaskWorld<'c, 't, 'i, N>> for NoneRefused {
     ghost use Rattle.std.specs.Prelude.{◌≡◌, false};
 
     ghost holds = { λ w. w.refused ≡ false };

@@ -136,10 +136,7 @@ fn core_or_help<'c, 't, 'i: 't, N: RunName + 'static, G: Gate, R: Wait>(
     world: &mut TaskWorld<'c, 't, 'i, N>,
     gate: &G,
     no: u64,
-) -> (
-    TaskProducer<'t, N>,
-    TaskConsumer<'t, N>,
-)
+) -> (TaskProducer<'t, N>, TaskConsumer<'t, N>)
     requires { helper.old.pool ≡ pool.now.id }
     ensures helped { HasHelped world.old helper.old world.new helper.new }
 {

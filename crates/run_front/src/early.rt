@@ -145,7 +145,13 @@ fn early_query<'c, 't, 'i: 't, N: RunName + 'static, G: Gate, R: Wait>(
     begun_query_is_asked::<N>();
     place_by_place();
     tasks_are_runs();
-    let ask = numbered_ask(front.lines, place, query.number, query.line, query.documents);
+    let ask = numbered_ask(
+        front.lines,
+        place,
+        query.number,
+        query.line,
+        query.documents,
+    );
     let number = ask.number();
     let priority = priority_of(prio_at(front.lines, query.line));
     let exec = gathering_exec(number, front.bases);

@@ -103,7 +103,13 @@ fn late_query<'c, 't, 'i: 't, N: RunName + 'static, R: Wait>(
     begun_query_is_asked::<N>();
     place_by_place();
     tasks_are_runs();
-    let ask = numbered_ask(front.lines, place, query.number, query.line, query.documents);
+    let ask = numbered_ask(
+        front.lines,
+        place,
+        query.number,
+        query.line,
+        query.documents,
+    );
     let number = ask.number();
     let queue = queue_number(prio_at(front.lines, query.line));
     let base = gathering_exec(number, front.bases);

@@ -146,10 +146,7 @@ fn schedule<'d, 'r: 'd, 'i: 'r, N: RunName>(
 }
 
 /// The next of the scorings that are scheduled is made.
-fn score_next<'d, 'r: 'd, 'i: 'r, N: RunName, R: Wait>(
-    rt: &R,
-    world: &mut Gathering<'d, 'r, 'i, N>,
-)
+fn score_next<'d, 'r: 'd, 'i: 'r, N: RunName, R: Wait>(rt: &R, world: &mut Gathering<'d, 'r, 'i, N>)
     ensures { (posts : List (PrintJob N)) × GathersBy 0 0 posts world.old world.new }
 {
     match world.scorings.pop_front() {

@@ -205,7 +205,9 @@ pub(crate) fn drop_passes<'h, T, C, P>(passes: Vec<CellPass<'h, T, C, P>>) {
 }
 
 /// Spends all arrivals in these tables.
-pub(crate) fn close_tables<'d, 'r: 'd, 'i: 'r, N: RunName>(mut tables: Vec<PartTable<'d, 'r, 'i, N>>) {
+pub(crate) fn close_tables<'d, 'r: 'd, 'i: 'r, N: RunName>(
+    mut tables: Vec<PartTable<'d, 'r, 'i, N>>,
+) {
     'tables: while let Some(table) = tables.pop() {
         table.close();
     }

@@ -28,8 +28,7 @@ impl<'c, 't, 'i: 't, N: RunName> TaskWorld<'c, 't, 'i, N> {
     }
 }
 
-impl<'c, 't, 'i: 't, N: RunName> Job<TaskWorld<'c, 't, 'i, N>>
-    for ShardTask<'t, 'i, N> {
+impl<'c, 't, 'i: 't, N: RunName> Job<TaskWorld<'c, 't, 'i, N>> for ShardTask<'t, 'i, N> {
     ghost use Rattle.run_tasks.specs.Worlds.{TaskRan};
 
     ghost runs = { TaskRan };

@@ -20,12 +20,7 @@ impl<'c, 't, 'i: 't, N: RunName> TaskWorld<'c, 't, 'i, N> {
         &mut self,
         rt: &R,
         no: u64,
-    ) -> Option<
-        (
-            TaskProducer<'t, N>,
-            TaskConsumer<'t, N>,
-        ),
-    >
+    ) -> Option<(TaskProducer<'t, N>, TaskConsumer<'t, N>)>
         ensures follows { Follows self.old self.new }
         ensures core { IfSome result (λ halves. (halves.0.no ≡ no) × (halves.1.no ≡ no) × (halves.0.home ≡ halves.1.home) × (halves.0.use_number ≡ halves.1.use_number)) }
         ensures counted { IfSome result (λ halves. self.new.tally ≡ record self.old.tally { made = raised self.old.tally.made }) }

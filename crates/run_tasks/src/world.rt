@@ -12,12 +12,7 @@ use std::sync::Wait;
 /// The cells of the tasks' cores.
 pub type TaskCells<'t, N> = Cells<'t, Part<N>, PartCallback<N>, NoProxy>;
 
-pub type TaskCellPass<'t, N> = CellPass<
-    't,
-    Part<N>,
-    PartCallback<N>,
-    NoProxy,
->;
+pub type TaskCellPass<'t, N> = CellPass<'t, Part<N>, PartCallback<N>, NoProxy>;
 
 /// What tasks run on. It must be spent by `end`.
 pub struct TaskWorld<'c, 't, 'i: 't, N: RunName> {

@@ -97,13 +97,7 @@ fn gather_beside<
     G: Gate,
     F: PoolFront<Pool<J>, WorkerSlot<J, W>>,
     R: Threads + Wait + Sync,
->(
-    rt: &R,
-    stages: &mut [S],
-    held: &mut Option<PoolSide<J, W>>,
-    gate: &G,
-    front: &mut F,
-)
+>(rt: &R, stages: &mut [S], held: &mut Option<PoolSide<J, W>>, gate: &G, front: &mut F)
     requires stages { AllReady (S.ready tt) stages.old }
     requires front { MayRunSide F.ready F.begun F.can_end (HasWorked J.runs) front.old held.old }
     ensures stages { AllRan (S.ran tt) stages.old stages.new }
@@ -146,13 +140,7 @@ fn begin_beside<
     G: Gate,
     F: PoolFront<Pool<J>, WorkerSlot<J, W>>,
     R: Threads + Wait + Sync,
->(
-    rt: &R,
-    pool: &Pool<J>,
-    workers: &mut Vec<WorkerSlot<J, W>>,
-    gate: &G,
-    front: &mut F,
-)
+>(rt: &R, pool: &Pool<J>, workers: &mut Vec<WorkerSlot<J, W>>, gate: &G, front: &mut F)
     requires workers { AllReady (IsReadyToWork pool.now.id) workers.old.items }
     requires front { F.ready front.old pool.now }
     ensures workers { AllRan (HasWorked J.runs) workers.old.items workers.new.items }
