@@ -23,8 +23,8 @@ use Rattle.fanout.specs.Fronts.{IsSideEnd, IsSideStart}
 use Rattle.fanout.specs.Plans.{IsTimed}
 use Rattle.fanout.proofs.Sides.{first_start}
 
-module _ {N G : Type 0} where
-  pub may_run : (asked : Asking) (ids : RunIds) (front : FrontRun N G) (start : FrontStart N) (pool : PoolSeen) (slots : List (WorkerSlot TaskSeen (WorldSeen N))) (room : SideRoom N)
+module _ {N : Type 0} where
+  pub may_run : (asked : Asking) (ids : RunIds) (front : FrontRun N) (start : FrontStart N) (pool : PoolSeen) (slots : List (WorkerSlot TaskSeen (WorldSeen N))) (room : SideRoom N)
       → front.start ≡ Some start → front.mid ≡ None → front.room ≡ Some room → front.end ≡ None → IsTimed asked front.turns.now front.stop → IsSideStart asked ids start pool slots room → adds_of (new_pass pool.id 0) ≡ []
       → MayRunAll (IsReadyFront asked) (HasBegunFront asked) (CanEndFront asked) (HasWorked TaskRan) front pool slots
   may_run asked ids front start pool slots room has none has_room no_end timed s unused = record {
@@ -50,11 +50,11 @@ module _ {N G : Type 0} where
   }
 
   -- nothing is left of what it spends
-  pub all_spent : (asked : Asking) (front new : FrontRun N G) (pool : PoolSeen) (slots : List (WorkerSlot TaskSeen (WorldSeen N))) → HasRunAll (HasBegunFront asked) (HasEndedFront asked) (HasWorked TaskRan) front pool slots new
+  pub all_spent : (asked : Asking) (front new : FrontRun N) (pool : PoolSeen) (slots : List (WorkerSlot TaskSeen (WorldSeen N))) → HasRunAll (HasBegunFront asked) (HasEndedFront asked) (HasWorked TaskRan) front pool slots new
       → (new.start ≡ None) × ((new.mid ≡ None) × (new.room ≡ None))
   all_spent asked front new pool slots ran = (ran.has_ended.start ∙ ran.has_begun.spent, (ran.has_ended.spent_mid, ran.has_ended.spent_room))
 
-  pub side_of_run : (asked : Asking) (ids : RunIds) (front new : FrontRun N G) (start : FrontStart N) (pool : PoolSeen) (slots : List (WorkerSlot TaskSeen (WorldSeen N))) (room : SideRoom N) (end : SideEnd N)
+  pub side_of_run : (asked : Asking) (ids : RunIds) (front new : FrontRun N) (start : FrontStart N) (pool : PoolSeen) (slots : List (WorkerSlot TaskSeen (WorldSeen N))) (room : SideRoom N) (end : SideEnd N)
       → HasRunAll (HasBegunFront asked) (HasEndedFront asked) (HasWorked TaskRan) front pool slots new → new.end ≡ Some end → front.start ≡ Some start → front.room ≡ Some room → IsSideStart asked ids start pool slots room
       → IsSideEnd asked ids end
   side_of_run asked ids front new start pool slots room end ran is has has_room s =

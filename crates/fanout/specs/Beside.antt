@@ -27,9 +27,9 @@ module _ {N : Type 0} where
     pub did : IsFirstEnd asked stop pool start mid
     pub worked : AllRan (HasWorked TaskRan) old workers
 
-module _ {N G : Type 0} where
+module _ {N : Type 0} where
   -- it has not begun, and may begin with this pool
-  pub record IsReadyFront (asked : Asking) (front : FrontRun N G) (pool : PoolSeen) : Type 0 where
+  pub record IsReadyFront (asked : Asking) (front : FrontRun N) (pool : PoolSeen) : Type 0 where
     pub start : FrontStart N
     pub has : front.start ≡ Some start
     pub timed : IsTimed asked front.turns.now front.stop
@@ -37,7 +37,7 @@ module _ {N G : Type 0} where
     pub no_mid : front.mid ≡ None
 
   -- its first phase has led from its start to what it has between the phases, and nothing else has changed
-  pub record HasBegunFront (asked : Asking) (old : FrontRun N G) (pool : PoolSeen) (new : FrontRun N G) : Type 0 where
+  pub record HasBegunFront (asked : Asking) (old : FrontRun N) (pool : PoolSeen) (new : FrontRun N) : Type 0 where
     pub start : FrontStart N
     pub had : old.start ≡ Some start
     pub mid : FrontMid N
@@ -50,7 +50,7 @@ module _ {N G : Type 0} where
     pub stop : new.stop ≡ old.stop
 
   -- it stands between its phases, and the workers have worked
-  pub record CanEndFront (asked : Asking) (front : FrontRun N G) (pool : PoolSeen) (workers : List (WorkerSlot TaskSeen (WorldSeen N))) : Type 0 where
+  pub record CanEndFront (asked : Asking) (front : FrontRun N) (pool : PoolSeen) (workers : List (WorkerSlot TaskSeen (WorldSeen N))) : Type 0 where
     pub room : SideRoom N
     pub has_room : front.room ≡ Some room
     pub mid : FrontMid N
@@ -60,7 +60,7 @@ module _ {N G : Type 0} where
     pub no_end : front.end ≡ None
 
   -- what it leaves behind them
-  pub record HasEndedFront (asked : Asking) (old : FrontRun N G) (pool : PoolSeen) (workers : List (WorkerSlot TaskSeen (WorldSeen N))) (new : FrontRun N G) : Type 0 where
+  pub record HasEndedFront (asked : Asking) (old : FrontRun N) (pool : PoolSeen) (workers : List (WorkerSlot TaskSeen (WorldSeen N))) (new : FrontRun N) : Type 0 where
     pub end : SideEnd N
     pub has : new.end ≡ Some end
     pub start : new.start ≡ old.start

@@ -6,12 +6,12 @@ ghost use Rattle.run_tasks.specs.Seen.{TaskSeen, WorldSeen};
 ghost use Rattle.run_tasks.specs.Worlds.{TaskRan};
 ghost use Rattle.run_threads.specs.declared.worker.WorkerSlot.{WorkerSlot};
 ghost use Rattle.run_threads.specs.Slots.{HasWorked};
-ghost use Rattle.fanout.specs.Beside.{IsBehind};
+ghost use Rattle.fanout.specs.Beside.{CanEndFront, HasEndedFront, IsBehind};
 ghost use Rattle.fanout.specs.First.{IsFirstEnd, IsFirstStart};
 ghost use Rattle.fanout.specs.Fronts.{IsSideEnd, IsSideStart};
 ghost use Rattle.fanout.specs.Plans.{IsTimed};
 
-use fan_base::Gate;
+use fan_base::OpenGate;
 use fan_parts::RunName;
 use prio_pool::{HelperEnd, Pool};
 use run_phases::{FrontLeft, FrontMid, FrontStart, first_phase, second_phase};
@@ -34,23 +34,21 @@ pub(crate) struct SideEnd<'t, N: RunName> {
     pub(crate) left: FrontLeft<'t, N>,
 }
 
-/// The front of a run: what it has before it has begun, beside the workers, and what it leaves behind them. The turns, the place of the stop, and
-/// the gate are lent.
-pub(crate) struct FrontRun<'g, 'c, 't, 'i: 't, N: RunName, G> {
+/// The front of a run: what it has before it has begun, beside the workers, and what it leaves behind them. The turns are lent.
+pub(crate) struct FrontRun<'g, 'c, 't, 'i: 't, N: RunName> {
     pub(crate) start: Option<FrontStart<'c, 't, 'i, N>>,
     pub(crate) mid: Option<FrontMid<'c, 't, 'i, N>>,
     pub(crate) room: Option<SideRoom<'t, 'i, N>>,
     pub(crate) end: Option<SideEnd<'t, N>>,
     pub(crate) turns: &'g [Turn],
     pub(crate) stop: Option<usize>,
-    pub(crate) gate: &'g G,
     pub(crate) alloc: Global,
 }
 
-impl<'g, 'c, 't, 'i: 't, N: RunName + 'static, G: Gate> PoolFront<
+impl<'g, 'c, 't, 'i: 't, N: RunName + 'static> PoolFront<
     Pool<ShardTask<'t, 'i, N>>,
     TaskSlot<'c, 't, 'i, N>,
-> for FrontRun<'g, 'c, 't, 'i, N, G> {
+> for FrontRun<'g, 'c, 't, 'i, N> {
     ghost use Rattle.fanout.specs.Beside.{CanEndFront, HasBegunFront, HasEndedFront, IsReadyFront};
 
     ghost ready = { IsReadyFront N.asked };
@@ -66,7 +64,7 @@ impl<'g, 'c, 't, 'i: 't, N: RunName + 'static, G: Gate> PoolFront<
         let Some(start) = self.start.take() else {
             unreachable!()
         };
-        let mid = first(rt, pool, self.gate, self.turns, self.stop, start);
+        let mid = first(rt, pool, self.turns, self.stop, start);
         let none = self.mid.replace(mid);
         let None = none else { unreachable!() };
     }
@@ -77,7 +75,10 @@ impl<'g, 'c, 't, 'i: 't, N: RunName + 'static, G: Gate> PoolFront<
         rt: &R,
         pool: Pool<ShardTask<'t, 'i, N>>,
         workers: Vec<TaskSlot<'c, 't, 'i, N>>,
-    ) {
+    )
+        requires { CanEndFront N.asked self.old pool workers.items }
+        ensures { HasEndedFront N.asked self.old pool.entry workers.entry.items self.new }
+    {
         let Some(mid) = self.mid.take() else {
             unreachable!()
         };
@@ -93,10 +94,9 @@ impl<'g, 'c, 't, 'i: 't, N: RunName + 'static, G: Gate> PoolFront<
 }
 
 /// The first phase of the front: the tasks of all early queries are added, and the pool's end has begun.
-fn first<'c, 't, 'i: 't, N: RunName + 'static, G: Gate, R: Wait>(
+fn first<'c, 't, 'i: 't, N: RunName + 'static, R: Wait>(
     rt: &R,
     pool: &Pool<ShardTask<'t, 'i, N>>,
-    gate: &G,
     turns: &[Turn],
     stop: Option<usize>,
     start: FrontStart<'c, 't, 'i, N>,
@@ -105,7 +105,7 @@ fn first<'c, 't, 'i: 't, N: RunName + 'static, G: Gate, R: Wait>(
     requires start { IsFirstStart N.asked pool.now start }
     ensures { IsFirstEnd N.asked stop pool.now start.entry result }
 {
-    first_phase(rt, pool, gate, turns, stop, start)
+    first_phase(rt, pool, &OpenGate::new(), turns, stop, start)
 }
 
 /// The second phase of the front, behind all workers.
@@ -122,7 +122,7 @@ fn end_side<'c, 't, 'i: 't, N: RunName + 'static, R: Wait>(
     requires timed { IsTimed N.asked turns.now stop }
     requires behind { IsBehind N.asked stop pool workers.items mid room }
     ensures { (ids : RunIds) (start : FrontStart N) (old : List (WorkerSlot TaskSeen (WorldSeen N))) →
-        IsSideStart N.asked ids start pool old room.entry → IsFirstEnd N.asked stop pool start mid.entry → AllRan (HasWorked TaskRan) old workers.entry.items →
+        IsSideStart N.asked ids start pool.entry old room.entry → IsFirstEnd N.asked stop pool.entry start mid.entry → AllRan (HasWorked TaskRan) old workers.entry.items →
         IsSideEnd N.asked ids result }
 {
     what_ran_can_be_closed::<N>();

@@ -22,8 +22,8 @@ use event_base::EventBase;
 use fan_base::{Gate, Memory, Sink};
 use fan_parts::{PrintJob, RunName, RunShards};
 use prio_pool::{Pool, new_passes_are_unused};
-use run_desks::OpenDesks;
 use run_front::Front;
+use run_gathering::PartTable;
 use run_phases::FrontStart;
 use run_printing::PrintStage;
 use run_setup::{
@@ -54,19 +54,19 @@ pub(crate) fn run_over_cells<
     plan: &RunPlan<'l, 'g, N, G>,
     cells: &'c TaskCells<'t, N>,
     passes: Vec<TaskCellPass<'t, N>>,
-    desks: OpenDesks<'d, 'r, 'i, N>,
+    tables: Vec<PartTable<'d, 'r, 'i, N>>,
+    tally: Tally,
     sink: &mut K,
 ) -> FanEnd
     requires plan { IsPlanned N.asked plan.now.lines.now plan.now.turns.now plan.now.counted.now plan.now.stop plan.now.knobs }
     requires passes { length passes.items ≡ plan.now.knobs.workers + 1 }
     requires all { AreAll cells.now passes.items }
-    requires desks { AreTablesOf N.asked desks.tables.items }
+    requires tables { AreTablesOf N.asked tables.items }
     ensures { IsEndOf N.asked (shown (K.holds sink.old) (K.faults sink.old)) (shown (K.holds sink.new) (K.faults sink.new)) result }
 {
     let workers = plan.knobs.workers;
     let bases = plan.knobs.bases;
     let shards = RunShards::new(&*plan.shards.all());
-    let OpenDesks { tables, tally } = desks;
     match open_run(rt, alloc, cells, passes, &shards, tables, workers, bases) {
         Ok(setup) => run_opened(rt, alloc, plan, setup, tally, sink),
         Err(Memory) => FanEnd::refused(alloc),
@@ -133,7 +133,6 @@ fn run_opened<
         end: None,
         turns: plan.turns,
         stop: plan.stop,
-        gate: plan.gate,
         alloc,
     };
     a_setup_is_ready::<N>();
@@ -153,7 +152,6 @@ fn run_opened<
         end,
         turns: _,
         stop: _,
-        gate: _,
         alloc: _,
     } = front;
     let None = start else { unreachable!() };
@@ -164,10 +162,10 @@ fn run_opened<
 }
 
 /// What the stages come to.
-struct StagesEnd<'g, 'c, 't, 'd, 'r: 'd, 'i: 'r, N: RunName, G> {
+struct StagesEnd<'g, 'c, 't, 'd, 'r: 'd, 'i: 'r, N: RunName> {
     printed: PrintStage<PrintJob<N>>,
     gatherers: Vec<GatherSlot<'d, 'r, 'i, N>>,
-    front: FrontRun<'g, 'c, 't, 'i, N, G>,
+    front: FrontRun<'g, 'c, 't, 'i, N>,
 }
 
 /// The printer, the gatherers, the workers and the front, all beside each other.
@@ -191,8 +189,8 @@ fn run_stages<
     pool: Pool<ShardTask<'t, 'i, N>>,
     workers: Vec<TaskSlot<'c, 't, 'i, N>>,
     gate: &G,
-    front: FrontRun<'g, 'c, 't, 'i, N, G>,
-) -> StagesEnd<'g, 'c, 't, 'd, 'r, 'i, N, G>
+    front: FrontRun<'g, 'c, 't, 'i, N>,
+) -> StagesEnd<'g, 'c, 't, 'd, 'r, 'i, N>
     requires printer { IsNewBase printer }
     requires gatherers { AllReady (IsReadyToGather N.asked) gatherers.items }
     requires workers { AllReady (IsReadyToWork pool.id) workers.items }
@@ -200,7 +198,7 @@ fn run_stages<
     ensures printed { HasPrinted N.asked.lines (shown (K.holds sink.old) (K.faults sink.old)) (shown (K.holds sink.new) (K.faults sink.new)) result.printed }
     ensures base { IsBaseOf printer result.printed.base }
     ensures gatherers { AllRan HasGatheredIn gatherers.entry.items result.gatherers.items }
-    ensures front { HasRunAll (HasBegunFront N.asked) (HasEndedFront N.asked) (HasWorked TaskRan) front.entry pool workers.entry.items result.front }
+    ensures front { HasRunAll (HasBegunFront N.asked) (HasEndedFront N.asked) (HasWorked TaskRan) front.entry pool.entry workers.entry.items result.front }
 {
     let mut gatherers = gatherers;
     let mut front = front;

@@ -1,5 +1,6 @@
-ghost use Rattle.std.specs.Prelude.{◌≡◌, ◌<◌, ◌≤◌, false, length};
+ghost use Rattle.std.specs.Prelude.{◌≡◌, ◌+◌, ◌<◌, ◌≤◌, IfOk, false, length};
 ghost use Rattle.std.specs.List.{All};
+ghost use Rattle.core_cells.specs.Seen.{AreAll};
 ghost use Rattle.core_word.specs.Seen.{SeenHome};
 ghost use Rattle.fan_base.specs.Outside.{shown};
 ghost use Rattle.query_model.specs.Documents.{IsWithinLimits, docs_of};
@@ -24,6 +25,7 @@ use run_homes::{
     close_desks, close_reply_homes, close_task_homes, empty_slots, keys_of, new_homes,
 };
 use run_plan::{count, plan, stop_place};
+use run_setup::{TaskCellPass, TaskCells};
 use shard_index::Shard;
 use std::alloc::Global;
 use std::sync::Wait;
@@ -251,7 +253,13 @@ fn over_desks<
     let made: MadeTaskHomes<N> = new_homes(alloc, plan.cells());
     match made {
         Ok(mut tasks) => {
-            let end = over_task_homes(rt, alloc, &*plan, tasks.as_mut_slice(), desks, sink);
+            let end = match make_cells(rt, alloc, tasks.as_mut_slice(), plan.knobs.workers + 1) {
+                Ok(made) => over_cells(rt, alloc, &*plan, made, desks, sink),
+                Err(Memory) => {
+                    desks.give_up();
+                    FanEnd::refused(alloc)
+                }
+            };
             close_task_homes(tasks);
             end
         }
@@ -263,8 +271,31 @@ fn over_desks<
     }
 }
 
-/// Makes the cells of the tasks' cores.
-fn over_task_homes<
+/// The cells of the tasks' cores, and all their passes.
+struct MadeCells<'t, N: RunName> {
+    cells: TaskCells<'t, N>,
+    passes: Vec<TaskCellPass<'t, N>>,
+}
+
+/// Cells of these homes, with so many passes.
+fn make_cells<'t, N: RunName, R: Wait>(
+    rt: &R,
+    alloc: Global,
+    tasks: &'t mut [TaskHome<N>],
+    passes: u32,
+) -> Result<MadeCells<'t, N>, Memory>
+    requires untaken { All (λ (home : SeenHome). home.taken ≡ false) tasks.old }
+    requires tasks { (0 < length tasks.old) × (length tasks.old ≤ 65536) }
+    requires passes { (0 < passes) × (passes ≤ 64) }
+    ensures passes { IfOk result (λ made. length made.passes.items ≡ passes) }
+    ensures all { IfOk result (λ made. AreAll made.cells made.passes.items) }
+{
+    let (cells, passes) = Cells::new(rt, alloc, tasks, passes)?;
+    Ok(MadeCells { cells, passes })
+}
+
+/// Runs over these cells, and lets them go.
+fn over_cells<
     't,
     'd: 't,
     'r: 'd,
@@ -279,21 +310,19 @@ fn over_task_homes<
     rt: &R,
     alloc: Global,
     plan: &RunPlan<'l, 'g, N, G>,
-    tasks: &'t mut [TaskHome<N>],
+    made: MadeCells<'t, N>,
     desks: OpenDesks<'d, 'r, 'i, N>,
     sink: &mut K,
 ) -> FanEnd
     requires plan { IsPlanned N.asked plan.now.lines.now plan.now.turns.now plan.now.counted.now plan.now.stop plan.now.knobs }
-    requires untaken { All (λ (home : SeenHome). home.taken ≡ false) tasks.old }
-    requires tasks { (0 < length tasks.old) × (length tasks.old ≤ 65536) }
+    requires passes { length made.passes.items ≡ plan.now.knobs.workers + 1 }
+    requires all { AreAll made.cells made.passes.items }
     requires desks { AreTablesOf N.asked desks.tables.items }
     ensures { IsEndOf N.asked (shown (K.holds sink.old) (K.faults sink.old)) (shown (K.holds sink.new) (K.faults sink.new)) result }
 {
-    let Ok((cells, passes)) = Cells::new(rt, alloc, tasks, plan.knobs.workers + 1) else {
-        desks.give_up();
-        return FanEnd::refused(alloc);
-    };
-    let end = run_over_cells(rt, alloc, &*plan, &cells, passes, desks, sink);
+    let MadeCells { cells, passes } = made;
+    let OpenDesks { tables, tally } = desks;
+    let end = run_over_cells(rt, alloc, &*plan, &cells, passes, tables, tally, sink);
     let_go(cells);
     end
 }

@@ -2,12 +2,13 @@
 //! order.
 //!
 //! ```text
-//! fan_run: plan > inner homes > homes of replies > desks > homes of tasks > cells, bases, pool
-//!   front        this thread:   opens each query and adds its tasks; begins the pool's end
+//! fan_run: plan > inner homes > homes of replies > desks, all opened > homes of tasks > cells, bases, pool
+//!   all beside each other:
+//!   front        this thread:   adds the tasks of each early query; begins the pool's end;
+//!                               behind the workers it ends the pool, and runs what was handed back and what came behind the stop
 //!   workers      a thread each: the tasks; each part is posted to its query's base
-//!   front        this thread:   ends the pool; runs what was handed back and what came behind the stop
 //!   gatherers    a thread each: the parts of their queries, merged, to the printer
-//!   printer      a thread, beside the gatherers: the replies, in order, to the sink
+//!   printer      a thread:      the replies, in order, to the sink
 //! closes: the bases with all ends of their posters, the homes; what was counted is compared; FanEnd
 //! ```
 #![tactic(auto)]
