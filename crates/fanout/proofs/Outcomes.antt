@@ -1,8 +1,8 @@
 -- How a run ends, by how printing ended and by what was noted and compared.
-use Rattle.std.proofs.Common.{◌≡◌, Bool, true, false, List, [], ◌++◌, inl, inr, refl, sym, ap, subst, append-nil}
+use Rattle.std.proofs.Common.{◌≡◌, Bool, true, false, [], inl, inr, refl, sym, subst, append-nil}
 use Rattle.std.specs.Prelude.{Option, Some, None}
 use Rattle.std.specs.Io.KnownBytes.{Appends}
-use Rattle.fan_base.specs.Outside.{FaultsRose, Shown}
+use Rattle.fan_base.specs.Outside.{Shown}
 use Rattle.query_model.specs.Pieces.{Bytes}
 use Rattle.fan_model.specs.Report.{Asking}
 use Rattle.reply_printer.specs.Passing.{Gains, GainsFront}
@@ -14,7 +14,7 @@ use Rattle.fanout.specs.declared.run.FanEnd.{FanEnd}
 use Rattle.fanout.specs.declared.run.FanOutcome.{FanOutcome}
 use Rattle.fanout.specs.declared.run.FanOutcome.TheVariants as outcome
 use Rattle.fanout.specs.Closing.{outcome_by}
-use Rattle.fanout.specs.Ends.{IsEndOf, IsReported, Reports, ReportsAs, TellsNoRun, WritesText}
+use Rattle.fanout.specs.Ends.{IsEndOf, IsReported, ReportsAs, TellsNoRun, WritesText}
 
 -- all of a text is a front of it
 gains_front : (start now : Shown) (text : Bytes) → Gains start now text → GainsFront start now text

@@ -1,7 +1,7 @@
 -- The front and the workers, from their start to their end.
-use Rattle.std.proofs.Common.{◌≡◌, ℕ, List, [], ◌∷◌, ◌++◌, false, length, map, refl, sym, ap, ◌∙◌, subst, All}
-use Rattle.std.specs.Prelude.{Option, Some, None, get_or}
-use Rattle.std.proofs.lemmas.List.Elements.{All-append, All-cons, All-head, All-nil}
+use Rattle.std.proofs.Common.{◌≡◌, ℕ, List, [], ◌∷◌, ◌++◌, false, map, refl, sym, ap, ◌∙◌, subst, All}
+use Rattle.std.specs.Prelude.{Option, get_or}
+use Rattle.std.proofs.lemmas.List.Elements.{All-append, All-cons, All-nil}
 use Rattle.fan_model.specs.Report.{Asking, IsPoolReport}
 use Rattle.job_trait.specs.Marks.{IsDone}
 use Rattle.pool_model.specs.Passes.{AreAllEnds, adds_of}
@@ -15,10 +15,8 @@ use Rattle.run_phases.specs.declared.first.FrontStart.{FrontStart}
 use Rattle.run_phases.specs.declared.first.FrontMid.{FrontMid}
 use Rattle.run_phases.specs.declared.second.FrontLeft.{FrontLeft}
 use Rattle.run_phases.specs.Phases.{IsDoneBy}
-use Rattle.run_setup.specs.Closing.{AreTaskEnds, AreWorldEnds, IsPrinterEnd}
+use Rattle.run_setup.specs.Closing.{AreWorldEnds, IsPrinterEnd}
 use Rattle.run_setup.specs.Ids.{RunIds}
-use Rattle.run_setup.specs.Rows.{row_of}
-use Rattle.run_setup.specs.Slots.{IsNewWorld}
 use Rattle.run_tasks.specs.declared.world.TaskEnds.{TaskEnds}
 use Rattle.run_tasks.specs.Seen.{WorldSeen}
 use Rattle.run_tasks.specs.Worlds.{AreEndsFor, StaysPass, told_of}

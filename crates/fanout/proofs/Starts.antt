@@ -1,6 +1,6 @@
 -- The front and the workers, as they are made of what was opened.
-use Rattle.std.proofs.Common.{◌≡◌, List, [], ◌∷◌, ap, refl}
-use Rattle.std.specs.Prelude.{◌≤◌, Option, Some, None, vec_capacity}
+use Rattle.std.proofs.Common.{◌≡◌, List, [], ◌∷◌, ap}
+use Rattle.std.specs.Prelude.{◌≤◌, vec_capacity}
 use Rattle.fan_model.specs.Report.{Asking}
 use Rattle.fan_model.specs.Tasks.{pool_exec}
 use Rattle.fan_parts.specs.declared.jobs.PrintJob.{PrintJob}

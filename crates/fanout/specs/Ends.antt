@@ -1,5 +1,5 @@
 -- How a run ends, and what it tells.
-use Rattle.std.specs.Prelude.{◌≡◌, ℕ, ◌≤◌, List, [], map, Option, Some, None}
+use Rattle.std.specs.Prelude.{◌≡◌, ℕ, ◌≤◌, List, [], map, Some, None}
 use Rattle.fan_base.specs.Outside.{FaultsRose, Shown}
 use Rattle.query_model.specs.declared.line.Input.{Input}
 use Rattle.query_model.specs.declared.line.Line.{Line}

@@ -1,5 +1,5 @@
 -- What the desks are opened with.
-use Rattle.std.specs.Prelude.{ℕ, ◌≤◌, length}
+use Rattle.std.specs.Prelude.{◌≤◌, length}
 use Rattle.fan_model.specs.Answered.{answered_in, tops_in}
 use Rattle.fan_model.specs.Report.{Asking}
 use Rattle.run_desks.specs.Keys.{AreKeysOf}

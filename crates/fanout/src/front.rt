@@ -93,7 +93,7 @@ impl<'g, 'c, 't, 'i: 't, N: RunName + 'static> PoolFront<
     }
 }
 
-/// The first phase of the front: the tasks of all early queries are added, and the pool's end has begun.
+/// The first phase of the front: the tasks of all early queries are added, and the pool's end has begun. Where it helps with a task, no gate is met.
 fn first<'c, 't, 'i: 't, N: RunName + 'static, R: Wait>(
     rt: &R,
     pool: &Pool<ShardTask<'t, 'i, N>>,

@@ -2,10 +2,9 @@
 //! order.
 //!
 //! ```text
-//! fan_run: plan > inner homes > homes of replies > desks, all opened > homes of tasks > cells, bases, pool
-//!   all beside each other:
-//!   front        this thread:   adds the tasks of each early query; begins the pool's end;
-//!                               behind the workers it ends the pool, and runs what was handed back and what came behind the stop
+//! fan_run: plan > inner homes > homes of replies > desks, opened > homes of tasks, cells > bases, pool; then, beside each other,
+//!   front        this thread:   adds the tasks, begins the pool's end; behind the workers it ends the pool, and runs what was handed back and what
+//!                               came behind the stop
 //!   workers      a thread each: the tasks; each part is posted to its query's base
 //!   gatherers    a thread each: the parts of their queries, merged, to the printer
 //!   printer      a thread:      the replies, in order, to the sink

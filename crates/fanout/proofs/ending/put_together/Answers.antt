@@ -1,4 +1,4 @@
-use Rattle.std.proofs.Common.{length, ◌≡◌, refl, sym, ap, ◌∙◌, subst, rules}
+use Rattle.std.proofs.Common.{length, ◌≡◌, refl, sym, ◌∙◌, subst}
 use Rattle.query_model.specs.Order.{replies_of}
 use Rattle.run_notes.specs.Counting.{ArePutBy}
 use Rattle.run_printing.specs.Ends.{IsWhole}

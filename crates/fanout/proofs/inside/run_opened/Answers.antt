@@ -3,7 +3,7 @@ use Rattle.std.proofs.lemmas.List.Elements.{All-head}
 use Rattle.pool_model.specs.Passes.{adds_of}
 use Rattle.pool_model.specs.Seen.{PassSeen}
 use Rattle.prio_pool.specs.Made.{new_pass}
-use Rattle.fanout.proofs.Running.{all_spent, may_run, side_of_run}
+use Rattle.fanout.proofs.Running.{may_run, side_of_run}
 use Rattle.fanout.proofs.Starts.{side_start}
 use Rattle.fanout.proofs.inside.run_opened.Goals as goal
 

@@ -1,4 +1,4 @@
-use Rattle.std.proofs.Common.{◌≡◌, ℕ, List, refl, sym, ap, ◌∙◌, subst, rules}
+use Rattle.std.proofs.Common.{◌≡◌, refl, sym, ◌∙◌, subst, rules}
 use Rattle.std.proofs.lemmas.Option.{same_Some}
 use Rattle.run_phases.specs.declared.first.FrontMid.{FrontMid}
 use Rattle.fanout.specs.declared.front.SideRoom.{SideRoom}
