@@ -741,6 +741,17 @@ fn what_waits_in_a_closed_home_comes_out(rt: HostRuntime) -> Result<(), Fail> {
 
 fn may_cross<X: Send>(_: &X) {}
 
+// What a leave answered may cross, each part of it.
+fn left_may_cross(left: &Left<'_, u64, u64, u64>) {
+    match left {
+        Left::First(receipt) => may_cross(receipt),
+        Left::Last(leftover, husk) => {
+            may_cross(leftover);
+            may_cross(husk);
+        }
+    }
+}
+
 // A core whose every part could go to another thread: how many parts were shown.
 fn crossing_parts(home: &mut Numbers, t: &mut Tally) -> u64 {
     let Some(key) = home.key() else {
@@ -759,10 +770,10 @@ fn crossing_parts(home: &mut Numbers, t: &mut Tally) -> u64 {
     met(answer, t);
     may_cross(&consumer);
     let first = producer.leave();
-    may_cross(&first);
+    left_may_cross(&first);
     left(first, t);
     let last = consumer.leave();
-    may_cross(&last);
+    left_may_cross(&last);
     left(last, t);
     8
 }
