@@ -15,7 +15,7 @@ use Rattle.core_word.specs.declared.view.View.{View}
 use Rattle.core_word.specs.declared.view.ConsumerPhase.{ConsumerPhase}
 use Rattle.core_word.specs.declared.view.ConsumerPhase.TheVariants as consumer
 use Rattle.core_word.specs.Rule.{Held, StandsFor}
-use Rattle.core_word.specs.Plays.{Standing, consumer_ready, consumer_holding, consumer_aware, takes_callback_slot, demands_first, demands_result, demands_proxy}
+use Rattle.core_word.specs.Plays.{Standing, consumer_ready, consumer_holding, consumer_aware, takes_callback_slot, sees_offer, demands_first, demands_result, demands_proxy}
 use Rattle.core_word.proofs.Owing.{ConsumerOwes, consumer_steps, second, unset_sight}
 
 module _ {T C P : Type 0} (id u : ℕ) where
@@ -34,6 +34,19 @@ module _ {T C P : Type 0} (id u : ℕ) where
   pub takes_the_callback_slot : (slots : ℕ) (me : Standing T C P) → me ≡ consumer_ready u → Allows StandsFor slots id me 0 (λ n. n) (takes_callback_slot me)
   takes_the_callback_slot slots me e = subst (λ m. Allows StandsFor slots id m 0 (λ n. n) (takes_callback_slot m)) (sym e)
       (consumer_steps id u [] 0 (λ n. n) (takes_callback_slot (consumer_ready u)) consumer.Ready (λ n. cc) slots callback_slot)
+
+  look : (c : Request C) → Owes ((1, Some (item.Callback c)) ∷ []) 0 (λ n. n) (sees_offer (consumer_holding u (Some (item.Callback c)))) consumer.Holding
+  look c producer.Ready fit low = (consumer.Holding, keeps, tt, refl, refl, fit, unset_sight _ _ (λ i w. w), ((λ _. refl), (λ e. absurd (omega arith)), λ ne no. absurd (ne refl)))
+  look c (producer.Holding o) fit low = (consumer.Holding, keeps, tt, refl, refl, fit, unset_sight _ _ (λ i w. w), ((λ _. refl), (λ e. absurd (omega arith)), λ ne no. absurd (ne refl)))
+  look c (producer.Aware o a) fit low = absurd fit.0
+  look c (producer.Acted offered.Nothing demanded.Nothing left) fit low = absurd fit.0.0
+  look c (producer.Acted (offered.Result r) demanded.Nothing left) fit low = (consumer.Aware state.OnlyResult, keeps, tt, refl, refl, ((tt, refl), fit.1), unset_sight _ _ (λ i w. w), ((λ e. absurd (omega arith)), (λ _. refl), λ ne no. absurd (no refl)))
+  look c (producer.Acted (offered.Proxy k) demanded.Nothing left) fit low = (consumer.Aware state.Proxy, keeps, tt, refl, refl, ((tt, refl), fit.1), unset_sight _ _ (λ i w. w), ((λ e. absurd (omega arith)), (λ e. absurd (omega arith)), λ ne no. refl))
+  look c (producer.Acted offer (demanded.Callback d) left) fit low = absurd fit.0.1
+
+  pub looks_at_first : (slots : ℕ) (c : Request C) (me : Standing T C P) → me ≡ consumer_holding u (Some (item.Callback c)) → Allows StandsFor slots id me 0 (λ n. n) (sees_offer me)
+  looks_at_first slots c me e = subst (λ m. Allows StandsFor slots id m 0 (λ n. n) (sees_offer m)) (sym e)
+      (consumer_steps id u ((1, Some (item.Callback c)) ∷ []) 0 (λ n. n) (sees_offer (consumer_holding u (Some (item.Callback c)))) consumer.Holding (λ n. cc) slots (look c))
 
   first : (c : Request C) → Owes ((1, Some (item.Callback c)) ∷ []) 0 (λ n. either (n == 0) (code_of (waiting_state c.inline)) n) (demands_first (consumer_holding u (Some (item.Callback c)))) consumer.Holding
   first c producer.Ready fit low = (consumer.Acted (demanded.Callback c) offered.Nothing departed.No, gives, tt, refl, refl, (refl, fit.1), unset_sight _ _ (λ i w. w), ((λ _. refl), (λ e. absurd (omega arith)), λ ne no. absurd (ne refl)))

@@ -22,7 +22,7 @@ use Rattle.core_word.specs.declared.view.ConsumerPhase.TheVariants as consumer
 use Rattle.core_word.specs.declared.view.View.TheVariants as view
 use Rattle.core_word.specs.Views.{use_of, learned_of, with_callback, consumer_left, IsAwaited}
 use Rattle.core_word.specs.Rule.{Held, Fit, Waits, SightFits, words_of, StandsFor}
-use Rattle.core_word.specs.Plays.{Standing, producer_ready, producer_holding, producer_aware, takes_producer_slot, none_seen, leave_seen, stay_seen, callback_seen, looks_for_callback, looks_for_leave, tries_first, sets_first, sets_second}
+use Rattle.core_word.specs.Plays.{Standing, producer_ready, producer_holding, producer_aware, takes_producer_slot, none_seen, leave_seen, stay_seen, callback_seen, looks_for_callback, looks_for_leave, sees_waiting, tries_first, sets_first, sets_second}
 use Rattle.core_word.proofs.Owing.{ProducerOwes, ProducerRow, producer_steps, producer_looks, beside_producer, allows_also}
 
 -- Start is no state of a callback that waits
@@ -109,6 +109,32 @@ module _ {T C P : Type 0} (id u : ℕ) (learned : Learned) where
   takes_result_slot slots me e = subst (λ m. Allows StandsFor slots id m 0 (λ n. n) (takes_producer_slot slot.Result m)) (sym e)
       (producer_steps id u learned [] 0 (λ n. n) (takes_producer_slot slot.Result (producer_ready u learned)) producer.Ready (λ n. cc) slots result_slot)
 
+  result_seen : (r : Try T) (c : C) (a : Bool) (left : Departure) → Fit {T = T} {C = C} {P = P} (producer.Holding slot.Result) (consumer.Acted (demanded.Callback record { callback = c; inline = a }) offered.Nothing left)
+      → Row ((0, Some (item.Outcome r)) ∷ []) 0 (λ n. n) (sees_waiting slot.Result (producer_holding u learned slot.Result (Some (item.Outcome r)))) (producer.Holding slot.Result) (consumer.Acted (demanded.Callback record { callback = c; inline = a }) offered.Nothing left)
+  result_seen r c true left fit = (producer.Aware slot.Result true, keeps, tt, refl, refl, ((refl, fit.0), fit.1), ((λ e. absurd (omega arith)), other, inr (true, refl)))
+    where
+      other : (b : Bool) → 6 ≡ code_of (waiting_state b) → ◌≡◌ {A = Standing T C P} (view.Producer u (producer.Aware slot.Result true) learned, (0, Some (item.Outcome r)) ∷ []) (view.Producer u (producer.Aware slot.Result b) learned, (0, Some (item.Outcome r)) ∷ [])
+      other true e = refl
+      other false e = absurd (omega arith)
+  result_seen r c false left fit = (producer.Aware slot.Result false, keeps, tt, refl, refl, ((refl, fit.0), fit.1), ((λ e. absurd (omega arith)), other, inr (false, refl)))
+    where
+      other : (b : Bool) → 2 ≡ code_of (waiting_state b) → ◌≡◌ {A = Standing T C P} (view.Producer u (producer.Aware slot.Result false) learned, (0, Some (item.Outcome r)) ∷ []) (view.Producer u (producer.Aware slot.Result b) learned, (0, Some (item.Outcome r)) ∷ [])
+      other true e = absurd (omega arith)
+      other false e = refl
+
+  result_look : (r : Try T) → Owes ((0, Some (item.Outcome r)) ∷ []) 0 (λ n. n) (sees_waiting slot.Result (producer_holding u learned slot.Result (Some (item.Outcome r)))) (producer.Holding slot.Result)
+  result_look r consumer.Ready fit low = (producer.Holding slot.Result, keeps, tt, refl, refl, fit, ((λ _. refl), (λ b e. absurd (never_start b e)), inl refl))
+  result_look r consumer.Holding fit low = (producer.Holding slot.Result, keeps, tt, refl, refl, fit, ((λ _. refl), (λ b e. absurd (never_start b e)), inl refl))
+  result_look r (consumer.Aware s) fit low = absurd fit.0
+  result_look r (consumer.Acted demanded.Nothing offered.Nothing left) fit low = (producer.Holding slot.Result, keeps, tt, refl, refl, fit, ((λ _. refl), (λ b e. absurd (never_start b e)), inl refl))
+  result_look r (consumer.Acted (demanded.Callback c) offered.Nothing left) fit low = result_seen r c.callback c.inline left fit
+  result_look r (consumer.Acted demand (offered.Result q) left) fit low = let e = fit.0 in cc
+  result_look r (consumer.Acted demand (offered.Proxy q) left) fit low = let e = fit.0 in cc
+
+  pub looks_before_result : (slots : ℕ) (r : Try T) (me : Standing T C P) → me ≡ producer_holding u learned slot.Result (Some (item.Outcome r)) → Allows StandsFor slots id me 0 (λ n. n) (sees_waiting slot.Result me)
+  looks_before_result slots r me e = subst (λ m. Allows StandsFor slots id m 0 (λ n. n) (sees_waiting slot.Result m)) (sym e)
+      (producer_steps id u learned ((0, Some (item.Outcome r)) ∷ []) 0 (λ n. n) (sees_waiting slot.Result (producer_holding u learned slot.Result (Some (item.Outcome r)))) (producer.Holding slot.Result) (λ n. cc) slots (result_look r))
+
   result_waits : (r : Try T) (c : C) (a : Bool) (left : Departure) → Fit {T = T} {C = C} {P = P} (producer.Holding slot.Result) (consumer.Acted (demanded.Callback record { callback = c; inline = a }) offered.Nothing left)
       → Row ((0, Some (item.Outcome r)) ∷ []) 0 (λ n. either (n == 0) 1 n) (tries_first slot.Result (producer_holding u learned slot.Result (Some (item.Outcome r)))) (producer.Holding slot.Result) (consumer.Acted (demanded.Callback record { callback = c; inline = a }) offered.Nothing left)
   result_waits r c true left fit = (producer.Aware slot.Result true, keeps, tt, refl, refl, ((refl, fit.0), fit.1), ((λ e. absurd (omega arith)), other, inr (true, refl)))
@@ -175,6 +201,32 @@ module _ {T C P : Type 0} (id u : ℕ) (learned : Learned) where
   pub takes_proxy_slot : (slots : ℕ) (me : Standing T C P) → me ≡ producer_ready u learned → Allows StandsFor slots id me 0 (λ n. n) (takes_producer_slot slot.Proxy me)
   takes_proxy_slot slots me e = subst (λ m. Allows StandsFor slots id m 0 (λ n. n) (takes_producer_slot slot.Proxy m)) (sym e)
       (producer_steps id u learned [] 0 (λ n. n) (takes_producer_slot slot.Proxy (producer_ready u learned)) producer.Ready (λ n. cc) slots proxy_slot)
+
+  proxy_seen : (r : P) (c : C) (a : Bool) (left : Departure) → Fit {T = T} {C = C} {P = P} (producer.Holding slot.Proxy) (consumer.Acted (demanded.Callback record { callback = c; inline = a }) offered.Nothing left)
+      → Row ((2, Some (item.Proxy r)) ∷ []) 0 (λ n. n) (sees_waiting slot.Proxy (producer_holding u learned slot.Proxy (Some (item.Proxy r)))) (producer.Holding slot.Proxy) (consumer.Acted (demanded.Callback record { callback = c; inline = a }) offered.Nothing left)
+  proxy_seen r c true left fit = (producer.Aware slot.Proxy true, keeps, tt, refl, refl, ((refl, fit.0), fit.1), ((λ e. absurd (omega arith)), other, inr (true, refl)))
+    where
+      other : (b : Bool) → 6 ≡ code_of (waiting_state b) → ◌≡◌ {A = Standing T C P} (view.Producer u (producer.Aware slot.Proxy true) learned, (2, Some (item.Proxy r)) ∷ []) (view.Producer u (producer.Aware slot.Proxy b) learned, (2, Some (item.Proxy r)) ∷ [])
+      other true e = refl
+      other false e = absurd (omega arith)
+  proxy_seen r c false left fit = (producer.Aware slot.Proxy false, keeps, tt, refl, refl, ((refl, fit.0), fit.1), ((λ e. absurd (omega arith)), other, inr (false, refl)))
+    where
+      other : (b : Bool) → 2 ≡ code_of (waiting_state b) → ◌≡◌ {A = Standing T C P} (view.Producer u (producer.Aware slot.Proxy false) learned, (2, Some (item.Proxy r)) ∷ []) (view.Producer u (producer.Aware slot.Proxy b) learned, (2, Some (item.Proxy r)) ∷ [])
+      other true e = absurd (omega arith)
+      other false e = refl
+
+  proxy_look : (r : P) → Owes ((2, Some (item.Proxy r)) ∷ []) 0 (λ n. n) (sees_waiting slot.Proxy (producer_holding u learned slot.Proxy (Some (item.Proxy r)))) (producer.Holding slot.Proxy)
+  proxy_look r consumer.Ready fit low = (producer.Holding slot.Proxy, keeps, tt, refl, refl, fit, ((λ _. refl), (λ b e. absurd (never_start b e)), inl refl))
+  proxy_look r consumer.Holding fit low = (producer.Holding slot.Proxy, keeps, tt, refl, refl, fit, ((λ _. refl), (λ b e. absurd (never_start b e)), inl refl))
+  proxy_look r (consumer.Aware s) fit low = absurd fit.0
+  proxy_look r (consumer.Acted demanded.Nothing offered.Nothing left) fit low = (producer.Holding slot.Proxy, keeps, tt, refl, refl, fit, ((λ _. refl), (λ b e. absurd (never_start b e)), inl refl))
+  proxy_look r (consumer.Acted (demanded.Callback c) offered.Nothing left) fit low = proxy_seen r c.callback c.inline left fit
+  proxy_look r (consumer.Acted demand (offered.Result q) left) fit low = let e = fit.0 in cc
+  proxy_look r (consumer.Acted demand (offered.Proxy q) left) fit low = let e = fit.0 in cc
+
+  pub looks_before_proxy : (slots : ℕ) (r : P) (me : Standing T C P) → me ≡ producer_holding u learned slot.Proxy (Some (item.Proxy r)) → Allows StandsFor slots id me 0 (λ n. n) (sees_waiting slot.Proxy me)
+  looks_before_proxy slots r me e = subst (λ m. Allows StandsFor slots id m 0 (λ n. n) (sees_waiting slot.Proxy m)) (sym e)
+      (producer_steps id u learned ((2, Some (item.Proxy r)) ∷ []) 0 (λ n. n) (sees_waiting slot.Proxy (producer_holding u learned slot.Proxy (Some (item.Proxy r)))) (producer.Holding slot.Proxy) (λ n. cc) slots (proxy_look r))
 
   proxy_waits : (r : P) (c : C) (a : Bool) (left : Departure) → Fit {T = T} {C = C} {P = P} (producer.Holding slot.Proxy) (consumer.Acted (demanded.Callback record { callback = c; inline = a }) offered.Nothing left)
       → Row ((2, Some (item.Proxy r)) ∷ []) 0 (λ n. either (n == 0) 3 n) (tries_first slot.Proxy (producer_holding u learned slot.Proxy (Some (item.Proxy r)))) (producer.Holding slot.Proxy) (consumer.Acted (demanded.Callback record { callback = c; inline = a }) offered.Nothing left)

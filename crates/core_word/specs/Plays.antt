@@ -143,6 +143,13 @@ module _ {T C P : Type 0} where
       × (found ≢ 1 → after ≡ producer_ready (use_of before.0) (stay_seen (learned_of before.0)))
       × ((learned_of before.0).sight ≡ seen.CallbackLeft → found ≡ 1)
 
+  -- A producer's look before its exchange from Start. It sees that a callback waits, and whether it was set with the allowance; or it finds Start, and stands as before.
+  abbrev pub sees_waiting : ProducerSlot → Standing T C P → ℕ → Standing T C P → Type 0
+  sees_waiting o before found after =
+      (found ≡ code_of state.Start → after ≡ before)
+      × ((a : Bool) → found ≡ code_of (waiting_state a) → after ≡ (view.Producer (use_of before.0) (producer.Aware o a) (learned_of before.0), before.1))
+      × FindsStartOrWaiting found
+
   -- A producer's exchange from Start. It sets what its slot holds, or sees that a callback waits, and whether it was set with the allowance. One that had seen a callback doesn't find Start.
   abbrev pub tries_first : ProducerSlot → Standing T C P → ℕ → Standing T C P → Type 0
   tries_first o before found after =
@@ -157,6 +164,13 @@ module _ {T C P : Type 0} where
   abbrev pub sets_second : Standing T C P → ℕ → Standing T C P → Type 0
   sets_second before found after =
       (c : Request C) × (after ≡ (view.Producer (use_of before.0) (producer.Acted (offer_in_hand before.1) (demanded.Callback c) departed.No) (learned_of before.0), (1, Some (item.Callback c)) ∷ before.1))
+
+  -- A consumer's look before its exchange from Start. It sees what the producer has set; or it finds Start, and stands as before.
+  abbrev pub sees_offer : Standing T C P → ℕ → Standing T C P → Type 0
+  sees_offer before found after =
+      (found ≡ code_of state.Start → after ≡ before)
+      × (found ≡ code_of state.OnlyResult → after ≡ (view.Consumer (use_of before.0) (consumer.Aware state.OnlyResult), before.1))
+      × (found ≢ code_of state.Start → found ≢ code_of state.OnlyResult → after ≡ (view.Consumer (use_of before.0) (consumer.Aware state.Proxy), before.1))
 
   -- A consumer's exchange from Start. It sets the callback, or sees what the producer has set.
   abbrev pub demands_first : Standing T C P → ℕ → Standing T C P → Type 0

@@ -1,7 +1,7 @@
 //! The rule of a home's table, and what each step on it tells. These types are for the proofs alone.
 ghost use Rattle.core_word.specs.declared.view.ProducerSlot.TheVariants as slot;
 ghost use Rattle.core_word.specs.Rule.{StandsFor};
-ghost use Rattle.core_word.specs.Plays.{takes_producer_slot, takes_callback_slot, looks_for_callback, looks_for_leave, sets_first, sets_second, demands_first, demands_result, demands_proxy, leaves, reads_end, sets_back, reopens, compares, both_halves, begin_producer, begin_consumer};
+ghost use Rattle.core_word.specs.Plays.{takes_producer_slot, takes_callback_slot, looks_for_callback, looks_for_leave, sees_waiting, sets_first, sets_second, sees_offer, demands_first, demands_result, demands_proxy, leaves, reads_end, sets_back, reopens, compares, both_halves, begin_producer, begin_consumer};
 ghost use Rattle.core_word.specs.declared.view.View.TheVariants as view;
 
 use crate::view::{Item, View};
@@ -51,6 +51,18 @@ impl<T, C, P> Play<Option<Item<T, C, P>>, View<T, C, P>> for LooksForLeave {
     ghost then = { λ _. looks_for_leave };
 }
 
+pub(crate) struct LooksBeforeResult;
+
+impl<T, C, P> Play<Option<Item<T, C, P>>, View<T, C, P>> for LooksBeforeResult {
+    ghost then = { λ _. sees_waiting slot.Result };
+}
+
+pub(crate) struct LooksBeforeProxy;
+
+impl<T, C, P> Play<Option<Item<T, C, P>>, View<T, C, P>> for LooksBeforeProxy {
+    ghost then = { λ _. sees_waiting slot.Proxy };
+}
+
 pub(crate) struct SetsResult;
 
 impl<T, C, P> Play<Option<Item<T, C, P>>, View<T, C, P>> for SetsResult {
@@ -67,6 +79,12 @@ pub(crate) struct SetsSecond;
 
 impl<T, C, P> Play<Option<Item<T, C, P>>, View<T, C, P>> for SetsSecond {
     ghost then = { λ _. sets_second };
+}
+
+pub(crate) struct LooksBeforeCallback;
+
+impl<T, C, P> Play<Option<Item<T, C, P>>, View<T, C, P>> for LooksBeforeCallback {
+    ghost then = { λ _. sees_offer };
 }
 
 pub(crate) struct DemandsFirst;

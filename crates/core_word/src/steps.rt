@@ -20,9 +20,10 @@ ghost use Rattle.core_word.specs.Plays.{IsHome, Sits, producer_ready, producer_h
 
 use crate::left::Leftover;
 use crate::rule::{
-    CoreSeat, CoreTable, DemandsFirst, DemandsProxy, DemandsResult, Leaves, LooksForCallback,
-    LooksForLeave, ReadsEnd, Reopens, SetsBack, SetsProxy, SetsResult, SetsSecond,
-    TakesCallbackSlot, TakesProxySlot, TakesResultSlot,
+    CoreSeat, CoreTable, DemandsFirst, DemandsProxy, DemandsResult, Leaves, LooksBeforeCallback,
+    LooksBeforeProxy, LooksBeforeResult, LooksForCallback, LooksForLeave, ReadsEnd, Reopens,
+    SetsBack, SetsProxy, SetsResult, SetsSecond, TakesCallbackSlot, TakesProxySlot,
+    TakesResultSlot,
 };
 use crate::view::Item;
 use core_state::{Request, State, code};
@@ -171,7 +172,7 @@ fn take_proxy<T, C, P>(table: &CoreTable<T, C, P>, seat: &mut CoreSeat<T, C, P>)
 }
 
 /// Sets the result where nothing was set, and answers None. Else it has seen that a callback waits, and answers whether
-/// with the allowance to run inline.
+/// with the allowance to run inline. It looks first: a load costs less than an exchange that fails.
 pub(crate) fn set_first_result<T, C, P>(
     table: &CoreTable<T, C, P>,
     seat: &mut CoreSeat<T, C, P>,
@@ -184,6 +185,10 @@ pub(crate) fn set_first_result<T, C, P>(
     ensures awaited { IsAwaited (learned_of seat.old.me.0).sight → result ≢ None }
 {
     put(table, seat, RESULT, Item::Outcome(outcome));
+    let seen = table.load::<LooksBeforeResult>(seat, STATE);
+    if let Some(inline) = waiting_in(seen) {
+        return Some(inline);
+    }
     let start = code(State::Start);
     let only_result = code(State::OnlyResult);
     let found = table.compare_exchange::<SetsResult>(seat, STATE, start, only_result);
@@ -211,7 +216,7 @@ pub(crate) fn set_second_result<T, C, P>(
 }
 
 /// Sets the proxy where nothing was set, and answers None. Else it has seen that a callback waits, and answers whether
-/// with the allowance to run inline.
+/// with the allowance to run inline. It looks first.
 pub(crate) fn set_first_proxy<T, C, P>(
     table: &CoreTable<T, C, P>,
     seat: &mut CoreSeat<T, C, P>,
@@ -224,6 +229,10 @@ pub(crate) fn set_first_proxy<T, C, P>(
     ensures awaited { IsAwaited (learned_of seat.old.me.0).sight → result ≢ None }
 {
     put(table, seat, PROXY, Item::Proxy(to));
+    let seen = table.load::<LooksBeforeProxy>(seat, STATE);
+    if let Some(inline) = waiting_in(seen) {
+        return Some(inline);
+    }
     let start = code(State::Start);
     let proxy = code(State::Proxy);
     let found = table.compare_exchange::<SetsProxy>(seat, STATE, start, proxy);
@@ -250,7 +259,8 @@ pub(crate) fn set_second_proxy<T, C, P>(
     (proxy, request)
 }
 
-/// Sets the callback where nothing was set. It answers the state that it found: Start, or what the producer made.
+/// Sets the callback where nothing was set. It answers the state that it found: Start, or what the producer made. It looks
+/// first.
 pub(crate) fn demand_first<T, C, P>(
     table: &CoreTable<T, C, P>,
     seat: &mut CoreSeat<T, C, P>,
@@ -265,10 +275,18 @@ pub(crate) fn demand_first<T, C, P>(
     let waiting = code(waiting_with(request.inline));
     put(table, seat, CALLBACK, Item::Callback(request));
     let start = code(State::Start);
+    let only_result = code(State::OnlyResult);
+    let seen = table.load::<LooksBeforeCallback>(seat, STATE);
+    if seen == only_result {
+        return State::OnlyResult;
+    }
+    if seen != start {
+        return State::Proxy;
+    }
     let found = table.compare_exchange::<DemandsFirst>(seat, STATE, start, waiting);
     if found == start {
         State::Start
-    } else if found == code(State::OnlyResult) {
+    } else if found == only_result {
         State::OnlyResult
     } else {
         State::Proxy
