@@ -1,8 +1,8 @@
 //! The arrivals that the parts of a base's queries are for.
-ghost use Rattle.std.specs.Prelude.{◌≡◌, ◌≤◌, ◌^◌, None, IfOk, IfSome};
-ghost use Rattle.std.specs.Bool.{OnTrue};
+ghost use Rattle.std.specs.Prelude.{◌≡◌, ◌≤◌, ◌^◌, ◌+◌, ◌*◌, ◌/◌, None, IfNone, IfOk, IfSome, length};
+ghost use Rattle.std.specs.Bool.{OnFalse, OnTrue};
 ghost use Rattle.std.specs.List.{All};
-ghost use Rattle.run_gathering.specs.Awaited.{IsAwaited, IsFor};
+ghost use Rattle.run_gathering.specs.Awaited.{AwaitsNone, IsAwaited, IsFor, IsTaken, place_of, with_part};
 
 use collect_ops::Arrived;
 use core_word::Tally;
@@ -124,6 +124,7 @@ impl<'d, 'r: 'd, 'i: 'r, N: RunName> PartTable<'d, 'r, 'i, N> {
         requires highest { highest ≤ 50000 }
         ensures numbers { IfOk result (λ table. (table.bases ≡ bases) × (table.shards ≡ shards)) }
         ensures nothing { IfOk result (λ table. All (λ part. part ≡ None) table.parts) }
+        ensures places { IfOk result (λ table. length table.parts ≡ (highest / bases + 1) * shards) }
     {
         let count = (highest / bases + 1) * shards;
         let Ok(mut parts) = Vec::with_capacity(alloc, count as usize) else {
@@ -141,7 +142,8 @@ impl<'d, 'r: 'd, 'i: 'r, N: RunName> PartTable<'d, 'r, 'i, N> {
 
     /// Puts an arrival at its place. What stood there is spent; so is the arrival, where the table has no such place.
     pub fn put(&mut self, part: AwaitedPart<'d, 'r, 'i, N>)
-        ensures { (self.new.bases ≡ self.old.bases) × (self.new.shards ≡ self.old.shards) }
+        ensures same { (self.new.bases ≡ self.old.bases) × (self.new.shards ≡ self.old.shards) }
+        ensures put { self.new ≡ with_part part.entry self.old }
     {
         let place = self.place_of(part.number(), part.shard());
         if place >= self.parts.len() {
@@ -153,10 +155,12 @@ impl<'d, 'r: 'd, 'i: 'r, N: RunName> PartTable<'d, 'r, 'i, N> {
         }
     }
 
-    /// Takes the arrival for the part of this query and this shard. None where it is not there, or was taken.
+    /// Takes the arrival for the part of this query and this shard, so that its place is empty. None exactly where it is not at its place.
     pub fn take(&mut self, number: u32, shard: u32) -> Option<AwaitedPart<'d, 'r, 'i, N>>
         ensures part { IfSome result (λ part. IsFor number shard part) }
         ensures same { (self.new.bases ≡ self.old.bases) × (self.new.shards ≡ self.old.shards) }
+        ensures taken { IfSome result (λ part. IsTaken number shard self.old part self.new) }
+        ensures none { IfNone result (AwaitsNone number shard self.old self.new) }
     {
         let place = self.place_of(number, shard);
         if place >= self.parts.len() {
@@ -186,7 +190,9 @@ impl<'d, 'r: 'd, 'i: 'r, N: RunName> PartTable<'d, 'r, 'i, N> {
     }
 
     /// The place of the part of a query and a shard: the queries of one base differ in the quotient of their numbers by the number of bases.
-    fn place_of(&self, number: u32, shard: u32) -> usize {
+    fn place_of(&self, number: u32, shard: u32) -> usize
+        ensures { result ≡ place_of self.now number shard }
+    {
         let row = u64::from(number / self.bases);
         (row * u64::from(self.shards) + u64::from(shard)) as usize
     }
@@ -198,7 +204,8 @@ fn is_for<'d, 'r: 'd, 'i: 'r, N: RunName>(
     number: u32,
     shard: u32,
 ) -> bool
-    ensures { OnTrue result (IfSome slot.now (λ part. IsFor number shard part)) }
+    ensures holds { OnTrue result (IfSome slot.now (λ part. IsFor number shard part)) }
+    ensures lacks { OnFalse result (IfSome slot.now (λ part. IsFor number shard part → ⊥)) }
 {
     match slot {
         Some(part) => part.number() == number && part.shard() == shard,
