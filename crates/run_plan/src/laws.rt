@@ -55,8 +55,8 @@ pub fn place_by_place()
     comings_in_order();
 }
 
-// What comes is a query of the lines: its number is at most the number of queries, and its line stands at its place.
-pub(crate) fn comings_are_queries()
+/// What comes is a query of the lines: its number is at most the number of queries, and its line stands at its place.
+pub fn comings_are_queries()
     ensures number { (lines : List Line) (place : ℕ) (coming : Coming) → ComesAt lines place coming
         → (query_of coming).number ≤ length (queries_of lines) }
     ensures line { (lines : List Line) (place : ℕ) (asked : Asked) → ComesAt lines place (Coming.begins asked)
