@@ -1,3 +1,5 @@
 mod Begun
 mod KeyCounts
 mod Counting
+mod Places
+mod Awaiting

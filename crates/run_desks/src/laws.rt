@@ -2,6 +2,7 @@
 ghost use Rattle.std.specs.Prelude.{◌≡◌, ℕ, ◌≤◌, List, Some, length};
 ghost use Rattle.std.specs.List.{slice_get};
 ghost use Rattle.query_model.specs.declared.line.Line.TheVariants as line;
+ghost use Rattle.fan_model.specs.Comings.{comings_of};
 ghost use Rattle.fan_parts.specs.Facts.{IsAskOf, IsCountable};
 ghost use Rattle.fan_parts.specs.Seen.{AskSeen};
 ghost use Rattle.front_walk.specs.Following.{IsInput};
@@ -14,11 +15,12 @@ use fan_model::laws::comings_in_order;
 use fan_parts::RunName;
 use run_plan::laws::{turns_are_few, turns_are_of_the_run};
 
-/// Each turn is what comes at its place, and there are no more than 50,000.
+/// Each turn is what comes at its place, there is one for each that comes, and there are no more than 50,000.
 pub fn known_turns<N: RunName>()
     ensures each { (turns : List Turn) (place : ℕ) (turn : Turn) → AreTurnsOf N.asked.lines turns → IsInput N.asked.lines →
         IsCountable N.asked → slice_get turns place ≡ Some turn → IsTurnAt N.asked place turn }
     ensures few { (turns : List Turn) → AreTurnsOf N.asked.lines turns → IsInput N.asked.lines → length turns ≤ 50000 }
+    ensures as_many { (turns : List Turn) → AreTurnsOf N.asked.lines turns → length turns ≡ length (comings_of N.asked.lines) }
 {
     turns_are_of_the_run::<N>();
     turns_are_few();

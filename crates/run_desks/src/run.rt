@@ -1,12 +1,13 @@
 ghost use Rattle.std.specs.Prelude.{◌≡◌, ◌+◌, ◌<◌, ◌≤◌, ℕ, IfOk, OnOk, length, drop};
 ghost use Rattle.core_word.specs.Count.{Counts};
 ghost use Rattle.fan_model.specs.Comings.{comings_of};
+ghost use Rattle.fan_model.specs.Notes.{base_of};
 ghost use Rattle.front_walk.specs.Following.{IsInput};
 ghost use Rattle.query_opening.specs.Turns.{IsBegun};
 ghost use Rattle.run_plan.specs.Turns.{AreTurnsOf};
 ghost use Rattle.run_desks.specs.Counted.{HasMade};
 ghost use Rattle.run_desks.specs.Keys.{AreKeysOf, HasKeysFor};
-ghost use Rattle.run_desks.specs.Tables.{AreTablesOf};
+ghost use Rattle.run_desks.specs.Tables.{AreDealt, AreTablesOf};
 ghost use Rattle.run_desks.specs.Turns.{IsTurnAt};
 
 use crate::keys::DeskKeys;
@@ -15,9 +16,10 @@ use crate::opening::{OpenedQuery, open_query};
 use crate::tables::{await_parts, close_tables, new_tables};
 use core_word::Tally;
 use fan_base::Memory;
+use fan_model::laws::each_query_has_a_reply;
 use fan_parts::RunName;
 use run_gathering::PartTable;
-use run_plan::laws::place_by_place;
+use run_plan::laws::{comings_are_queries, place_by_place};
 use run_plan::{BegunQuery, Turn};
 use std::sync::Wait;
 
@@ -35,8 +37,8 @@ impl<'d, 'r: 'd, 'i: 'r, N: RunName> OpenDesks<'d, 'r, 'i, N> {
     }
 }
 
-/// Opens the desks of all queries that are begun, in the order of answers, and begins the cores of their replies. Where memory runs out, all of
-/// them are given up: no reply is posted.
+/// Opens the desks of all queries that are begun, in the order of answers, and begins the cores of their replies. The arrivals at them stand in
+/// their bases' tables. Where memory runs out, all of them are given up: no reply is posted.
 pub fn open_desks<'d, 'r: 'd, 'i: 'r, N: RunName + 'static, R: Wait>(
     rt: &R,
     turns: &[Turn],
@@ -47,6 +49,7 @@ pub fn open_desks<'d, 'r: 'd, 'i: 'r, N: RunName + 'static, R: Wait>(
     requires of { AreKeysOf N.asked keys }
     requires keys { HasKeysFor (comings_of N.asked.lines) keys }
     ensures tables { IfOk result (λ opened. AreTablesOf N.asked opened.tables.items) }
+    ensures dealt { IfOk result (λ opened. AreDealt N.asked (length turns.now) opened.tables.items) }
     ensures counted { IfOk result (λ opened. HasMade N.asked 0 (length turns.now) keys.entry.tally opened.tally) }
 {
     known_turns::<N>();
@@ -78,7 +81,9 @@ fn open_all<'d, 'r: 'd, 'i: 'r, N: RunName + 'static, R: Wait>(
     requires of { AreKeysOf N.asked keys.old }
     requires keys { HasKeysFor (comings_of N.asked.lines) keys.old }
     requires tables { AreTablesOf N.asked tables.old.items }
+    requires dealt { AreDealt N.asked 0 tables.old.items }
     ensures tables { AreTablesOf N.asked tables.new.items }
+    ensures dealt { OnOk result (AreDealt N.asked (length turns.now) tables.new.items) }
     ensures counted { OnOk result (HasMade N.asked 0 (length turns.now) keys.old.tally keys.new.tally) }
 {
     known_turns::<N>();
@@ -101,8 +106,10 @@ fn open_turn<'d, 'r: 'd, 'i: 'r, N: RunName + 'static, R: Wait>(
     requires of { AreKeysOf N.asked keys.old }
     requires keys { HasKeysFor (drop place (comings_of N.asked.lines)) keys.old }
     requires tables { AreTablesOf N.asked tables.old.items }
+    requires dealt { AreDealt N.asked place tables.old.items }
     ensures of { AreKeysOf N.asked keys.new }
     ensures tables { AreTablesOf N.asked tables.new.items }
+    ensures dealt { OnOk result (AreDealt N.asked (place + 1) tables.new.items) }
     ensures counted { (start : ℕ) (first : Counts) → start ≤ place → HasMade N.asked start place first keys.old.tally →
         OnOk result (HasMade N.asked start (place + 1) first keys.new.tally) }
     ensures keys { OnOk result (HasKeysFor (drop (place + 1) (comings_of N.asked.lines)) keys.new) }
@@ -117,7 +124,7 @@ fn open_turn<'d, 'r: 'd, 'i: 'r, N: RunName + 'static, R: Wait>(
     }
 }
 
-/// Opens the desk of a query that is begun, and puts its arrivals into the table of its base.
+/// Opens the desk of a query that is begun, and puts its arrivals into the table of its base, each at its place.
 fn begin_query<'d, 'r: 'd, 'i: 'r, N: RunName + 'static, R: Wait>(
     rt: &R,
     query: BegunQuery,
@@ -129,13 +136,17 @@ fn begin_query<'d, 'r: 'd, 'i: 'r, N: RunName + 'static, R: Wait>(
     requires of { AreKeysOf N.asked keys.old }
     requires keys { HasKeysFor (drop place (comings_of N.asked.lines)) keys.old }
     requires tables { AreTablesOf N.asked tables.old.items }
+    requires dealt { AreDealt N.asked place tables.old.items }
     ensures of { AreKeysOf N.asked keys.new }
     ensures tables { AreTablesOf N.asked tables.new.items }
+    ensures dealt { OnOk result (AreDealt N.asked (place + 1) tables.new.items) }
     ensures counted { (start : ℕ) (first : Counts) → start ≤ place → HasMade N.asked start place first keys.old.tally →
         OnOk result (HasMade N.asked start (place + 1) first keys.new.tally) }
     ensures keys { OnOk result (HasKeysFor (drop (place + 1) (comings_of N.asked.lines)) keys.new) }
 {
     begun_query_is_asked::<N>();
+    comings_are_queries();
+    each_query_has_a_reply();
     place_by_place();
     let OpenedQuery { ask, arrivals } = open_query(rt, keys, place, query)?;
     let number = ask.number();
@@ -148,7 +159,8 @@ fn begin_query<'d, 'r: 'd, 'i: 'r, N: RunName + 'static, R: Wait>(
 fn base_place(number: u32, bases: u32) -> usize
     requires number { 1 ≤ number }
     requires bases { 1 ≤ bases }
-    ensures { result < bases }
+    ensures within { result < bases }
+    ensures base { 1 + result ≡ base_of bases number }
 {
     ((number - 1) % bases) as usize
 }

@@ -6,6 +6,7 @@ pub loop-place-init : goal.loop-place-init
 loop-place-init g c = record {
   of = c.requires.of;
   tables = c.requires.tables;
+  dealt = c.requires.dealt;
   counted = counted_none g.N.RunName.asked 0 c.args.keys.now.tally (c.place_by_place.ensures.none g.N.RunName.asked.lines 0);
   keys = c.requires.keys;
 }
@@ -18,6 +19,7 @@ loop-place-preserved g c =
     record {
       of = e.of;
       tables = e.tables;
+      dealt = ok.dealt;
       counted = ok.counted 0 c.args.keys.now.tally (omega arith) i.counted;
       keys = ok.keys;
     }
