@@ -1,7 +1,7 @@
 -- What the stages of a run spend, and what they come to, crosses threads.
 use denote.RattleType.{RattleType}
 use denote.Ref.{NamedLft}
-use denote.Param.Send.{IsSend, IsSync, view_send, recorded_send, struct_send, sendable}
+use denote.Param.Send.{IsSend, view_send, recorded_send, struct_send, sendable}
 use denote.Struct.Declared.{shape}
 use Rattle.std.proofs.Crossing.{crosses}
 use Rattle.std.proofs.alloc.Global.TheSendSync as global_std

@@ -11,8 +11,6 @@ use Rattle.prio_pool.specs.Priority.{queue_in}
 use Rattle.query_tasks.specs.Starting.{adds_for}
 use Rattle.run_notes.specs.Told.{run_of_add}
 use Rattle.run_front.proofs.Running.{added_few, added_runs, queue_is, runs_more}
-use Rattle.fan_parts.specs.Seen.{PosterSeen}
-use Rattle.fan_parts.specs.declared.jobs.PrintJob.{PrintJob}
 use Rattle.run_front.proofs.Posting.{posted_begun}
 use Rattle.run_front.proofs.Running.{on_ok}
 use Rattle.run_front.proofs.early.early_query.Goals as goal

@@ -1,5 +1,4 @@
-use Rattle.std.proofs.Common.{◌+◌, drop, map, subst, arith}
-use Rattle.fan_model.specs.Comings.{comings_of}
+use Rattle.std.proofs.Common.{map, subst, arith}
 use Rattle.fan_model.specs.Tasks.{pool_exec}
 use Rattle.pool_model.specs.Passes.{adds_of}
 use Rattle.query_opening.specs.Turns.{IsCancelled}

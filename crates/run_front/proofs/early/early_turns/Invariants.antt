@@ -1,5 +1,4 @@
-use Rattle.std.proofs.Common.{List, ◌≡◌, ◌≤◌, ◌*◌, [], length, map, drop}
-use Rattle.fan_model.specs.Comings.{comings_of}
+use Rattle.std.proofs.Common.{List, ◌≡◌, ◌≤◌, ◌*◌, [], length, map}
 use Rattle.fan_model.specs.Tasks.{pool_exec}
 use Rattle.pool_model.specs.Passes.{adds_of}
 use Rattle.query_tasks.specs.Starting.{HasHelped}

@@ -9,8 +9,6 @@ use Rattle.fan_parts.specs.Facts.{IsAskOf}
 use Rattle.query_tasks.specs.Starting.{runs_for}
 use Rattle.run_notes.specs.Told.{run_of_direct}
 use Rattle.run_front.proofs.Running.{runs_more}
-use Rattle.fan_parts.specs.Seen.{PosterSeen}
-use Rattle.fan_parts.specs.declared.jobs.PrintJob.{PrintJob}
 use Rattle.run_front.proofs.Posting.{posted_begun}
 use Rattle.run_front.proofs.Running.{on_ok}
 use Rattle.run_front.proofs.late.late_query.Goals as goal

@@ -1,5 +1,4 @@
-use Rattle.std.proofs.Common.{◌+◌, drop, map, subst}
-use Rattle.fan_model.specs.Comings.{comings_of}
+use Rattle.std.proofs.Common.{map, subst}
 use Rattle.fan_model.specs.Tasks.{front_exec}
 use Rattle.query_opening.specs.Turns.{IsCancelled}
 use Rattle.run_notes.specs.Told.{run_of_direct}

@@ -1,5 +1,4 @@
-use Rattle.std.proofs.Common.{List, ◌≡◌, false, map, drop}
-use Rattle.fan_model.specs.Comings.{comings_of}
+use Rattle.std.proofs.Common.{List, ◌≡◌, false, map}
 use Rattle.fan_model.specs.Tasks.{front_exec}
 use Rattle.run_notes.specs.Told.{run_of_direct}
 use Rattle.run_tasks.specs.Worlds.{Follows, told_of}

@@ -1,4 +1,4 @@
-use Rattle.std.proofs.Common.{◌≡◌, Bool, true, false, not, List, ◌++◌, ◌∷◌, [], length, refl, sym, ap, ◌∙◌, subst, true≢false}
+use Rattle.std.proofs.Common.{◌≡◌, Bool, true, false, not, List, ◌++◌, ◌∷◌, [], refl, sym, ap, ◌∙◌, subst, true≢false}
 use Rattle.std.specs.Bool.{OnTrue}
 use Rattle.pool_model.specs.Seen.{EndSeen}
 use Rattle.run_notes.specs.Accounts.{AllDone}
