@@ -1,5 +1,5 @@
 -- Worlds and slots that are made one by one.
-use Rattle.std.proofs.Common.{◌≡◌, ℕ, zero, suc, ◌+◌, ◌<◌, List, [], ◌∷◌, ◌++◌, length, get_or, length-append, refl, sym, ap, ◌∙◌, subst, arith}
+use Rattle.std.proofs.Common.{◌≡◌, ℕ, zero, suc, ◌+◌, ◌<◌, List, [], ◌∷◌, ◌++◌, map, length, get_or, length-append, append-nil, Option, refl, sym, ap, ◌∙◌, subst, arith}
 use Rattle.std.specs.Prelude.{Some, None}
 use Rattle.std.proofs.lemmas.List.{get_or-map}
 use Rattle.event_base.specs.Seen.{BaseSeen, new_base}
@@ -23,7 +23,7 @@ use Rattle.run_gathering.specs.Awaited.{TableSeen}
 use Rattle.run_threads.specs.declared.gatherer.GatherSlot.{GatherSlot}
 use Rattle.run_setup.specs.Ids.{RunIds}
 use Rattle.run_setup.specs.Opening.{AreNewBases, IsPrinterColumn}
-use Rattle.run_setup.specs.Slots.{AreGatherSlots, IsGatherSlot, new_printer_poster}
+use Rattle.run_setup.specs.Slots.{AreGatherSlots, HaveTables, IsGatherSlot, new_printer_poster}
 use Rattle.run_setup.proofs.Each.{EachFrom, each_first, each_none, each_push, each_rest}
 
 -- the pass of this pool with this number
@@ -132,3 +132,32 @@ module _ {N : Type 0} where
         ∙ get_or-map (λ (b : BaseSeen (GatherJob N)). b.queue.queue) made.bases.items k d q (omega (arith, below, is.as_many)) in
         (is.bases_are k d below).is_new ∙ ap (λ (x : QueueId). new_base (exec_at 1 k) 0 x (ids.workers + 1)) (sym at);
   }
+
+module _ {N : Type 0} {g : Ghosts N} where
+  -- the tables of the slots that are made, and behind them those that are left
+  pub record TablesSoFar (slots : List (GatherSlot N g)) (given tables : List TableSeen) : Type 0 where
+    pub are : map (λ (slot : GatherSlot N g). slot.table) slots ++ map (λ (table : TableSeen). Some table) given ≡ map (λ (table : TableSeen). Some table) tables
+
+  pub tables-none : (slots : List (GatherSlot N g)) (given tables : List TableSeen) → slots ≡ [] → given ≡ tables → TablesSoFar slots given tables
+  tables-none slots given tables none same = record {
+    are = ap (λ (l : List (GatherSlot N g)). map (λ (slot : GatherSlot N g). slot.table) l ++ map (λ (table : TableSeen). Some table) given) none
+        ∙ ap (λ (l : List TableSeen). map (λ (table : TableSeen). Some table) l) same;
+  }
+
+  moved : (slots : List (GatherSlot N g)) (slot : GatherSlot N g) (t : TableSeen) (rest : List TableSeen) → slot.table ≡ Some t
+      → map (λ (x : GatherSlot N g). x.table) (slots ++ slot ∷ []) ++ map (λ (table : TableSeen). Some table) rest
+      ≡ map (λ (x : GatherSlot N g). x.table) slots ++ map (λ (table : TableSeen). Some table) (t ∷ rest)
+  moved [] slot t rest has = ap (λ (o : Option TableSeen). o ∷ map (λ (table : TableSeen). Some table) rest) has
+  moved (x ∷ xs) slot t rest has = ap (λ (l : List (Option TableSeen)). x.table ∷ l) (moved xs slot t rest has)
+
+  pub tables-more : (slots new : List (GatherSlot N g)) (slot : GatherSlot N g) (given rest tables : List TableSeen) (t : TableSeen) → given ≡ t ∷ rest → slot.table ≡ Some t
+      → new ≡ slots ++ slot ∷ [] → TablesSoFar slots given tables → TablesSoFar new rest tables
+  tables-more slots new slot given rest tables t next has pushed so = record {
+    are = ap (λ (l : List (GatherSlot N g)). map (λ (x : GatherSlot N g). x.table) l ++ map (λ (table : TableSeen). Some table) rest) pushed
+        ∙ (moved slots slot t rest has
+        ∙ (ap (λ (l : List TableSeen). map (λ (x : GatherSlot N g). x.table) slots ++ map (λ (table : TableSeen). Some table) l) (sym next) ∙ so.are));
+  }
+
+  pub tables-all : (slots : List (GatherSlot N g)) (given tables : List TableSeen) → length given ≡ 0 → TablesSoFar slots given tables → HaveTables slots tables
+  tables-all slots [] tables none so = record { are = sym (append-nil (map (λ (x : GatherSlot N g). x.table) slots)) ∙ so.are }
+  tables-all slots (t ∷ ts) tables none so = absurd (omega (arith, none))

@@ -56,6 +56,10 @@ module _ {N : Type 0} {g : Ghosts N} where
     pub has_table : slot.table ≡ Some table
     pub none : slot.stage ≡ None
 
+  -- in these slots stand these tables: in the first one the first, and so on
+  pub record HaveTables (slots : List (GatherSlot N g)) (tables : List TableSeen) : Type 0 where
+    pub are : map (λ (slot : GatherSlot N g). slot.table) slots ≡ map (λ (table : TableSeen). Some table) tables
+
   -- the slots of all gathering bases, by base
   pub record AreGatherSlots (asked : Asking) (ids : RunIds) (slots : List (GatherSlot N g)) : Type 0 where
     pub as_many : length slots ≡ asked.bases

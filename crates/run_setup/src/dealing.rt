@@ -9,7 +9,7 @@ ghost use Rattle.run_tasks.specs.Worlds.{told_of};
 ghost use Rattle.run_setup.specs.Ids.{RunIds};
 ghost use Rattle.run_setup.specs.Opening.{AreNewBases, IsDealing, IsPrinterColumn};
 ghost use Rattle.run_setup.specs.Rows.{row_of};
-ghost use Rattle.run_setup.specs.Slots.{AreGatherSlots, AreWorkers, IsNewWorld};
+ghost use Rattle.run_setup.specs.Slots.{AreGatherSlots, AreWorkers, HaveTables, IsNewWorld};
 
 use crate::cells::{TaskCellPass, TaskCells};
 use crate::rooms::WorldRoom;
@@ -100,7 +100,7 @@ impl<'c, 't, 'i: 't, N: RunName> Dealing<'c, 't, 'i, N> {
     }
 }
 
-/// The slots of all gathering bases, by base, each with the last poster of the printer's column and its table.
+/// The slots of all gathering bases, by base, each with the last poster of the printer's column and its table: the first base has the first.
 pub(crate) fn gather_slots<'d, 'r: 'd, 'i: 'r, N: RunName>(
     alloc: Global,
     bases: Vec<EventBase<GatherJob<N>>>,
@@ -117,6 +117,7 @@ pub(crate) fn gather_slots<'d, 'r: 'd, 'i: 'r, N: RunName>(
     requires bases { (ids : RunIds) × AreNewBases N.asked ids bases.items × IsPrinterColumn N.asked ids (suc N.asked.bases) column.old }
     ensures slots { (ids : RunIds) → AreNewBases N.asked ids bases.items → IsPrinterColumn N.asked ids (suc N.asked.bases) column.old
         → AreGatherSlots N.asked ids result.items }
+    ensures tables { HaveTables result.items tables.entry.items }
     ensures column { (ids : RunIds) → AreNewBases N.asked ids bases.items → IsPrinterColumn N.asked ids (suc N.asked.bases) column.old
         → IsPrinterColumn N.asked ids 1 column.new }
 {

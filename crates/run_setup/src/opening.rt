@@ -3,6 +3,7 @@ ghost use Rattle.core_cells.specs.Seen.{AreAll};
 ghost use Rattle.run_setup.specs.Ids.{RunIds};
 ghost use Rattle.run_setup.specs.Opening.{HasOpened, IsSetup};
 ghost use Rattle.run_setup.specs.Rooms.{HasRooms};
+ghost use Rattle.run_setup.specs.Slots.{HaveTables};
 
 use crate::cells::{TaskCellPass, TaskCells};
 use crate::closing::Back;
@@ -49,7 +50,7 @@ pub struct Setup<'c, 't, 'd: 't, 'r: 'd, 'i: 'r, N: RunName> {
 }
 
 /// Opens a run with 1 to 32 workers and 1 to 8 gathering bases. `passes` are all passes of the cells, one for each worker and one for the front, and `tables`
-/// those of the arrivals for the queries' parts, one for each gathering base.
+/// those of the arrivals for the queries' parts, one for each gathering base: the first base gets the first.
 /// Where memory runs out, all that was opened is closed again.
 pub fn open_run<'c, 't, 'd: 't, 'r: 'd, 'i: 'r, N: RunName + 'static, R: Wait>(
     rt: &R,
@@ -67,7 +68,8 @@ pub fn open_run<'c, 't, 'd: 't, 'r: 'd, 'i: 'r, N: RunName + 'static, R: Wait>(
     requires passes { length passes.items ≡ workers + 1 }
     requires all { AreAll cells.now passes.items }
     requires tables { length tables.items ≡ bases }
-    ensures { IfOk result (λ setup. (ids : RunIds) × (ids.workers ≡ workers) × (ids.cells ≡ cells.now) × IsSetup N.asked ids setup) }
+    ensures setup { IfOk result (λ setup. (ids : RunIds) × (ids.workers ≡ workers) × (ids.cells ≡ cells.now) × IsSetup N.asked ids setup) }
+    ensures tables { IfOk result (λ setup. HaveTables setup.gatherers.items tables.entry.items) }
 {
     let Ok(rooms) = Rooms::new(alloc, workers, bases) else {
         close_tables(tables);
@@ -105,7 +107,8 @@ fn deal_out<'c, 't, 'd: 't, 'r: 'd, 'i: 'r, N: RunName>(
     requires tables { length tables.items ≡ bases }
     requires rooms { HasRooms workers bases rooms }
     requires opened { HasOpened N.asked workers bases opened }
-    ensures { (ids : RunIds) × (ids.workers ≡ workers) × (ids.cells ≡ cells.now) × IsSetup N.asked ids result }
+    ensures setup { (ids : RunIds) × (ids.workers ≡ workers) × (ids.cells ≡ cells.now) × IsSetup N.asked ids result }
+    ensures tables { HaveTables result.gatherers.items tables.entry.items }
 {
     let Rooms {
         worlds,

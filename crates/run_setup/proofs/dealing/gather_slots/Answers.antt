@@ -1,4 +1,4 @@
-use Rattle.std.proofs.Common.{◌≡◌, ◌+◌, suc, List, [], ◌∷◌, length, length-append, refl, sym, ap, subst, arith}
+use Rattle.std.proofs.Common.{◌≡◌, ◌+◌, suc, List, [], ◌∷◌, length, length-append, refl, sym, ap, ◌∙◌, subst, arith}
 use Rattle.std.specs.Prelude.{Some, None}
 use Rattle.std.specs.Vec.Iter.{into_iter_items}
 use Rattle.event_base.specs.Seen.{BaseSeen}
@@ -8,7 +8,7 @@ use Rattle.fan_parts.specs.declared.jobs.PrintJob.{PrintJob}
 use Rattle.notify_queue.specs.Ends.{Sending}
 use Rattle.run_threads.specs.declared.gatherer.GatherSlot.{GatherSlot}
 use Rattle.run_setup.specs.Opening.{AreNewBases}
-use Rattle.run_setup.proofs.DealLemmas.{SlotsSoFar, poster-new, slots-all, slots-more, slots-none}
+use Rattle.run_setup.proofs.DealLemmas.{SlotsSoFar, poster-new, slots-all, slots-more, slots-none, tables-all, tables-more, tables-none}
 use Rattle.run_setup.proofs.dealing.gather_slots.Goals as goal
 
 pub loop-base-init : goal.loop-base-init
@@ -18,6 +18,7 @@ loop-base-init g c =
     record {
       room = omega (arith, ap length same, ap length c.requires.empty, c.requires.room);
       tables = omega (arith, ap length same, ap length c.into_iter-given.ensures.rest, c.requires.tables);
+      dealt = tables-none c.args.room.items (into_iter_items c.into_iter-given.result) c.args.tables.items c.requires.empty c.into_iter-given.ensures.rest;
       so_far = λ ids are is. slots-none g.N.RunName.asked ids c.args.room.items items c.args.column.now c.requires.empty
           (subst (λ (l : List (BaseSeen (GatherJob g.row.N.Denot))). AreNewBases g.N.RunName.asked ids l) (sym same) are) is;
     }
@@ -53,6 +54,7 @@ loop-base-preserved g c =
     record {
       room = omega (arith, i.room, long, ap length next, c.push_reserved.ensures.capacity);
       tables = omega (arith, i.tables, ap length next, ap length c.in-Some-next.ensures.cases.0);
+      dealt = tables-more made c.push_reserved.new.self.items slot (into_iter_items c.loop-base.given) _ c.args.tables.items c.in-Some-next.table c.in-Some-next.ensures.cases.0 refl pushed i.dealt;
       so_far = λ ids are is.
           let so = subst (λ (l : List (BaseSeen (GatherJob g.row.N.Denot))). SlotsSoFar asked ids made l c.loop-base.column) next (i.so_far ids are is) in
           let taken = c.take_one.ensures.poster ids.printer (printer_exec asked.bases) (asked.bases + 1) (suc (length rest)) (asked.bases + 1) so.column_is.is in
@@ -71,3 +73,8 @@ pub returns-clause-column : goal.returns-clause-column
 returns-clause-column g c = λ ids are is.
     let none : length (into_iter_items c.loop-base.left) ≡ 0 = omega (arith, c.in_default.ensures.cases.0, c.loop-base.left.rest.ok.0) in
     (slots-all g.N.RunName.asked ids c.loop-base.slots.items (into_iter_items c.loop-base.left) c.loop-base.column (c.loop-base.invariant.so_far ids are is) none).1
+
+pub returns-clause-tables : goal.returns-clause-tables
+returns-clause-tables g c =
+    let none : length (into_iter_items c.loop-base.left) ≡ 0 = omega (arith, c.in_default.ensures.cases.0, c.loop-base.left.rest.ok.0) in
+    tables-all c.loop-base.slots.items (into_iter_items c.loop-base.given) c.args.tables.items (c.loop-base.invariant.tables ∙ none) c.loop-base.invariant.dealt

@@ -82,8 +82,8 @@ destroy_empty-requires g c =
     (dealing-first asked ids _ (opened-bases asked c.args.workers c.args.opened o) refl (opened-columns asked c.args.workers c.args.opened o) c.requires.passes c.requires.all r.worlds r.each_world)) in
     omega (arith, left.rooms, c.next_world-world.new.self.rooms.ok.0)
 
-pub returns : goal.returns
-returns g c =
+pub returns-clause-setup : goal.returns-clause-setup
+returns-clause-setup g c =
     let asked = g.N.RunName.asked in
     let o = subst (λ (n : ℕ). HasOpened asked c.args.workers n c.args.opened) c.requires.bases.0 c.requires.opened in
     let r = subst (λ (n : ℕ). HasRooms c.args.workers n c.args.rooms) c.requires.bases.0 c.requires.rooms in
