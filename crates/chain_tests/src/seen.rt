@@ -48,6 +48,26 @@ impl Seen {
         (t.made(), t.handed(), t.forwarded(), t.freed())
     }
 
+    // What both have seen. The end is that of the other one, where it has seen one.
+    pub(crate) fn with(mut self, other: Seen) -> Seen {
+        self.add(other);
+        self
+    }
+
+    pub(crate) fn add(&mut self, other: Seen) {
+        self.fires = self.fires.saturating_add(other.fires);
+        self.left_over = self.left_over.saturating_add(other.left_over);
+        self.refused = self.refused.saturating_add(other.refused);
+        if other.end.is_some() {
+            self.end = other.end;
+            self.exec = other.exec;
+        }
+        if other.unclaimed.is_some() {
+            self.unclaimed = other.unclaimed;
+        }
+        self.counted(other.tally);
+    }
+
     pub(crate) fn refuse(&mut self) {
         self.refused = self.refused.saturating_add(1);
     }

@@ -65,3 +65,19 @@ impl<'i, C> ValueStep<u64> for Name<'i, C> {
         Step::Later(self.0.open())
     }
 }
+
+// Adds its number to the value.
+#[derive(Drop)]
+pub(crate) struct Add(pub(crate) u64);
+
+impl ValueStep<u64> for Add {
+    type Out = u64;
+
+    type Later = NoProxy;
+
+    ghost gives = { λ _ _ _. Unit {0} };
+
+    fn of(self, value: u64) -> Step<u64, NoProxy> {
+        Step::Now(Try::Value(value.saturating_add(self.0)))
+    }
+}
