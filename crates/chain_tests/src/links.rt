@@ -5,7 +5,7 @@ use crate::seen::{Counts, Followed, Plain, Seen, closed};
 use crate::steps::{Add, Name};
 use core_proxy::{NoProxy, Proxy};
 use core_word::{Consumer, Home, Key};
-use fan_base::{ExecId, Parcel, Refused, Try};
+use fan_base::{ExecId, Gate, HoldGate, JobId, Parcel, Refused, Try};
 use job_steps::{OnValue, ValueStep};
 use promise_api::{Chain, Future, Promise, promise};
 use std::alloc::Global;
@@ -84,35 +84,20 @@ where
     }
 }
 
-// The value that a chain begins with, and how its first promise is kept: before anything is chained, after all is, or by
-// another thread.
+// The value that a chain begins with, and whether another thread keeps its promises. The value says in which order they are
+// kept, and on one thread which of them before anything is chained.
 #[derive(Clone, Copy)]
 struct Plan {
-    value: u64,
-    first: First,
-    inner_early: bool,
-}
-
-#[derive(Clone, Copy, PartialEq, Eq)]
-enum First {
-    Early,
-    Late,
-    Beside,
-}
-
-// A future and the links that are to be chained to it.
-struct Waiting<'h, C, L> {
-    future: Future<'h, u64, C, NoProxy>,
-    links: L,
-}
-
-// Keeps the promise, if that wasn't done before.
-fn kept<R: Wait, C: Followed>(
-    rt: &R,
     alloc: Global,
-    to: &mut Option<Promise<'_, u64, C, NoProxy>>,
     value: u64,
-) -> Seen
+    threads: bool,
+}
+
+// A core's promise, as long as it wasn't kept.
+type Open<'h, C> = Option<Promise<'h, u64, C, NoProxy>>;
+
+// Keeps a promise, if that wasn't done before.
+fn kept<R: Wait, C: Followed>(rt: &R, alloc: Global, to: &mut Open<'_, C>, value: u64) -> Seen
     ensures { to.new ≡ None }
 {
     let mut seen = Seen::nothing();
@@ -121,6 +106,31 @@ fn kept<R: Wait, C: Followed>(
         seen.after(rt, alloc, after);
     }
     seen
+}
+
+// Keeps the first core's promise by the value, and the inner one's by ten times the value.
+fn both_kept<R: Wait, C: Followed, I: Followed>(
+    rt: &R,
+    alloc: Global,
+    first: &mut Open<'_, C>,
+    inner: &mut Open<'_, I>,
+    value: u64,
+) -> Seen
+    ensures { first.new ≡ None }
+{
+    let tenfold = value.saturating_mul(10);
+    if value % 2 == 0 {
+        let seen = kept(rt, alloc, first, value);
+        return seen.with(kept(rt, alloc, inner, tenfold));
+    }
+    let seen = kept(rt, alloc, inner, tenfold);
+    seen.with(kept(rt, alloc, first, value))
+}
+
+// A future, and the links that are to be chained to it.
+struct Waiting<'h, C, L> {
+    future: Future<'h, u64, C, NoProxy>,
+    links: L,
 }
 
 // Chains the links, if that wasn't done before.
@@ -138,72 +148,107 @@ fn chained<R: Wait, C: Followed, L: Links<C>>(
     seen
 }
 
-// One thread keeps the promise and the other one chains the links. Each runs those whose fires it gets.
-fn beside<R: Threads + Wait + Sync, C: Followed + Send, L: Links<C> + Send>(
+// One thread keeps the promises and the other one chains the links, where they can at the same time. Each runs the links whose
+// fires it gets.
+fn beside<R, C, I, L>(
     rt: &R,
     alloc: Global,
-    to: &mut Option<Promise<'_, u64, C, NoProxy>>,
+    first: &mut Open<'_, C>,
+    inner: &mut Open<'_, I>,
     value: u64,
     waiting: &mut Option<Waiting<'_, C, L>>,
-) -> Seen {
+) -> Seen
+where
+    R: Threads + Wait + Sync,
+    C: Followed + Send,
+    I: Followed + Send,
+    L: Links<C> + Send,
+{
+    let gate = HoldGate::new(JobId(1), JobId(2), 10_000);
     let (one, two) = thread::join(
         rt,
-        || kept(rt, alloc, to, value),
-        || chained(rt, alloc, waiting),
+        || {
+            gate.before(JobId(1));
+            both_kept(rt, alloc, first, inner, value)
+        },
+        || {
+            gate.before(JobId(2));
+            chained(rt, alloc, waiting)
+        },
     );
     one.with(two)
 }
 
-// Promises the first core, chains these links to it, and keeps the promise.
-fn run<R: Threads + Wait + Sync, C: Followed + Send, L: Links<C> + Send>(
+// Promises the first core, chains these links to it, and keeps the promises.
+fn run<R, C, I, L>(
     rt: &R,
-    alloc: Global,
-    key: Key<'_, u64, C, NoProxy>,
-    links: L,
     plan: Plan,
-) -> Seen {
+    key: Key<'_, u64, C, NoProxy>,
+    inner: &mut Open<'_, I>,
+    links: L,
+) -> Seen
+where
+    R: Threads + Wait + Sync,
+    C: Followed + Send,
+    I: Followed + Send,
+    L: Links<C> + Send,
+{
+    let Plan {
+        alloc,
+        value,
+        threads,
+    } = plan;
     let mut seen = Seen::nothing();
     let (to, future) = promise(key, 1, ExecId(3), &mut seen.tally);
-    let mut to = Some(to);
+    let mut first = Some(to);
     let mut waiting = Some(Waiting { future, links });
-    let early = match plan.first {
-        First::Early => kept(rt, alloc, &mut to, plan.value),
-        First::Late => Seen::nothing(),
-        First::Beside => beside(rt, alloc, &mut to, plan.value, &mut waiting),
-    };
-    let chained = chained(rt, alloc, &mut waiting);
-    let late = kept(rt, alloc, &mut to, plan.value);
-    let None = to else { unreachable!() };
+    if threads {
+        seen.add(beside(rt, alloc, &mut first, inner, value, &mut waiting));
+    }
+    if value / 2 % 2 == 0 {
+        seen.add(kept(rt, alloc, &mut first, value));
+    }
+    if value / 4 % 2 == 0 {
+        seen.add(kept(rt, alloc, inner, value.saturating_mul(10)));
+    }
+    seen.add(chained(rt, alloc, &mut waiting));
+    seen.add(both_kept(rt, alloc, &mut first, inner, value));
+    let None = first else { unreachable!() };
     let None = waiting else { unreachable!() };
-    seen.with(early).with(chained).with(late)
+    seen
 }
 
 // The homes are made from the last one to the first one, since the callbacks of each stand on those made before it.
-fn with_one<R: Threads + Wait + Sync, C: Followed + Send, L: Links<C> + Drop + Send>(
-    rt: &R,
-    alloc: Global,
-    links: L,
-    plan: Plan,
-    seen: &mut Seen,
-) {
-    if let Ok(mut home) = Home::new(alloc) {
+fn with_one<R, C, I, L>(rt: &R, plan: Plan, inner: &mut Open<'_, I>, links: L, seen: &mut Seen)
+where
+    R: Threads + Wait + Sync,
+    C: Followed + Send,
+    I: Followed + Send,
+    L: Links<C> + Drop + Send,
+{
+    if let Ok(mut home) = Home::new(plan.alloc) {
         if let Some(key) = home.key() {
-            let ran = run(rt, alloc, key, links, plan);
-            seen.add(ran);
+            seen.add(run(rt, plan, key, inner, links));
         }
         closed(home, &mut seen.tally);
     }
 }
 
 // The first link.
-fn in_two<'b, R: Threads + Wait + Sync, C: Followed + Send, L: Links<C> + Drop + Send>(
+fn in_two<'b, R, C, I, L>(
     rt: &R,
-    alloc: Global,
-    home: &'b mut Home<u64, C, NoProxy>,
-    rest: L,
     plan: Plan,
+    home: &'b mut Home<u64, C, NoProxy>,
+    inner: &mut Open<'_, I>,
+    rest: L,
     seen: &mut Seen,
-) {
+)
+where
+    R: Threads + Wait + Sync,
+    C: Followed + Send,
+    I: Followed + Send,
+    L: Links<C> + Drop + Send,
+{
     if let Some(key) = home.key() {
         let link = Link {
             key,
@@ -211,31 +256,31 @@ fn in_two<'b, R: Threads + Wait + Sync, C: Followed + Send, L: Links<C> + Drop +
             step: Add(1),
             rest,
         };
-        with_one(rt, alloc, link, plan, seen);
+        with_one(rt, plan, inner, link, seen);
     }
 }
 
-fn with_two<R: Threads + Wait + Sync, C: Followed + Send, L: Links<C> + Drop + Send>(
-    rt: &R,
-    alloc: Global,
-    rest: L,
-    plan: Plan,
-    seen: &mut Seen,
-) {
-    if let Ok(mut home) = Home::new(alloc) {
-        in_two(rt, alloc, &mut home, rest, plan, seen);
+fn with_two<R, C, I, L>(rt: &R, plan: Plan, inner: &mut Open<'_, I>, rest: L, seen: &mut Seen)
+where
+    R: Threads + Wait + Sync,
+    C: Followed + Send,
+    I: Followed + Send,
+    L: Links<C> + Drop + Send,
+{
+    if let Ok(mut home) = Home::new(plan.alloc) {
+        in_two(rt, plan, &mut home, inner, rest, seen);
         closed(home, &mut seen.tally);
     }
 }
 
 // The second link. It is generic in its step and in its core's proxy, so that no call has bounds with two lifetimes.
-fn linked<'c, R, K, C, Q, L>(
+fn linked<'c, R, K, C, Q, I, L>(
     rt: &R,
-    alloc: Global,
+    plan: Plan,
     key: Key<'c, u64, C, Q>,
+    inner: &mut Open<'_, I>,
     step: K,
     rest: L,
-    plan: Plan,
     seen: &mut Seen,
 )
 where
@@ -243,6 +288,7 @@ where
     K: ValueStep<u64, Out = u64, Later = Q> + Drop + Send,
     C: Followed + Send,
     Q: Proxy<u64, C> + Send,
+    I: Followed + Send,
     L: Links<C> + Drop + Send,
 {
     let link = Link {
@@ -251,63 +297,55 @@ where
         step,
         rest,
     };
-    with_two(rt, alloc, link, plan, seen);
+    with_two(rt, plan, inner, link, seen);
 }
 
 // The step of the second link comes to the inner core.
 fn named<'c, 'i, R: Threads + Wait + Sync, C: Followed + Send, L: Links<C> + Drop + Send>(
     rt: &R,
-    alloc: Global,
-    key: Key<'c, u64, C, Inner<'i, C>>,
-    inner: Inner<'i, C>,
-    rest: L,
     plan: Plan,
+    key: Key<'c, u64, C, Inner<'i, C>>,
+    consumer: Inner<'i, C>,
+    inner: &mut Open<'_, C>,
+    rest: L,
     seen: &mut Seen,
 ) {
-    match Parcel::new(alloc, inner) {
-        Err(Refused::Memory(inner)) => {
+    match Parcel::new(plan.alloc, consumer) {
+        Err(Refused::Memory(consumer)) => {
             seen.refuse();
-            seen.left(inner.give_up().leave());
+            seen.left(consumer.give_up().leave());
         }
-        Ok(inner) => linked(rt, alloc, key, Name(inner), rest, plan, seen),
+        Ok(consumer) => linked(rt, plan, key, inner, Name(consumer), rest, seen),
     }
 }
 
-// The inner core's promise is kept by ten times the value.
 fn in_three<'c, 'i, R: Threads + Wait + Sync, C: Followed + Send, L: Links<C> + Drop + Send>(
     rt: &R,
-    alloc: Global,
+    plan: Plan,
     home: &'c mut Home<u64, C, Inner<'i, C>>,
     inner: &'i mut Home<u64, C, NoProxy>,
     rest: L,
-    plan: Plan,
     seen: &mut Seen,
 ) {
     if let (Some(key), Some(inner)) = (home.key(), inner.key()) {
-        let outcome = Try::Value(plan.value.saturating_mul(10));
-        let (to, inner) = promise(inner, 6, ExecId(3), &mut seen.tally);
-        let inner = inner.into_consumer();
-        if plan.inner_early {
-            let after = to.fulfil(outcome);
-            seen.after(rt, alloc, after);
-            return named(rt, alloc, key, inner, rest, plan, seen);
-        }
-        named(rt, alloc, key, inner, rest, plan, seen);
-        let after = to.fulfil(outcome);
-        seen.after(rt, alloc, after);
+        let (to, future) = promise(inner, 6, ExecId(3), &mut seen.tally);
+        let mut inner = Some(to);
+        let consumer = future.into_consumer();
+        named(rt, plan, key, consumer, &mut inner, rest, seen);
+        seen.add(kept(rt, plan.alloc, &mut inner, plan.value));
+        let None = inner else { unreachable!() };
     }
 }
 
 fn with_three<R: Threads + Wait + Sync, C: Followed + Send, L: Links<C> + Drop + Send>(
     rt: &R,
-    alloc: Global,
-    rest: L,
     plan: Plan,
+    rest: L,
     seen: &mut Seen,
 ) {
-    if let Ok(mut inner) = Home::new(alloc) {
-        if let Ok(mut home) = Home::new(alloc) {
-            in_three(rt, alloc, &mut home, &mut inner, rest, plan, seen);
+    if let Ok(mut inner) = Home::new(plan.alloc) {
+        if let Ok(mut home) = Home::new(plan.alloc) {
+            in_three(rt, plan, &mut home, &mut inner, rest, seen);
             closed(home, &mut seen.tally);
         }
         closed(inner, &mut seen.tally);
@@ -317,10 +355,9 @@ fn with_three<R: Threads + Wait + Sync, C: Followed + Send, L: Links<C> + Drop +
 // The third and the fourth link.
 fn in_last<'d, 'e, R: Threads + Wait + Sync>(
     rt: &R,
-    alloc: Global,
+    plan: Plan,
     four: &'d mut Home<u64, Adding<'e, u64>, NoProxy>,
     five: &'e mut Plain,
-    plan: Plan,
     seen: &mut Seen,
 ) {
     if let (Some(four), Some(five)) = (four.key(), five.key()) {
@@ -336,16 +373,16 @@ fn in_last<'d, 'e, R: Threads + Wait + Sync>(
             step: Add(1),
             rest,
         };
-        with_three(rt, alloc, rest, plan, seen);
+        with_three(rt, plan, rest, seen);
     }
 }
 
 // One chain in homes of its own.
-fn chain<R: Threads + Wait + Sync>(rt: &R, alloc: Global, plan: Plan) -> Seen {
+fn chain<R: Threads + Wait + Sync>(rt: &R, plan: Plan) -> Seen {
     let mut seen = Seen::nothing();
-    if let Ok(mut five) = Home::new(alloc) {
-        if let Ok(mut four) = Home::new(alloc) {
-            in_last(rt, alloc, &mut four, &mut five, plan, &mut seen);
+    if let Ok(mut five) = Home::new(plan.alloc) {
+        if let Ok(mut four) = Home::new(plan.alloc) {
+            in_last(rt, plan, &mut four, &mut five, &mut seen);
             closed(four, &mut seen.tally);
         }
         closed(five, &mut seen.tally);
@@ -368,19 +405,12 @@ fn chains<R: Threads + Wait + Sync>(rt: &R, alloc: Global, threads: bool) -> (u6
     let mut good = 0u64;
     let mut all = Seen::nothing();
     for value in 0..1000 {
-        let first = if threads {
-            First::Beside
-        } else if value % 2 == 0 {
-            First::Early
-        } else {
-            First::Late
-        };
         let plan = Plan {
+            alloc,
             value,
-            first,
-            inner_early: value / 2 % 2 == 0,
+            threads,
         };
-        let seen = chain(rt, alloc, plan);
+        let seen = chain(rt, plan);
         if is_good(&seen, value) {
             good = good.saturating_add(1);
         }
