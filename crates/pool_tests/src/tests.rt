@@ -16,6 +16,7 @@ use std::sync::Wait;
 use std::thread::{Threads, join};
 
 mod kept;
+mod threads;
 
 // It notes its id in the world, and is done with its number.
 #[derive(Clone, Copy, Debug, PartialEq, Eq)]

@@ -1,0 +1,477 @@
+// Four workers on threads of their own, between the calls of a gate that counts, beside one that adds, helps and ends the pool.
+ghost use Rattle.std.specs.Prelude.{◌≡◌, ◌+◌, [], All, IfSome, Some, None, length};
+ghost use Rattle.pool_model.specs.Passes.{AreAllPasses, AreAllEnds, adds_of};
+
+use super::*;
+use fan_base::Gate;
+use std::sync::atomic::{AtomicU64, Ordering};
+use std::thread;
+
+// Counts the tasks that began and those that ended, and the calls of each task. Once `most` have begun, it holds each further one
+// until it is opened.
+#[derive(Drop)]
+struct CountGate {
+    begun: AtomicU64,
+    ended: AtomicU64,
+    opened: AtomicU64,
+    most: u64,
+    // How many calls came of each task, by its id.
+    calls: Vec<AtomicU64>,
+    // How many calls came where another was due.
+    faults: AtomicU64,
+}
+
+impl CountGate {
+    fn new<R: Abort>(rt: &R, alloc: Global, most: u64, tasks: u64) -> CountGate {
+        let mut calls = Vec::new(alloc);
+        for _ in 0..tasks {
+            calls.push(AtomicU64::new(0)).expect(rt, "memory");
+        }
+        CountGate {
+            begun: AtomicU64::new(0),
+            ended: AtomicU64::new(0),
+            opened: AtomicU64::new(0),
+            most,
+            calls,
+            faults: AtomicU64::new(0),
+        }
+    }
+
+    // Notes a call of a task, of which so many are to have come.
+    fn note(&self, job: JobId, came: u64) {
+        let found = match self.calls.get(job.0 as usize) {
+            Some(calls) => calls.fetch_add(1, Ordering::SeqCst),
+            None => u64::MAX,
+        };
+        if found != came {
+            self.faults.fetch_add(1, Ordering::SeqCst);
+        }
+    }
+
+    // How many tasks had both calls, and how many calls came where another was due.
+    fn passed(&self) -> (u64, u64) {
+        let mut passed = 0u64;
+        for calls in &self.calls {
+            if calls.load(Ordering::SeqCst) == 2 {
+                passed = passed.saturating_add(1);
+            }
+        }
+        (passed, self.faults.load(Ordering::SeqCst))
+    }
+}
+
+// Waits until the number is there.
+fn await_count(number: &AtomicU64, count: u64) {
+    for _ in 0..u64::MAX {
+        if number.load(Ordering::SeqCst) >= count {
+            return;
+        }
+        thread::yield_now();
+    }
+}
+
+impl Gate for CountGate {
+    fn before(&self, job: JobId) {
+        self.note(job, 0);
+        if self.begun.fetch_add(1, Ordering::SeqCst) >= self.most {
+            await_count(&self.opened, 1);
+        }
+    }
+
+    fn after(&self, job: JobId) {
+        self.note(job, 1);
+        self.ended.fetch_add(1, Ordering::SeqCst);
+    }
+}
+
+// A worker: its pass, and its end once it has worked.
+struct Slot {
+    pass: Option<WorkerPass<Note>>,
+    end: Option<WorkerEnd<Note>>,
+}
+
+impl Slot {
+    // Works with a world of its own, between the calls of the gate.
+    fn work<R: Wait>(&mut self, rt: &R, alloc: Global, pool: &Pool<Note>, gate: &CountGate)
+        requires pass { IfSome self.old.pass (λ p. p.pool ≡ pool.now.id) }
+        requires end { IfSome self.old.end (λ e. e.pool ≡ pool.now.id) }
+        ensures pass { IfSome self.new.pass (λ p. p.pool ≡ pool.now.id) }
+        ensures end { IfSome self.new.end (λ e. e.pool ≡ pool.now.id) }
+    {
+        if let Some(pass) = self.pass.take() {
+            let mut world = Vec::new(alloc);
+            self.end = Some(pool.work(rt, pass, &mut world, gate));
+        }
+    }
+
+    // Its end, once it has worked.
+    fn end<R: Abort>(self, rt: &R) -> WorkerEnd<Note>
+        ensures { self.end ≡ Some result }
+    {
+        let Slot { pass, end } = self;
+        match (pass, end) {
+            (None, Some(end)) => end,
+            (Some(_pass), _) => rt.panic("a worker that has not worked"),
+            (None, None) => rt.panic("an end"),
+        }
+    }
+}
+
+fn new_slot(pass: WorkerPass<Note>) -> Slot
+    ensures { (result.pass ≡ Some pass) × (result.end ≡ None) }
+{
+    Slot {
+        pass: Some(pass),
+        end: None,
+    }
+}
+
+// Four workers that have not worked.
+fn four_slots<R: Abort>(
+    rt: &R,
+    alloc: Global,
+    pool: &Pool<Note>,
+    mut passes: Vec<WorkerPass<Note>>,
+) -> Vec<Slot>
+    requires passes { All (λ w. w.pool ≡ pool.now.id) passes.items }
+    requires four { length passes.items ≡ 4 }
+    ensures passes { All (λ s. IfSome s.pass (λ p. p.pool ≡ pool.now.id)) result.items }
+    ensures ends { All (λ s. IfSome s.end (λ e. e.pool ≡ pool.now.id)) result.items }
+    ensures four { length result.items ≡ 4 }
+{
+    let mut slots = Vec::with_capacity(alloc, 4).expect(rt, "memory");
+    slots.push_reserved(new_slot(next_worker(rt, pool, &mut passes)));
+    slots.push_reserved(new_slot(next_worker(rt, pool, &mut passes)));
+    slots.push_reserved(new_slot(next_worker(rt, pool, &mut passes)));
+    slots.push_reserved(new_slot(next_worker(rt, pool, &mut passes)));
+    passes.destroy_empty();
+    slots
+}
+
+// All of them work, each on a thread of its own.
+fn all_work<R: Wait + Threads + Sync>(
+    rt: &R,
+    alloc: Global,
+    pool: &Pool<Note>,
+    gate: &CountGate,
+    slots: &mut Vec<Slot>,
+)
+    requires passes { All (λ s. IfSome s.pass (λ p. p.pool ≡ pool.now.id)) slots.old.items }
+    requires ends { All (λ s. IfSome s.end (λ e. e.pool ≡ pool.now.id)) slots.old.items }
+    ensures ends { All (λ s. IfSome s.end (λ e. e.pool ≡ pool.now.id)) slots.new.items }
+    ensures count { length slots.new.items ≡ length slots.old.items }
+{
+    thread::for_each_mut(
+        rt,
+        slots,
+        4,
+        &|_, slot|
+            requires pass { IfSome slot.now.pass (λ p. p.pool ≡ pool.now.id) }
+            requires end { IfSome slot.now.end (λ e. e.pool ≡ pool.now.id) }
+            ensures { IfSome slot.exit.now.end (λ e. e.pool ≡ pool.entry.now.id) }
+        { slot.work(rt, alloc, pool, gate) },
+    );
+}
+
+// The end of the last of them.
+#[tactic(auto, using(crate::proofs::Lists::popped))]
+fn next_end<R: Abort>(rt: &R, pool: &Pool<Note>, slots: &mut Vec<Slot>) -> WorkerEnd<Note>
+    requires { All (λ s. IfSome s.end (λ e. e.pool ≡ pool.now.id)) slots.old.items }
+    ensures end { result.pool ≡ pool.now.id }
+    ensures rest { All (λ s. IfSome s.end (λ e. e.pool ≡ pool.now.id)) slots.new.items }
+    ensures one { length slots.old.items ≡ length slots.new.items + 1 }
+{
+    let _ = pool;
+    if let Some(slot) = slots.pop() {
+        return slot.end(rt);
+    }
+    rt.panic("a worker")
+}
+
+// Four workers work, each on a thread of its own.
+fn four_work_at<R: Abort + Wait + Threads + Sync>(
+    rt: &R,
+    alloc: Global,
+    pool: &Pool<Note>,
+    gate: &CountGate,
+    passes: Vec<WorkerPass<Note>>,
+) -> Vec<WorkerEnd<Note>>
+    requires passes { All (λ w. w.pool ≡ pool.now.id) passes.items }
+    requires four { (length passes.items ≡ 4) × (pool.now.workers ≡ 4) }
+    ensures { AreAllEnds pool.now.id pool.now.workers result.items }
+{
+    let mut slots = four_slots(rt, alloc, pool, passes);
+    all_work(rt, alloc, pool, gate, &mut slots);
+    let fourth = next_end(rt, pool, &mut slots);
+    let third = next_end(rt, pool, &mut slots);
+    let second = next_end(rt, pool, &mut slots);
+    let first = next_end(rt, pool, &mut slots);
+    slots.destroy_empty();
+    four_ends(rt, alloc, pool, (first, second), (third, fourth))
+}
+
+// The passes in one list.
+fn four_passes<R: Abort>(
+    rt: &R,
+    alloc: Global,
+    pool: &Pool<Note>,
+    front: (WorkerPass<Note>, WorkerPass<Note>),
+    back: (WorkerPass<Note>, WorkerPass<Note>),
+) -> Vec<WorkerPass<Note>>
+    requires front { (front.0.pool ≡ pool.now.id) × (front.1.pool ≡ pool.now.id) }
+    requires back { (back.0.pool ≡ pool.now.id) × (back.1.pool ≡ pool.now.id) }
+    ensures passes { All (λ w. w.pool ≡ pool.now.id) result.items }
+    ensures four { length result.items ≡ 4 }
+{
+    let _ = pool;
+    let mut passes = Vec::with_capacity(alloc, 4).expect(rt, "memory");
+    passes.push_reserved(front.0);
+    passes.push_reserved(front.1);
+    passes.push_reserved(back.0);
+    passes.push_reserved(back.1);
+    passes
+}
+
+// Adds tasks, and waits after each so many until all of them have ended, so that the workers go to sleep and are woken in between.
+// Then it begins to join.
+fn add_in_groups<R: Abort + Wait>(
+    rt: &R,
+    alloc: Global,
+    pool: &Pool<Note>,
+    gate: &CountGate,
+    groups: u64,
+    size: u64,
+    owner: KeepOwner,
+    keep: KeepAlive,
+    mut pass: PoolPass<Note>,
+) -> Joining<Note>
+    requires owner { owner.count ≡ pool.now.count }
+    requires keep { keep.count ≡ pool.now.count }
+    requires pass { (pass.pool ≡ pool.now.id) × (adds_of pass ≡ []) }
+    requires one { (pool.now.adders ≡ 1) × (pool.now.exec.0 ≡ 7) }
+    ensures passes { AreAllPasses pool.now.id pool.now.adders result.passes }
+    ensures pool { result.pool ≡ pool.now.id }
+{
+    let mut added = 0;
+    for _ in 0..groups {
+        for _ in 0..size {
+            if added < 50_000 {
+                let _ = add(rt, pool, &keep, &mut pass, 0, added);
+                added += 1;
+            }
+        }
+        await_count(&gate.ended, added);
+    }
+    let _ = keep.release();
+    let passes = all_passes(rt, alloc, pool, pass);
+    pool.begin_join(rt, owner, passes)
+}
+
+// Adds a thousand tasks, waits until so many have begun, begins to stop, and then opens the gate.
+fn add_and_stop<R: Abort + Wait>(
+    rt: &R,
+    alloc: Global,
+    pool: &Pool<Note>,
+    gate: &CountGate,
+    owner: KeepOwner,
+    keep: KeepAlive,
+    mut pass: PoolPass<Note>,
+) -> Stopping<Note>
+    requires owner { owner.count ≡ pool.now.count }
+    requires keep { keep.count ≡ pool.now.count }
+    requires pass { (pass.pool ≡ pool.now.id) × (adds_of pass ≡ []) }
+    requires one { (pool.now.adders ≡ 1) × (pool.now.exec.0 ≡ 7) }
+    ensures passes { AreAllPasses pool.now.id pool.now.adders result.passes }
+    ensures pool { result.pool ≡ pool.now.id }
+{
+    for id in 0..1000 {
+        let priority = if id % 2 == 0 { 0 } else { 127 };
+        let _ = add(rt, pool, &keep, &mut pass, priority, id);
+    }
+    await_count(&gate.begun, gate.most.saturating_add(4));
+    let _ = keep.release();
+    let passes = all_passes(rt, alloc, pool, pass);
+    let stopping = pool.begin_stop(rt, owner, passes);
+    gate.opened.store(1, Ordering::SeqCst);
+    stopping
+}
+
+// Joins the pool. Each of so many tasks has to have a record, and both calls of the gate.
+fn end_joined<R: Abort + Wait>(
+    rt: &R,
+    alloc: Global,
+    pool: Pool<Note>,
+    joining: Joining<Note>,
+    ends: Vec<WorkerEnd<Note>>,
+    counts: &CountGate,
+    tasks: u64,
+)
+    requires pool { joining.pool ≡ pool.id }
+    requires passes { AreAllPasses pool.id pool.adders joining.passes }
+    requires ends { AreAllEnds pool.id pool.workers ends.items }
+    requires helpers { pool.helpers ≡ 0 }
+{
+    let mut world = Vec::new(alloc);
+    let PoolEnd {
+        accepted,
+        ran,
+        returned,
+    } = pool.join(rt, joining, ends, Vec::new(alloc), &mut world);
+    assert_eq!(rt;
+        (accepted, ran.len() as u64, returned.len(), world.len()),
+        (tasks, tasks, 0, 0)
+    );
+    assert_eq!(rt; counts.passed(), (tasks, 0));
+}
+
+#[test]
+fn no_task_is_slept_through(rt: HostRuntime) {
+    let alloc = rt.alloc();
+    let Large {
+        pool,
+        owner,
+        keep,
+        pass,
+        front,
+        back,
+    } = large_pool(&rt, alloc);
+    let passes = four_passes(&rt, alloc, &pool, front, back);
+    let passes = wrapped(&rt, alloc, passes);
+    let owner = wrapped(&rt, alloc, owner);
+    let keep = wrapped(&rt, alloc, keep);
+    let pass = wrapped(&rt, alloc, pass);
+    let counts = CountGate::new(&rt, alloc, u64::MAX, 5000);
+    let gate = &counts;
+    let shared = &pool;
+    let (ends, joining) = join(
+        &rt,
+        move ||
+            requires passes { All (λ w. w.pool ≡ shared.now.id) passes.items }
+            requires four { (length passes.items ≡ 4) × (shared.now.workers ≡ 4) }
+        { four_work_at(&rt, alloc, shared, gate, passes.open()) },
+        move ||
+            requires owner { owner.count ≡ shared.now.count }
+            requires keep { keep.count ≡ shared.now.count }
+            requires pass { (pass.pool ≡ shared.now.id) × (adds_of pass ≡ []) }
+            requires one { (shared.now.adders ≡ 1) × (shared.now.exec.0 ≡ 7) }
+        {
+            add_in_groups(
+                &rt,
+                alloc,
+                shared,
+                gate,
+                5000,
+                1,
+                owner.open(),
+                keep.open(),
+                pass.open(),
+            )
+        },
+    );
+    end_joined(&rt, alloc, pool, joining, ends, &counts, 5000);
+}
+
+#[test]
+fn no_task_of_a_stream_is_slept_through(rt: HostRuntime) {
+    let alloc = rt.alloc();
+    let Large {
+        pool,
+        owner,
+        keep,
+        pass,
+        front,
+        back,
+    } = large_pool(&rt, alloc);
+    let passes = four_passes(&rt, alloc, &pool, front, back);
+    let passes = wrapped(&rt, alloc, passes);
+    let owner = wrapped(&rt, alloc, owner);
+    let keep = wrapped(&rt, alloc, keep);
+    let pass = wrapped(&rt, alloc, pass);
+    let counts = CountGate::new(&rt, alloc, u64::MAX, 20_000);
+    let gate = &counts;
+    let shared = &pool;
+    let (ends, joining) = join(
+        &rt,
+        move ||
+            requires passes { All (λ w. w.pool ≡ shared.now.id) passes.items }
+            requires four { (length passes.items ≡ 4) × (shared.now.workers ≡ 4) }
+        { four_work_at(&rt, alloc, shared, gate, passes.open()) },
+        move ||
+            requires owner { owner.count ≡ shared.now.count }
+            requires keep { keep.count ≡ shared.now.count }
+            requires pass { (pass.pool ≡ shared.now.id) × (adds_of pass ≡ []) }
+            requires one { (shared.now.adders ≡ 1) × (shared.now.exec.0 ≡ 7) }
+        {
+            add_in_groups(
+                &rt,
+                alloc,
+                shared,
+                gate,
+                20,
+                1000,
+                owner.open(),
+                keep.open(),
+                pass.open(),
+            )
+        },
+    );
+    end_joined(&rt, alloc, pool, joining, ends, &counts, 20_000);
+}
+
+// The gate lets 400 tasks begin, and holds each of the four workers at its next one until the stop has begun.
+#[test]
+fn a_stopped_worker_takes_nothing_more(rt: HostRuntime) {
+    let alloc = rt.alloc();
+    let Large {
+        pool,
+        owner,
+        keep,
+        pass,
+        front,
+        back,
+    } = large_pool(&rt, alloc);
+    let passes = four_passes(&rt, alloc, &pool, front, back);
+    let passes = wrapped(&rt, alloc, passes);
+    let owner = wrapped(&rt, alloc, owner);
+    let keep = wrapped(&rt, alloc, keep);
+    let pass = wrapped(&rt, alloc, pass);
+    let counts = CountGate::new(&rt, alloc, 400, 1000);
+    let gate = &counts;
+    let shared = &pool;
+    let (ends, stopping) = join(
+        &rt,
+        move ||
+            requires passes { All (λ w. w.pool ≡ shared.now.id) passes.items }
+            requires four { (length passes.items ≡ 4) × (shared.now.workers ≡ 4) }
+        { four_work_at(&rt, alloc, shared, gate, passes.open()) },
+        move ||
+            requires owner { owner.count ≡ shared.now.count }
+            requires keep { keep.count ≡ shared.now.count }
+            requires pass { (pass.pool ≡ shared.now.id) × (adds_of pass ≡ []) }
+            requires one { (shared.now.adders ≡ 1) × (shared.now.exec.0 ≡ 7) }
+        {
+            add_and_stop(
+                &rt,
+                alloc,
+                shared,
+                gate,
+                owner.open(),
+                keep.open(),
+                pass.open(),
+            )
+        },
+    );
+    let PoolEnd {
+        accepted,
+        ran,
+        returned,
+    } = pool.stop(&rt, stopping, ends, Vec::new(alloc));
+    assert_eq!(rt;
+        (accepted, ran.len(), ran.stopped(), returned.len()),
+        (1000, 404, true, 596)
+    );
+    assert_eq!(rt; counts.passed(), (404, 0));
+    let mut all = ids(&rt, alloc, ran);
+    put_back_ids(&rt, &mut all, returned);
+    assert!(rt; each_once(&rt, alloc, all.as_slice()));
+}
