@@ -16,5 +16,3 @@ mod receiver;
 mod rest;
 mod sender;
 mod stamp;
-#[cfg(test)]
-mod tests;
