@@ -1,4 +1,4 @@
-//! Rows of a notification queue, run: two senders and what is left, threads that put and take, a wake for each message, want of memory.
+//! Rows of a notification queue, run: two senders and what is left, threads that put and take, wakes, want of memory.
 #![tactic(auto)]
 
 #[cfg(test)]
