@@ -7,5 +7,3 @@ pub mod Fronts
 pub mod Firsts
 pub mod Answered
 pub mod Nesting
-pub mod Splits
-pub mod Slowly

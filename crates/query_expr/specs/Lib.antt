@@ -1,3 +1,2 @@
 pub mod Steps
 pub mod Readers
-pub mod Slow

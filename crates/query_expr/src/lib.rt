@@ -11,8 +11,4 @@ mod law;
 mod open;
 mod parsing;
 mod reader;
-#[cfg(test)]
-mod slow;
-#[cfg(test)]
-mod tests;
 mod truth;

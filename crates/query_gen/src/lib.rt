@@ -12,5 +12,3 @@ mod input;
 pub mod laws;
 mod queries;
 mod summary;
-#[cfg(test)]
-mod tests;

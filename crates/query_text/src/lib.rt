@@ -24,8 +24,6 @@ mod query;
 mod read;
 mod reply;
 mod so_far;
-#[cfg(test)]
-mod tests;
 mod tokens;
 mod words;
 mod write;

@@ -24,5 +24,3 @@ pub mod laws;
 mod name;
 mod number;
 mod reader;
-#[cfg(test)]
-mod tests;

@@ -1,6 +1,6 @@
 use Rattle.std.proofs.Common.{◌<◌, ℕ, ◌+◌, ◌*◌, length, None}
-use Rattle.query_expr.specs.Slow.{FindsBeside, FindsBar}
-use Rattle.query_expr.proofs.slow.+slow.Given as goal
+use Rattle.text_tests.specs.Slow.{FindsBeside, FindsBar}
+use Rattle.text_tests.proofs.slow.+slow.Given as goal
 
 abbrev pub decreases-fact_of : goal.decreases-fact_of
 decreases-fact_of l = 5 * length l.tokens.now

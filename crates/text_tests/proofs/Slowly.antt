@@ -9,7 +9,7 @@ use Rattle.query_grammar.specs.Tree.{Tree}
 use Rattle.query_grammar.specs.Grammar.{Kind, word, tokens_of, CanGoOn}
 use Rattle.query_grammar.specs.Depth.{HasDepth, IsWithinDepth}
 use Rattle.query_grammar.specs.Faults.{AreSome, Accepts, Refuses}
-use Rattle.query_expr.specs.Slow.{Finds, rights, closed}
+use Rattle.text_tests.specs.Slow.{Finds, rights, closed}
 use Rattle.query_expr.proofs.Machine.{Frame, State, start}
 use Rattle.query_expr.proofs.Texts.{text, frame_text, below_text}
 use Rattle.query_expr.proofs.Answering.{completed, tokens_of-completed, CanGoOn-text}

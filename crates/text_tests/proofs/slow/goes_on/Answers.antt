@@ -1,9 +1,9 @@
 use Rattle.std.proofs.Common.{◌≡◌, List, [], ◌∷◌, ◌++◌, ap, ◌∙◌, arith, rules}
 use Rattle.query_grammar.specs.declared.token.Token.{Token}
 use Rattle.query_grammar.specs.declared.token.Token.TheVariants as token
-use Rattle.query_expr.specs.Slow.{closed}
-use Rattle.query_expr.proofs.Slowly.{none_closed, none_more, some_closed, closed-more, yes_if, no_if}
-use Rattle.query_expr.proofs.slow.goes_on.Goals as goal
+use Rattle.text_tests.specs.Slow.{closed}
+use Rattle.text_tests.proofs.Slowly.{none_closed, none_more, some_closed, closed-more, yes_if, no_if}
+use Rattle.text_tests.proofs.slow.goes_on.Goals as goal
 
 pub loop-init : goal.loop-init
 loop-init c =

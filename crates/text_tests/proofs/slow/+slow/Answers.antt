@@ -1,8 +1,8 @@
 use Rattle.std.proofs.Common.{◌≡◌, ◌≢◌, ◌<◌, ◌≤◌, length, List, [], ◌∷◌, ◌++◌, arith, rules}
 use Rattle.std.proofs.lemmas.Result.{IfOk-weaker}
 use Rattle.query_grammar.specs.declared.token.Token.TheVariants as token
-use Rattle.query_expr.proofs.Splits.{nothing_is_no_fact, word_alone, word_and_more, bang_found, bang_not_found, left_alone, in_brackets, no_bracket_closes, mark_is_no_fact, both_found, both_from_fact, either_found, either_from_both}
-use Rattle.query_expr.proofs.slow.+slow.Goals as goal
+use Rattle.text_tests.proofs.Splits.{nothing_is_no_fact, word_alone, word_and_more, bang_found, bang_not_found, left_alone, in_brackets, no_bracket_closes, mark_is_no_fact, both_found, both_from_fact, either_found, either_from_both}
+use Rattle.text_tests.proofs.slow.+slow.Goals as goal
 
 pub both_of-returns-in-Some : goal.both_of-returns-in-Some
 both_of-returns-in-Some t c = both_found c.args.tokens.now c.loop-place.place c.in-Some.e (rw c.in-Some.is at c.in_ok-e.ensures)

@@ -6,7 +6,7 @@ use Rattle.query_grammar.specs.declared.token.Token.{Token}
 use Rattle.query_grammar.specs.declared.token.Token.TheVariants as token
 use Rattle.query_grammar.specs.Tree.{Tree}
 use Rattle.query_grammar.specs.Grammar.{Kind, Phrase, word, bang, brackets, one_fact, beside, one_both, bar, tokens_of, tree_of}
-use Rattle.query_expr.specs.Slow.{Finds, FindsBeside, FindsBar}
+use Rattle.text_tests.specs.Slow.{Finds, FindsBeside, FindsBar}
 
 -- A phrase has some tokens.
 some_tokens : {kind : Kind} (p : Phrase kind) → 0 < length (tokens_of p)

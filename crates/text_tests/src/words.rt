@@ -1,4 +1,4 @@
-use crate::{Command, Generation, Settings, read_command};
+use query_words::{Command, Generation, Settings, read_command};
 use std::alloc::Global;
 use std::test::Fail;
 

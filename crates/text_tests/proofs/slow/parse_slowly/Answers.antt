@@ -1,7 +1,7 @@
 use Rattle.std.proofs.Common.{◌≡◌, ◌<◌, length, Bool, false, arith, rules}
 use Rattle.query_grammar.specs.Grammar.{CanGoOn}
-use Rattle.query_expr.proofs.Slowly.{CanGoOn-nothing, unexpected_here, accepted_here, unclosed_here, false_denies}
-use Rattle.query_expr.proofs.slow.parse_slowly.Goals as goal
+use Rattle.text_tests.proofs.Slowly.{CanGoOn-nothing, unexpected_here, accepted_here, unclosed_here, false_denies}
+use Rattle.text_tests.proofs.slow.parse_slowly.Goals as goal
 
 pub loop-place-init : goal.loop-place-init
 loop-place-init c = CanGoOn-nothing

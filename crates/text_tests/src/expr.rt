@@ -1,8 +1,8 @@
 ghost use Rattle.std.specs.Prelude.{◌≤◌, length};
 
 use crate::slow::parse_slowly;
-use crate::{Expr, ExprFault, Node, Token, holds, parse};
 use fan_base::{Doc, Word, WordFault, Words};
+use query_expr::{Expr, ExprFault, Node, Token, holds, parse};
 use std::alloc::{AllocError, Global};
 use std::process::Abort;
 use std::test::Fail;

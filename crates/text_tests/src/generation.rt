@@ -1,4 +1,4 @@
-use super::*;
+use query_gen::{generate, summary_text};
 use query_model::{Ask, Input, Line, Prio, Query};
 use std::test::Fail;
 

@@ -1,5 +1,8 @@
-use super::*;
 use fan_base::Memory;
+use query_text::{
+    BadInput, BadKind, Hits, InputFault, Limit, Line, Prio, Reply, error_line, read_input,
+    reply_line, write_input,
+};
 use std::alloc::{AllocError, Global};
 use std::test::Fail;
 

@@ -2,7 +2,7 @@
 ghost use Rattle.std.specs.Prelude.{◌<◌, ◌≤◌, ◌≢◌, ◌↔◌, length, IsTrue, IfOk, IfErr};
 ghost use Rattle.query_grammar.specs.Grammar.{Kind, CanGoOn};
 ghost use Rattle.query_grammar.specs.Faults.{Accepts, Refuses};
-ghost use Rattle.query_expr.specs.Slow.{Finds, FindsBeside, FindsBar};
+ghost use Rattle.text_tests.specs.Slow.{Finds, FindsBeside, FindsBar};
 
 use fan_base::Word;
 use query_grammar::{Expr, ExprFault, Token};

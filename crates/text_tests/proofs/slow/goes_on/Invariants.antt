@@ -1,7 +1,7 @@
 use Rattle.std.proofs.Common.{◌≡◌, ℕ, ◌<◌, None}
 use Rattle.query_grammar.specs.Grammar.{Kind}
-use Rattle.query_expr.specs.Slow.{Finds, closed}
-use Rattle.query_expr.proofs.slow.goes_on.Given as goal
+use Rattle.text_tests.specs.Slow.{Finds, closed}
+use Rattle.text_tests.proofs.slow.goes_on.Given as goal
 
 abbrev pub invariant-loop : goal.invariant-loop
 invariant-loop l = record {
