@@ -196,6 +196,38 @@ knows-push old new words x n knows fresh is pushed put =
       differ = differ-push words x fresh knows.differ;
     })
 
+-- a word that the map has, and that is put back
+
+some-less : (words : List Word) (w : Word) (n : ℕ) → found_in words w ≡ Some n → (number_in words w ≡ n) × (n < length words)
+some-less words w n is = elim (cases_lt (number_in words w) (length words)) [
+  | inl less ↦ let same : number_in words w ≡ n = one (number_in words w) (sym (found-some words w (number_in words w) refl less) ∙ is) in (same, omega (arith, same, less))
+  | inr more ↦ absurd (none-some (sym (found-none words w more) ∙ is))
+]
+  where
+    one : (m : ℕ) → Some m ≡ Some n → m ≡ n
+    one m e = cc
+
+    none-some : None ≡ Some n → ⊥
+    none-some e = cc
+
+pub number-back : (words : List Word) (w : Word) (n : ℕ) → found_in words w ≡ Some n → n ≡ number_in (with_word words w) w
+number-back words w n is = let old = some-less words w n is in number-there words w n (sym old.0) old.1
+
+pub knows-back : (old new : Dictionary) (words : List Word) (x : Word) (m n : ℕ) → Knows old words → found_in words x ≡ Some n → new.words.items ≡ old.words.items
+    → ((w : Word) → get (slice_cmp nat_cmp) new.numbers w ≡ cond (is_at (slice_cmp nat_cmp x) w) (Some n) (cond (is_at (slice_cmp nat_cmp x) w) (Some m) (get (slice_cmp nat_cmp) old.numbers w)))
+    → Knows new (with_word words x)
+knows-back old new words x m n knows is same put =
+    let less = some-less words x n is in
+    subst (λ (ws : List Word). Knows new ws) (sym (with-old words x (omega (arith, less.0, less.1)))) (record {
+      words_are = same ∙ knows.words_are;
+      numbered = λ w. put w ∙ ((λ i. cond (is_at-word x w i) (Some n) (cond (is_at-word x w i) (Some m) (knows.numbered w i))) ∙ by w (pointwise eqb x w) refl);
+      differ = knows.differ;
+    })
+  where
+    by : (w : Word) (b : Bool) → pointwise eqb x w ≡ b → cond b (Some n) (cond b (Some m) (found_in words w)) ≡ found_in words w
+    by w true e = sym (ap (λ (v : Word). found_in words v) (sym (same_word x w e)) ∙ is)
+    by w false e = refl
+
 pub in-with : (words : List Word) (w : Word) → number_in (with_word words w) w < length (with_word words w)
 in-with words w = elim (cases_lt (number_in words w) (length words)) [
   | inl less ↦ subst (λ (ws : List Word). number_in ws w < length ws) (sym (with-old words w less)) less

@@ -1,4 +1,4 @@
-ghost use Rattle.std.specs.Prelude.{◌≡◌, ◌≤◌, [], List, IfOk, IfSome, OnOk, length, true};
+ghost use Rattle.std.specs.Prelude.{◌≡◌, ◌++◌, ◌∷◌, [], List, IfOk, IfSome, OnOk, length, true};
 ghost use Rattle.fan_base.specs.declared.word.Word.{Word};
 ghost use Rattle.word_table.specs.Numbers.{IsAt, Knows, number_in, with_word};
 
@@ -64,39 +64,55 @@ impl Dictionary {
         ensures number { IfOk result (λ number. (words : List Word) → Knows self.old words → number ≡ number_in (with_word words word.now) word.now) }
         ensures knows { OnOk result ((words : List Word) → Knows self.old words → Knows self.new (with_word words word.now)) }
     {
-        let number = self.find_by(word, guess);
-        if number < self.words.len() {
-            return Ok(number);
+        match self.hinted_by(word, guess) {
+            Some(number) => Ok(number),
+            None => self.add(word),
         }
-        self.add(word)
     }
 
-    /// The word's number, whatever the guess, or how many words there are where it isn't one of them.
-    fn find_by(&self, word: &Word, guess: u32) -> usize
-        ensures { (words : List Word) → Knows self.now words → result ≡ number_in words word.now }
+    /// The word's number, where the guess or a hint tells.
+    fn hinted_by(&self, word: &Word, guess: u32) -> Option<usize>
+        ensures { IfSome result (λ number. IsAt self.now.words.items number word.now) }
     {
         let number = guess as usize;
         if self.is_at(number, word) {
-            return number;
+            return Some(number);
         }
-        self.find(word)
+        self.hinted(word)
     }
 
-    /// Adds a word that is new.
+    /// The word's number by the ordered map. A new word gets the next.
     fn add(&mut self, word: &Word) -> Result<usize, AllocError>
-        ensures number { IfOk result (λ number. (words : List Word) → Knows self.old words → number ≡ length words) }
-        ensures knows { OnOk result ((words : List Word) → Knows self.old words → length words ≤ number_in words word.now → Knows self.new (with_word words word.now)) }
+        ensures number { IfOk result (λ number. (words : List Word) → Knows self.old words → number ≡ number_in (with_word words word.now) word.now) }
+        ensures knows { OnOk result ((words : List Word) → Knows self.old words → Knows self.new (with_word words word.now)) }
+    {
+        let number = self.words.len();
+        let old = self.numbers.insert(*word, number)?;
+        match old {
+            Some(known) => {
+                self.numbers.insert(*word, known)?;
+                Ok(known)
+            }
+            None => {
+                self.put_behind(number, word)?;
+                Ok(number)
+            }
+        }
+    }
+
+    /// Puts a word behind the others, with a hint for it.
+    fn put_behind(&mut self, number: usize, word: &Word) -> Result<(), AllocError>
+        ensures words { OnOk result (self.new.words.items ≡ self.old.words.items ++ word.now ∷ []) }
+        ensures numbers { self.new.numbers ≡ self.old.numbers }
     {
         let alloc = *self.words.allocator();
-        let number = self.words.len();
-        self.numbers.insert(*word, number)?;
         self.words.push(*word)?;
         if self.hints.are_full(number) {
             self.hints.grow(alloc, self.words.as_slice())?;
         } else {
             self.hints.put(number, word);
         }
-        Ok(number)
+        Ok(())
     }
 
     /// The word's number, where a hint tells.
