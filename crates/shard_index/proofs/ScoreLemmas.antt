@@ -10,7 +10,8 @@ use Rattle.query_grammar.specs.Truth.{is_among}
 use Rattle.query_model.specs.Answers.{times_in}
 use Rattle.query_model.specs.Parts.{weighted_score}
 use Rattle.shard_index.specs.Counting.{DifferentWords}
-use Rattle.shard_index.proofs.WordLemmas.{count_in, count_in-cons}
+use Rattle.shard_index.specs.Places.{has_one}
+use Rattle.shard_index.proofs.WordLemmas.{count_in, count_in-cons, none-count}
 
 -- different words stand in a document no more often than it has words
 
@@ -152,20 +153,50 @@ filter-push (s ∷ ss) score = by (ltb 0 s.1) (ltb 0 score.1) (filter-push ss sc
 abbrev pub positive : List (ℕ × ℕ) → List (ℕ × ℕ)
 positive scores = filter (λ p. ltb 0 p.1) scores
 
-pub positive-more : (ids totals : List ℕ) (i : ℕ) → i < length ids → i < length totals → ltb 0 (get_or totals i 0) ≡ true
-    → positive (zip (take i ids) (take i totals)) ++ (get_or ids i 0, get_or totals i 0) ∷ [] ≡ positive (zip (take (i + 1) ids) (take (i + 1) totals))
-positive-more ids totals i a b some =
-    let pair : ℕ × ℕ = (get_or ids i 0, get_or totals i 0) in
-    sym (ap positive (zip-push ids totals i 0 0 a b) ∙ (filter-push (zip (take i ids) (take i totals)) pair
-    ∙ ap (λ c. cond c (positive (zip (take i ids) (take i totals)) ++ pair ∷ []) (positive (zip (take i ids) (take i totals)))) some))
+pub positive-one : (scores : List (ℕ × ℕ)) (score : ℕ × ℕ) → ltb 0 score.1 ≡ true → positive scores ++ score ∷ [] ≡ positive (scores ++ score ∷ [])
+positive-one scores score some = sym (filter-push scores score ∙ ap (λ c. cond c (positive scores ++ score ∷ []) (positive scores)) some)
 
-pub positive-same : (ids totals : List ℕ) (i : ℕ) → i < length ids → i < length totals → ltb 0 (get_or totals i 0) ≡ false
-    → positive (zip (take i ids) (take i totals)) ≡ positive (zip (take (i + 1) ids) (take (i + 1) totals))
-positive-same ids totals i a b none =
-    let pair : ℕ × ℕ = (get_or ids i 0, get_or totals i 0) in
-    sym (ap positive (zip-push ids totals i 0 0 a b) ∙ (filter-push (zip (take i ids) (take i totals)) pair
-    ∙ ap (λ c. cond c (positive (zip (take i ids) (take i totals)) ++ pair ∷ []) (positive (zip (take i ids) (take i totals)))) none))
+pub positive-none : (scores : List (ℕ × ℕ)) (score : ℕ × ℕ) → ltb 0 score.1 ≡ false → positive scores ≡ positive (scores ++ score ∷ [])
+positive-none scores score none = sym (filter-push scores score ∙ ap (λ c. cond c (positive scores ++ score ∷ []) (positive scores)) none)
+
+pub zip-at : (xs ys : List ℕ) (i : ℕ) → i < length xs → i < length ys → get_or (zip xs ys) i (0, 0) ≡ (get_or xs i 0, get_or ys i 0)
+zip-at [] ys i a b = absurd (omega arith)
+zip-at (x ∷ xs) [] i a b = absurd (omega arith)
+zip-at (x ∷ xs) (y ∷ ys) zero a b = refl
+zip-at (x ∷ xs) (y ∷ ys) (suc i) a b = zip-at xs ys i (omega arith) (omega arith)
 
 pub zip-maps : (score : Doc → ℕ) (docs : List Doc) → zip (map (λ d. d.id) docs) (map score docs) ≡ map (λ d. (d.id, score d)) docs
 zip-maps score [] = refl
 zip-maps score (d ∷ ds) = ap (λ (ps : List (ℕ × ℕ)). (d.id, score d) ∷ ps) (zip-maps score ds)
+
+-- a document with none of the words has no score
+no-score : (d : Doc) (words : List Word) (weights : List ℕ) → has_one words d ≡ false → weighted_score (zip words weights) d ≡ 0
+no-score d [] weights none = refl
+no-score d (w ∷ ws) [] none = refl
+no-score d (w ∷ ws) (g ∷ gs) none =
+    let apart = or_none (is_among w d.words) (has_one ws d) none in
+    let times : times_in d w ≡ 0 = none-count w d.words apart.0 in
+    sum_by-cons (λ (p : Word × ℕ). times_in d p.0 * p.1) (w, g) (zip ws gs) ∙ ((λ k. times k * g + no-score d ws gs apart.1 k) ∙ nothing g)
+  where
+    nothing : (n : ℕ) → 0 * n + 0 ≡ 0
+    nothing n = omega arith
+
+-- documents with none of the words can be left out
+pub scores-of-some : (words : List Word) (weights : List ℕ) (test : Doc → Bool) (docs : List Doc) → ((d : Doc) → test d ≡ false → has_one words d ≡ false)
+    → positive (map (λ d. (d.id, weighted_score (zip words weights) d)) (filter test docs)) ≡ positive (map (λ d. (d.id, weighted_score (zip words weights) d)) docs)
+scores-of-some words weights test [] others = refl
+scores-of-some words weights test (d ∷ ds) others = by (test d) (λ e. no-score d words weights (others d e)) (scores-of-some words weights test ds others)
+  where
+    score : Doc → ℕ
+    score = weighted_score (zip words weights)
+
+    pair : Doc → ℕ × ℕ
+    pair e = (e.id, score e)
+
+    rest : List (ℕ × ℕ)
+    rest = positive (map pair ds)
+
+    by : (b : Bool) → (b ≡ false → score d ≡ 0) → positive (map pair (filter test ds)) ≡ rest
+        → positive (map pair (cond b (d ∷ filter test ds) (filter test ds))) ≡ cond (ltb 0 (score d)) (pair d ∷ rest) rest
+    by true none more = ap (λ ps. cond (ltb 0 (score d)) (pair d ∷ ps) ps) more
+    by false none more = more ∙ sym (ap (λ n. cond (ltb 0 n) (pair d ∷ rest) rest) (none refl))

@@ -1,6 +1,6 @@
 -- At which places documents stand that pass a test, and where a word stands.
 use Rattle.std.specs.Prelude.{ℕ, ◌+◌, ◌-◌, List, [], ◌∷◌, ◌++◌, length, Bool, replicate, nat_eq, nat_lt, slice_get, Some, if◌then◌else◌}
-use Rattle.std.specs.List.{fold}
+use Rattle.std.specs.List.{fold, list_any}
 use Rattle.std.specs.Option.{option_eq}
 use Rattle.fan_base.specs.declared.doc.Doc.{Doc}
 use Rattle.fan_base.specs.declared.word.Word.{Word}
@@ -10,6 +10,9 @@ use Rattle.query_model.specs.Answers.{times_in}
 
 abbrev pub has_word : Word → Doc → Bool
 has_word word doc = is_among word doc.words
+
+abbrev pub has_one : List Word → Doc → Bool
+has_one words doc = list_any (λ word. is_among word doc.words) words
 
 abbrev pub holds_in : Tree → Doc → Bool
 holds_in e doc = is_true e doc.words

@@ -58,7 +58,7 @@ fn all_but(alloc: Global, count: usize, left_out: &[u32]) -> Result<Vec<u32>, Al
 }
 
 /// All places of so many documents.
-fn places_below(alloc: Global, count: usize) -> Result<Vec<u32>, AllocError>
+pub fn places_below(alloc: Global, count: usize) -> Result<Vec<u32>, AllocError>
     requires { count < 2 ^ 32 }
     ensures { IfOk result (λ places. (docs : List Doc) → length docs ≡ count → places.items ≡ places_where (λ _. true) docs) }
 {

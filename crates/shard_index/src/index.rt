@@ -3,16 +3,16 @@ ghost use Rattle.fan_base.specs.declared.doc.Doc.{Doc};
 ghost use Rattle.query_model.specs.Answers.{hits_of, holding, times_in};
 ghost use Rattle.query_model.specs.Parts.{weighted_score, weighted_top};
 ghost use Rattle.shard_index.specs.Counting.{counts_of, DifferentWords};
-ghost use Rattle.shard_index.specs.Places.{has_word, holds_in, places_where, standing_of};
-ghost use Rattle.shard_index.specs.Selections.{Selects};
+ghost use Rattle.shard_index.specs.Places.{has_one, has_word, holds_in, places_where, standing_of};
+ghost use Rattle.shard_index.specs.Selections.{ScoresAt, Selects};
 ghost use Rattle.shard_index.specs.Standing.{HasRoom, Indexes, Reads};
 
 use crate::counts::Counts;
 use crate::front::{below, distinct};
-use crate::hits::hits;
+use crate::hits::{hits, places_below};
 use crate::marks::{mark_at, no_marks};
 use crate::reading::Reading;
-use crate::selection::{Selection, both};
+use crate::selection::{Selection, all, both};
 use crate::totals::{add_at, first_scores, zeros};
 use fan_base::{Numbers, Scores, Word};
 use query_grammar::{Expr, Node};
@@ -139,7 +139,62 @@ impl Index {
             → IfOk result (λ scores. scores ≡ weighted_top k words.now weights.now (take front docs)) }
     {
         let totals = self.totals(alloc, front, words, weights)?;
-        first_scores(alloc, &self.ids[..front], totals.as_slice(), k)
+        let places = self.places_scored(alloc, front, words)?;
+        first_scores(
+            alloc,
+            &self.ids[..front],
+            totals.as_slice(),
+            places.as_slice(),
+            k,
+        )
+    }
+
+    /// The places of the first documents but some with none of these words. To leave those out costs more than it saves where the
+    /// words stand often.
+    fn places_scored(
+        &self,
+        alloc: Global,
+        front: usize,
+        words: &[Word],
+    ) -> Result<Vec<u32>, AllocError>
+        requires docs { (docs : List Doc) × Indexes self.now docs }
+        requires front { front ≤ length self.now.ids.items }
+        ensures { (docs : List Doc) → Indexes self.now docs → IfOk result (λ places. ScoresAt places.items words.now (take front docs)) }
+    {
+        if self.times(front, words) < front / 8 {
+            self.places_with_one(alloc, front, words)
+        } else {
+            places_below(alloc, front)
+        }
+    }
+
+    /// How often these words stand in the first documents.
+    fn times(&self, front: usize, words: &[Word]) -> usize
+        requires { (docs : List Doc) × Indexes self.now docs }
+    {
+        let mut times: usize = 0;
+        for word in words {
+            times = times.saturating_add(below(self.standing(word), front).len());
+        }
+        times
+    }
+
+    /// The places of the documents with one of these words, among the first.
+    fn places_with_one(
+        &self,
+        alloc: Global,
+        front: usize,
+        words: &[Word],
+    ) -> Result<Vec<u32>, AllocError>
+        requires { (docs : List Doc) × Indexes self.now docs }
+        ensures { (docs : List Doc) → Indexes self.now docs → IfOk result (λ places. places.items ≡ places_where (has_one words.now) (take front docs)) }
+    {
+        let mut places = Vec::new(alloc);
+        for word in words {
+            let more = self.places_with(alloc, front, word)?;
+            places = all(alloc, places.as_slice(), more.as_slice())?;
+        }
+        Ok(places)
     }
 
     /// The scores of the documents, in their order.

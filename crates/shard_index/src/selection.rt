@@ -93,7 +93,7 @@ pub fn without(alloc: Global, a: &[u32], b: &[u32]) -> Result<Vec<u32>, AllocErr
 }
 
 /// The places that one of the lists has, or both.
-fn all(alloc: Global, a: &[u32], b: &[u32]) -> Result<Vec<u32>, AllocError>
+pub fn all(alloc: Global, a: &[u32], b: &[u32]) -> Result<Vec<u32>, AllocError>
     ensures { (p q : Doc → Bool) (docs : List Doc) → a.now ≡ places_where p docs → b.now ≡ places_where q docs
         → IfOk result (λ places. places.items ≡ places_where (λ doc. p doc || q doc) docs) }
 {

@@ -1,11 +1,12 @@
-use Rattle.std.proofs.Common.{◌≡◌, ◌+◌, ◌<◌, ◌≤◌, ◌++◌, ◌∷◌, [], ℕ, List, true, false, take, zip, ltb, length, ap, sym, ◌∙◌, arith, get_or, inl, inr}
+use Rattle.std.proofs.Common.{◌≡◌, ◌+◌, ◌<◌, ◌≤◌, ◌++◌, ◌∷◌, [], ℕ, List, true, false, map, take, zip, ltb, length, ap, sym, ◌∙◌, arith, get_or, inl, inr}
 use Rattle.std.proofs.lemmas.Bool.{cases_lt}
 use Rattle.std.proofs.lemmas.Bool.Decides.{nat_tests}
-use Rattle.query_model.specs.Answers.{ranks_before}
+use Rattle.std.proofs.lemmas.List.{map_more}
+use Rattle.query_model.specs.Answers.{ranked, ranks_before}
 use Rattle.query_model.specs.Sorting.{sorted_by}
-use Rattle.shard_index.proofs.ScoreLemmas.{positive, positive-more, positive-same}
+use Rattle.shard_index.proofs.ScoreLemmas.{positive, positive-none, positive-one, zip-at}
 use Rattle.shard_index.proofs.totals.first_scores.Goals as goal
-use Rattle.shard_index.proofs.totals.first_scores.Goals.{then-totals-i+in_ok-keep_score, else-totals-i}
+use Rattle.shard_index.proofs.totals.first_scores.Goals.{then-totals-at+in_ok-keep_score, else-totals-at}
 
 is-positive : (n : ℕ) → 0 < n → ltb 0 n ≡ true
 is-positive n h = grind (arith, nat_tests)
@@ -13,42 +14,59 @@ is-positive n h = grind (arith, nat_tests)
 is-none : (n : ℕ) → n ≤ 0 → ltb 0 n ≡ false
 is-none n h = grind (arith, nat_tests)
 
+-- the pairs at the places so far
+abbrev rows : List ℕ → List ℕ → List ℕ → ℕ → List (ℕ × ℕ)
+rows ids totals places i = map (λ p. get_or (zip ids totals) p (0, 0)) (take i places)
+
+rows-more : (ids totals places : List ℕ) (i : ℕ) → i < length places → get_or places i 0 < length ids → get_or places i 0 < length totals
+    → rows ids totals places (i + 1) ≡ rows ids totals places i ++ (get_or ids (get_or places i 0) 0, get_or totals (get_or places i 0) 0) ∷ []
+rows-more ids totals places i within a b =
+    map_more (λ p. get_or (zip ids totals) p (0, 0)) places i 0 within ∙ ap (λ x. rows ids totals places i ++ x ∷ []) (zip-at ids totals (get_or places i 0) a b)
+
+-- a total that is kept
+one-kept : (k : ℕ) (some more : List (ℕ × ℕ)) (score : ℕ × ℕ) → more ≡ some ++ score ∷ [] → 0 < score.1 → take k (sorted_by ranks_before (positive some ++ score ∷ [])) ≡ take k (ranked more)
+one-kept k some more score is high = ap (λ ps. take k (sorted_by ranks_before ps)) (positive-one some score (is-positive score.1 high) ∙ ap positive (sym is))
+
 -- a total that is too small to be kept
-too-small : (k i least : ℕ) (ids totals : List ℕ) (kept : List (ℕ × ℕ)) → i < length ids → i < length totals → get_or totals i 0 < least
-    → ((score : ℕ × ℕ) (scores : List (ℕ × ℕ)) → 0 < score.1 → score.1 < least → kept ≡ take k (sorted_by ranks_before scores) → kept ≡ take k (sorted_by ranks_before (scores ++ score ∷ [])))
-    → kept ≡ take k (sorted_by ranks_before (positive (zip (take i ids) (take i totals))))
-    → kept ≡ take k (sorted_by ranks_before (positive (zip (take (i + 1) ids) (take (i + 1) totals))))
-too-small k i least ids totals kept a b low skips keeps = elim (cases_lt 0 (get_or totals i 0)) [
-  | inl some ↦
-      skips (get_or ids i 0, get_or totals i 0) (positive (zip (take i ids) (take i totals))) some low keeps
-      ∙ ap (λ ps. take k (sorted_by ranks_before ps)) (positive-more ids totals i a b (is-positive (get_or totals i 0) some))
-  | inr none ↦ keeps ∙ ap (λ ps. take k (sorted_by ranks_before ps)) (positive-same ids totals i a b (is-none (get_or totals i 0) none))
+too-small : (k least : ℕ) (kept some more : List (ℕ × ℕ)) (score : ℕ × ℕ) → more ≡ some ++ score ∷ [] → score.1 < least
+    → ((s : ℕ × ℕ) (scores : List (ℕ × ℕ)) → 0 < s.1 → s.1 < least → kept ≡ take k (sorted_by ranks_before scores) → kept ≡ take k (sorted_by ranks_before (scores ++ s ∷ [])))
+    → kept ≡ take k (ranked some) → kept ≡ take k (ranked more)
+too-small k least kept some more score is low skips keeps = elim (cases_lt 0 score.1) [
+  | inl high ↦ skips score (positive some) high low keeps ∙ one-kept k some more score is high
+  | inr none ↦ keeps ∙ ap (λ ps. take k (sorted_by ranks_before ps)) (positive-none some score (is-none score.1 none) ∙ ap positive (sym is))
 ]
 
-pub loop-i-preserved : goal.loop-i-preserved
-loop-i-preserved c =
+pub loop-place-preserved : goal.loop-place-preserved
+loop-place-preserved c =
     let ids = c.args.ids.now in
     let totals = c.args.totals.now in
-    let i = c.loop-i.i in
-    let within : i < length totals = omega (arith, c.requires, c.loop-i-test.true) in
-    elim c.if-totals-i.branch [
-      | then-totals-i+in_ok-keep_score w ↦
+    let places = c.args.places.now in
+    let i = c.loop-place.place-index in
+    let at = get_or places i 0 in
+    let inside : at < length ids = c.requires.places i 0 c.loop-place-test.true in
+    let within : at < length totals = omega (arith, c.requires.many, inside) in
+    let score : ℕ × ℕ = (get_or ids at 0, get_or totals at 0) in
+    let longer = rows-more ids totals places i c.loop-place-test.true inside within in
+    elim c.if-totals-at.branch [
+      | then-totals-at+in_ok-keep_score w ↦
           let same = ap (λ v. v.items) w.kept-is in
           record {
             kept =
                 same
-                ∙ (w.in_ok-keep_score.ensures (positive (zip (take i ids) (take i totals))) c.loop-i.invariant.kept
-                ∙ ap (λ ps. take c.args.k (sorted_by ranks_before ps)) (positive-more ids totals i c.loop-i-test.true within (is-positive (get_or totals i 0) (omega (arith, w.if-totals-i.true, c.loop-i.invariant.some)))));
+                ∙ (w.in_ok-keep_score.ensures (positive (rows ids totals places i)) c.loop-place.invariant.kept
+                ∙ one-kept c.args.k (rows ids totals places i) (rows ids totals places (i + 1)) score longer (omega (arith, w.if-totals-at.true, c.loop-place.invariant.some)));
             some = omega (arith, w.least-is, w.least_total-least.ensures.some);
-            least = λ score scores some low keeps.
+            least = λ s scores some low keeps.
                 same ∙ (sym w.as_slice.ensures.value
-                ∙ w.least_total-least.ensures.least score scores some (omega (arith, w.least-is, low)) (w.as_slice.ensures.value ∙ (sym same ∙ keeps)));
+                ∙ w.least_total-least.ensures.least s scores some (omega (arith, w.least-is, low)) (w.as_slice.ensures.value ∙ (sym same ∙ keeps)));
           }
-      | else-totals-i w ↦
+      | else-totals-at w ↦
           let same = ap (λ v. v.items) w.kept-is in
           record {
-            kept = same ∙ too-small c.args.k i c.loop-i.least ids totals c.loop-i.kept.items c.loop-i-test.true within w.if-totals-i.false c.loop-i.invariant.least c.loop-i.invariant.kept;
-            some = omega (arith, w.least-is, c.loop-i.invariant.some);
-            least = λ score scores some low keeps. same ∙ c.loop-i.invariant.least score scores some (omega (arith, w.least-is, low)) (sym same ∙ keeps);
+            kept =
+                same ∙ too-small c.args.k c.loop-place.least c.loop-place.kept.items (rows ids totals places i) (rows ids totals places (i + 1)) score longer w.if-totals-at.false
+                c.loop-place.invariant.least c.loop-place.invariant.kept;
+            some = omega (arith, w.least-is, c.loop-place.invariant.some);
+            least = λ s scores some low keeps. same ∙ c.loop-place.invariant.least s scores some (omega (arith, w.least-is, low)) (sym same ∙ keeps);
           }
     ]
