@@ -66,7 +66,7 @@ impl Dictionary {
     {
         match self.hinted_by(word, guess) {
             Some(number) => Ok(number),
-            None => self.add(word),
+            None => self.number_unhinted(word),
         }
     }
 
@@ -79,6 +79,20 @@ impl Dictionary {
             return Some(number);
         }
         self.hinted(word)
+    }
+
+    /// The word's number, where no hint tells. A new word gets the next. Where the word could have a hint it is most likely new.
+    fn number_unhinted(&mut self, word: &Word) -> Result<usize, AllocError>
+        ensures number { IfOk result (λ number. (words : List Word) → Knows self.old words → number ≡ number_in (with_word words word.now) word.now) }
+        ensures knows { OnOk result ((words : List Word) → Knows self.old words → Knows self.new (with_word words word.now)) }
+    {
+        if !self.hints.have_room(word) {
+            let number = self.looked_up(word);
+            if number < self.words.len() {
+                return Ok(number);
+            }
+        }
+        self.add(word)
     }
 
     /// The word's number by the ordered map. A new word gets the next.

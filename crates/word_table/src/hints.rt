@@ -37,6 +37,11 @@ impl Hints {
         self.of(word).first().copied().unwrap_or(NO_HINT)
     }
 
+    /// Whether one of a word's places is free.
+    pub fn have_room(&self, word: &Word) -> bool {
+        self.of(word).iter().any(|hint| *hint == NO_HINT)
+    }
+
     /// Whether so many words want more places.
     pub fn are_full(&self, words: usize) -> bool {
         words >= self.numbers.len() / 4
