@@ -23,7 +23,16 @@ pub fn words_of(alloc: Global, mut fields: Fields<'_>) -> Result<Words, LineFaul
             Err(fault) => return Err(fault),
         }
     }
-    Ok(words)
+    Ok(without_spare(words))
+}
+
+/// The words, in no more memory than they need.
+fn without_spare(words: Words) -> Words
+    ensures { result ≡ words }
+{
+    let mut words = words.into_vec();
+    words.shrink_to_fit();
+    Words::from_vec(words)
 }
 
 /// The word that a text is.
