@@ -140,6 +140,10 @@ fn first_fault_of_a_file(rt: HostRuntime) -> Result<(), Fail> {
         (b"find a\n\ndoc\n", "error line 3: missing field\n"),
         (b"find A\ndoc x\nfind )\n", "error line 2: bad number\n"),
         (b"tick 10000000\ntick 1\n", "error line 2: too many ticks\n"),
+        // What comes first of two faults in a line.
+        (b"doc 1 a\ndoc 1 a-b\n", "error line 2: bad word\n"),
+        (b"tick 10000000\ntick 0\n", "error line 2: bad number\n"),
+        (b"tick 10000000\ntick 1 1\n", "error line 2: extra field\n"),
         (b"tick 9999999\ncancel 7\ntick 1\n", ""),
         (b"find red\nfind (re", "error line 2: bad expression\n"),
         (b"doc 5 a\nhi exists a\nlo exists b\n", ""),
@@ -195,12 +199,20 @@ fn queries_times_shards(rt: HostRuntime) -> Result<(), Fail> {
 
 #[test]
 fn as_many_queries_as_there_may_be(rt: HostRuntime) -> Result<(), Fail> {
-    let mut text = repeated(rt.alloc(), b"", b"count a\n", 50_000)?;
+    let text = repeated(rt.alloc(), b"", b"count a\n", 50_000)?;
     assert!(rt; error_of(rt.alloc(), text.as_slice())?.is_empty());
-    text.extend_from_slice(b"count a\n")?;
-    let found = error_of(rt.alloc(), text.as_slice())?;
-    let wanted = b"error line 50001: too many queries\n".as_slice();
-    assert_eq!(rt; found.as_slice(), wanted);
+    for (line, wanted) in [
+        (
+            b"count a\n".as_slice(),
+            "error line 50001: too many queries\n",
+        ),
+        (b"count )\n", "error line 50001: bad expression\n"),
+    ] {
+        let mut more = text.as_slice().to_vec(rt.alloc())?;
+        more.extend_from_slice(line)?;
+        let found = error_of(rt.alloc(), more.as_slice())?;
+        assert_eq!(rt; found.as_slice(), wanted.as_bytes());
+    }
     Ok(())
 }
 
