@@ -1,14 +1,17 @@
-//! What one would take in plain Rust: an unbounded channel of crossbeam, timers over std's collections, and promises over its Mutex.
+//! What one would take in plain Rust: an unbounded channel of crossbeam, promises over std's Mutex, a pool over crossbeam's queues, and timers
+//! over std's collections.
 
 mod channel;
 mod links;
+mod pool;
 mod timers;
 
 fn main() {
     match std::env::args().nth(1).as_deref() {
-        Some("messages") => channel::run(),
         Some("links") => links::run(),
+        Some("messages") => channel::run(),
+        Some("pool") => pool::run(std::env::args().nth(2).is_some()),
         Some("timers") => timers::run(),
-        _ => eprintln!("peers links, messages or timers"),
+        _ => eprintln!("peers links, messages, pool or timers"),
     }
 }
