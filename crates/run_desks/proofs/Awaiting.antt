@@ -43,13 +43,13 @@ arrivals_stand desk n (suc k) t s less room =
     let many : length before.parts ≡ length t.parts = arrivals_many desk n k t in
     let within : place_of t n k < length t.parts = room k (omega arith) in
     ⊎_elim
-      (λ (e : s ≡ k). get_or-set_at before.parts (place_of before n k) (place_of t n s) (Some (arrival_for desk n k)) None
-          (ap (λ (a : ℕ). place_of t n a) e ∙ sym at) (omega (arith, at, many, within))
-          ∙ ap (λ (a : ℕ). Some (arrival_for desk n a)) (sym e))
-      (λ (d : s ≢ k). get_or-set_other before.parts (place_of before n k) (place_of t n s) (Some (arrival_for desk n k)) None
-          (λ (e : place_of t n s ≡ place_of before n k). d (omega (arith, e, at)))
-          ∙ arrivals_stand desk n k t s (⊎_elim (λ (l : s < k). l) (λ (e : s ≡ k). absurd (d e)) (below_or_at s k less)) (λ (a : ℕ) (l : a < k). room a (omega (arith, l))))
-      (same_or_not s k)
+    (λ (e : s ≡ k). get_or-set_at before.parts (place_of before n k) (place_of t n s) (Some (arrival_for desk n k)) None
+    (ap (λ (a : ℕ). place_of t n a) e ∙ sym at) (omega (arith, at, many, within))
+    ∙ ap (λ (a : ℕ). Some (arrival_for desk n a)) (sym e))
+    (λ (d : s ≢ k). get_or-set_other before.parts (place_of before n k) (place_of t n s) (Some (arrival_for desk n k)) None
+    (λ (e : place_of t n s ≡ place_of before n k). d (omega (arith, e, at)))
+    ∙ arrivals_stand desk n k t s (⊎_elim (λ (l : s < k). l) (λ (e : s ≡ k). absurd (d e)) (below_or_at s k less)) (λ (a : ℕ) (l : a < k). room a (omega (arith, l))))
+    (same_or_not s k)
   where
     below_or_at : (a b : ℕ) → a < suc b → (a < b) ⊎ (a ≡ b)
     below_or_at a b l = ⊎_elim (λ (e : a ≡ b). inr e) (λ (d : a ≢ b). inl (omega (arith, l, d))) (same_or_not a b)
@@ -81,18 +81,18 @@ arrivals_only desk n (suc k) t at part room stands =
     let many : length before.parts ≡ length t.parts = arrivals_many desk n k t in
     let within : place_of t n k < length t.parts = room k (omega arith) in
     ⊎_elim
-      (λ (e : at ≡ place_of before n k).
-          let put : Some (arrival_for desk n k) ≡ Some part =
-          sym (get_or-set_at before.parts (place_of before n k) at (Some (arrival_for desk n k)) None e (omega (arith, here, many, within))) ∙ stands in
-          let same : arrival_for desk n k ≡ part = cc in
-          inl (record { shard = k; within = omega arith; at_is = e ∙ here; is = sym same }))
-      (λ (d : at ≢ place_of before n k).
-          ⊎_elim
-            (λ (new : IsNew desk n k t at part). inl (record { shard = new.shard; within = omega (arith, new.within); at_is = new.at_is; is = new.is }))
-            (λ (old : awaited_at t at ≡ Some part). inr old)
-            (arrivals_only desk n k t at part (λ (a : ℕ) (l : a < k). room a (omega (arith, l)))
-              (sym (get_or-set_other before.parts (place_of before n k) at (Some (arrival_for desk n k)) None d) ∙ stands)))
-      (same_or_not at (place_of before n k))
+    (λ (e : at ≡ place_of before n k).
+    let put : Some (arrival_for desk n k) ≡ Some part =
+    sym (get_or-set_at before.parts (place_of before n k) at (Some (arrival_for desk n k)) None e (omega (arith, here, many, within))) ∙ stands in
+    let same : arrival_for desk n k ≡ part = cc in
+    inl (record { shard = k; within = omega arith; at_is = e ∙ here; is = sym same }))
+    (λ (d : at ≢ place_of before n k).
+    ⊎_elim
+    (λ (new : IsNew desk n k t at part). inl (record { shard = new.shard; within = omega (arith, new.within); at_is = new.at_is; is = new.is }))
+    (λ (old : awaited_at t at ≡ Some part). inr old)
+    (arrivals_only desk n k t at part (λ (a : ℕ) (l : a < k). room a (omega (arith, l)))
+    (sym (get_or-set_other before.parts (place_of before n k) at (Some (arrival_for desk n k)) None d) ∙ stands)))
+    (same_or_not at (place_of before n k))
 
 same_asked : (asked : Asking) (place : ℕ) (a : Asked) (coming : Coming) → ComesAt asked.lines place (Coming.begins a) → ComesAt asked.lines place coming → coming ≡ Coming.begins a
 same_asked asked place a coming first second =
@@ -106,20 +106,20 @@ same_table asked place base t none so = record {
   of = so.of;
   places = so.places;
   each = λ at query before comes on. ⊎_elim
-    (λ (e : at ≡ place). absurd (none query (subst (λ (p : ℕ). ComesAt asked.lines p (Coming.begins query)) e comes) on))
-    (λ (d : at ≢ place). so.each at query (omega (arith, before, d)) comes on)
-    (same_or_not at place);
+      (λ (e : at ≡ place). absurd (none query (subst (λ (p : ℕ). ComesAt asked.lines p (Coming.begins query)) e comes) on))
+      (λ (d : at ≢ place). so.each at query (omega (arith, before, d)) comes on)
+      (same_or_not at place);
   only = λ at part stands.
-    let is = so.only at part stands in record {
-      place = is.place;
-      query = is.query;
-      before = omega (arith, is.before);
-      comes = is.comes;
-      number_is = is.number_is;
-      on_base = is.on_base;
-      within = is.within;
-      at_is = is.at_is;
-    };
+      let is = so.only at part stands in record {
+        place = is.place;
+        query = is.query;
+        before = omega (arith, is.before);
+        comes = is.comes;
+        number_is = is.number_is;
+        on_base = is.on_base;
+        within = is.within;
+        at_is = is.at_is;
+      };
 }
 
 -- One place more, at which this query is begun for this base, and the arrivals at its desk are put.
@@ -143,53 +143,53 @@ begun_table asked place base query desk t some from_one comes few on is_desk so 
     } in
     let apart : (m s : ℕ) → 1 ≤ m → base_of asked.bases m ≡ base → m ≢ n → s < asked.shards → (a : ℕ) → a < asked.shards → place_of t m s ≢ place_of t n a =
     λ m s one m_on differ within a below same.
-        let row : m / asked.bases ≡ n / asked.bases = same_row (m / asked.bases) (n / asked.bases) asked.shards s a within below (sym (place_is m s) ∙ (same ∙ place_is n a)) in
-        differ (same_number asked.bases m n some one (from_one place query comes) (omega (arith, m_on, on)) row) in
+    let row : m / asked.bases ≡ n / asked.bases = same_row (m / asked.bases) (n / asked.bases) asked.shards s a within below (sym (place_is m s) ∙ (same ∙ place_is n a)) in
+    differ (same_number asked.bases m n some one (from_one place query comes) (omega (arith, m_on, on)) row) in
     let kept : (m : ℕ) → 1 ≤ m → base_of asked.bases m ≡ base → AwaitsQuery asked m t → AwaitsQuery asked m new =
     λ m one m_on was. ⊎_elim
-      (λ (e : m ≡ n). subst (λ (k : ℕ). AwaitsQuery asked k new) (sym e) own)
-      (λ (d : m ≢ n). record {
-        desk = was.desk;
-        is_desk = was.is_desk;
-        stand = λ s within. ap (λ (at : ℕ). awaited_at new at) (arrivals_place desk n asked.shards t m s)
-            ∙ (arrivals_others desk n asked.shards t (place_of t m s) (apart m s one m_on d within) ∙ was.stand s within);
-      })
-      (same_or_not m n) in
+    (λ (e : m ≡ n). subst (λ (k : ℕ). AwaitsQuery asked k new) (sym e) own)
+    (λ (d : m ≢ n). record {
+      desk = was.desk;
+      is_desk = was.is_desk;
+      stand = λ s within. ap (λ (at : ℕ). awaited_at new at) (arrivals_place desk n asked.shards t m s)
+          ∙ (arrivals_others desk n asked.shards t (place_of t m s) (apart m s one m_on d within) ∙ was.stand s within);
+    })
+    (same_or_not m n) in
     record {
       of = (bases, shards);
       places = arrivals_many desk n asked.shards t ∙ so.places;
       each = λ at a before a_comes a_on. ⊎_elim
-        (λ (e : at ≡ place).
-            let same : Coming.begins a ≡ Coming.begins query = same_asked asked place query (Coming.begins a) comes (subst (λ (p : ℕ). ComesAt asked.lines p (Coming.begins a)) e a_comes) in
-            let number : a.number ≡ n = cc in
-            subst (λ (k : ℕ). AwaitsQuery asked k new) (sym number) own)
-        (λ (d : at ≢ place). kept a.number (from_one at a a_comes) a_on (so.each at a (omega (arith, before, d)) a_comes a_on))
-        (same_or_not at place);
+          (λ (e : at ≡ place).
+          let same : Coming.begins a ≡ Coming.begins query = same_asked asked place query (Coming.begins a) comes (subst (λ (p : ℕ). ComesAt asked.lines p (Coming.begins a)) e a_comes) in
+          let number : a.number ≡ n = cc in
+          subst (λ (k : ℕ). AwaitsQuery asked k new) (sym number) own)
+          (λ (d : at ≢ place). kept a.number (from_one at a a_comes) a_on (so.each at a (omega (arith, before, d)) a_comes a_on))
+          (same_or_not at place);
       only = λ at part stands. ⊎_elim
-        (λ (is : IsNew desk n asked.shards t at part).
-            let number : part.number ≡ n = ap (λ (p : AwaitedSeen). p.number) is.is in
-            let shard : part.shard ≡ is.shard = ap (λ (p : AwaitedSeen). p.shard) is.is in record {
-              place = place;
-              query = query;
-              before = omega arith;
-              comes = comes;
-              number_is = number;
-              on_base = on;
-              within = omega (arith, shard, is.within);
-              at_is = is.at_is ∙ (ap (λ (k : ℕ). place_of t k is.shard) (sym number) ∙ (ap (λ (k : ℕ). place_of t part.number k) (sym shard) ∙ sym (arrivals_place desk n asked.shards t part.number part.shard)));
-            })
-        (λ (was : awaited_at t at ≡ Some part).
-            let is = so.only at part was in record {
-              place = is.place;
-              query = is.query;
-              before = omega (arith, is.before);
-              comes = is.comes;
-              number_is = is.number_is;
-              on_base = is.on_base;
-              within = is.within;
-              at_is = is.at_is ∙ sym (arrivals_place desk n asked.shards t part.number part.shard);
-            })
-        (arrivals_only desk n asked.shards t at part room stands);
+          (λ (is : IsNew desk n asked.shards t at part).
+          let number : part.number ≡ n = ap (λ (p : AwaitedSeen). p.number) is.is in
+          let shard : part.shard ≡ is.shard = ap (λ (p : AwaitedSeen). p.shard) is.is in record {
+            place = place;
+            query = query;
+            before = omega arith;
+            comes = comes;
+            number_is = number;
+            on_base = on;
+            within = omega (arith, shard, is.within);
+            at_is = is.at_is ∙ (ap (λ (k : ℕ). place_of t k is.shard) (sym number) ∙ (ap (λ (k : ℕ). place_of t part.number k) (sym shard) ∙ sym (arrivals_place desk n asked.shards t part.number part.shard)));
+          })
+          (λ (was : awaited_at t at ≡ Some part).
+          let is = so.only at part was in record {
+            place = is.place;
+            query = is.query;
+            before = omega (arith, is.before);
+            comes = is.comes;
+            number_is = is.number_is;
+            on_base = is.on_base;
+            within = is.within;
+            at_is = is.at_is ∙ sym (arrivals_place desk n asked.shards t part.number part.shard);
+          })
+          (arrivals_only desk n asked.shards t at part room stands);
     }
 
 get_set_same : {X : Type 0} (xs : List X) (i : ℕ) (y z : X) → slice_get (set xs i y) i ≡ Some z → y ≡ z
@@ -214,19 +214,19 @@ dealt_begun asked place k query desk tables table some from_one comes few base i
     let put = with_arrivals desk query.number asked.shards table in
     record {
       each = λ j t at. ⊎_elim
-        (λ (e : j ≡ k).
-            let is : put ≡ t = get_set_same tables k put t (subst (λ (i : ℕ). slice_get (set tables k put) i ≡ Some t) e at) in
-            subst (λ (i : ℕ). AwaitsBegun asked (place + 1) (1 + i) t) (sym e) (subst (λ (x : TableSeen). AwaitsBegun asked (place + 1) (1 + k) x) is
-            (begun_table asked place (1 + k) query desk table some from_one comes few (sym base) is_desk (so.each k table there))))
-        (λ (d : j ≢ k).
-            same_table asked place (1 + j) t
-            (λ a a_comes on.
-                let same : Coming.begins a ≡ Coming.begins query = same_asked asked place query (Coming.begins a) comes a_comes in
-                let number : a.number ≡ query.number = cc in
-                let bases : base_of asked.bases a.number ≡ base_of asked.bases query.number = ap (base_of asked.bases) number in
-                d (omega (arith, on, bases, base)))
-            (so.each j t (sym (get_set_other tables k j put d) ∙ at)))
-        (same_or_not j k);
+          (λ (e : j ≡ k).
+          let is : put ≡ t = get_set_same tables k put t (subst (λ (i : ℕ). slice_get (set tables k put) i ≡ Some t) e at) in
+          subst (λ (i : ℕ). AwaitsBegun asked (place + 1) (1 + i) t) (sym e) (subst (λ (x : TableSeen). AwaitsBegun asked (place + 1) (1 + k) x) is
+          (begun_table asked place (1 + k) query desk table some from_one comes few (sym base) is_desk (so.each k table there))))
+          (λ (d : j ≢ k).
+          same_table asked place (1 + j) t
+          (λ a a_comes on.
+          let same : Coming.begins a ≡ Coming.begins query = same_asked asked place query (Coming.begins a) comes a_comes in
+          let number : a.number ≡ query.number = cc in
+          let bases : base_of asked.bases a.number ≡ base_of asked.bases query.number = ap (base_of asked.bases) number in
+          d (omega (arith, on, bases, base)))
+          (so.each j t (sym (get_set_other tables k j put d) ∙ at)))
+          (same_or_not j k);
     }
 
 -- all tables, one place more, at which a query is cancelled
@@ -234,10 +234,10 @@ pub dealt_cancelled : (asked : Asking) (place : ℕ) (query : Asked) (tables : L
     → AreDealt asked place tables → AreDealt asked (place + 1) tables
 dealt_cancelled asked place query tables comes so = record {
   each = λ k t at. same_table asked place (1 + k) t
-    (λ a a_comes on.
-        let same : Coming.cancels query ≡ Coming.begins a = same_asked asked place a (Coming.cancels query) a_comes comes in
-        absurd cc)
-    (so.each k t at);
+      (λ a a_comes on.
+      let same : Coming.cancels query ≡ Coming.begins a = same_asked asked place a (Coming.cancels query) a_comes comes in
+      absurd cc)
+      (so.each k t at);
 }
 
 none_stands : (parts : List (Option AwaitedSeen)) (at : ℕ) → All (λ part. part ≡ None) parts → get_or parts at None ≡ None
@@ -269,9 +269,9 @@ dealt_none asked tables none = record { each = λ k table there. let past : None
 dealt_more : (asked : Asking) (tables : List TableSeen) (t : TableSeen) → ((base : ℕ) → AwaitsBegun asked 0 base t) → AreDealt asked 0 tables → AreDealt asked 0 (tables ++ t ∷ [])
 dealt_more asked tables t new so = record {
   each = λ k table there. ⊎_elim
-    (λ (old : slice_get tables k ≡ Some table). so.each k table old)
-    (λ (last : (k ≡ length tables) × (t ≡ table)). subst (λ (x : TableSeen). AwaitsBegun asked 0 (1 + k) x) last.1 (new (1 + k)))
-    (get_push tables t table k there);
+      (λ (old : slice_get tables k ≡ Some table). so.each k table old)
+      (λ (last : (k ≡ length tables) × (t ≡ table)). subst (λ (x : TableSeen). AwaitsBegun asked 0 (1 + k) x) last.1 (new (1 + k)))
+      (get_push tables t table k there);
 }
 
 -- one arrival more is put

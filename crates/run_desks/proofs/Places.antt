@@ -15,9 +15,9 @@ row_less p q width less some =
 
 pub same_row : (p q width a b : ℕ) → a < width → b < width → p * width + a ≡ q * width + b → p ≡ q
 same_row p q width a b first second same = ⊎_elim (λ e. e) (λ o. absurd (⊎_elim
-      (λ (less : p < q). omega (arith, row_less p q width less (omega (arith, first)), first, same))
-      (λ (more : q < p). omega (arith, row_less q p width more (omega (arith, first)), second, same))
-      o)) (cases_order p q)
+    (λ (less : p < q). omega (arith, row_less p q width less (omega (arith, first)), first, same))
+    (λ (more : q < p). omega (arith, row_less q p width more (omega (arith, first)), second, same))
+    o)) (cases_order p q)
 
 -- numbers from 1 on with one quotient, which lie on one base, are the same
 pub same_number : (bases n m : ℕ) → 0 < bases → 1 ≤ n → 1 ≤ m → (n - 1) % bases ≡ (m - 1) % bases → n / bases ≡ m / bases → n ≡ m
@@ -32,12 +32,12 @@ same_number bases n m some first second on_one in_one =
     let turn_n : p * bases + (n - 1) % bases ≡ n - 1 = div-add-mod' (n - 1) bases in
     let turn_m : q * bases + (m - 1) % bases ≡ m - 1 = div-add-mod' (m - 1) bases in
     ⊎_elim
-      (λ (e : p ≡ q). let turns : p * bases ≡ q * bases = ap (λ (k : ℕ). k * bases) e in omega (arith, turns, turn_n, turn_m, on_one, first, second))
-      (λ o. absurd (⊎_elim
-        (λ (less : p < q). omega (arith, row_less p q bases less some, turn_n, turn_m, on_one, first, second, row_n, row_m, rows, below_n, below_m))
-        (λ (more : q < p). omega (arith, row_less q p bases more some, turn_n, turn_m, on_one, first, second, row_n, row_m, rows, below_n, below_m))
-        o))
-      (cases_order p q)
+    (λ (e : p ≡ q). let turns : p * bases ≡ q * bases = ap (λ (k : ℕ). k * bases) e in omega (arith, turns, turn_n, turn_m, on_one, first, second))
+    (λ o. absurd (⊎_elim
+    (λ (less : p < q). omega (arith, row_less p q bases less some, turn_n, turn_m, on_one, first, second, row_n, row_m, rows, below_n, below_m))
+    (λ (more : q < p). omega (arith, row_less q p bases more some, turn_n, turn_m, on_one, first, second, row_n, row_m, rows, below_n, below_m))
+    o))
+    (cases_order p q)
 
 -- the part of a number up to the highest, and of a shard, has a place
 pub has_place : (number highest bases shard shards : ℕ) → 0 < bases → number ≤ highest → shard < shards → number / bases * shards + shard < (highest / bases + 1) * shards

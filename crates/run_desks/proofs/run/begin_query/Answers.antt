@@ -38,5 +38,5 @@ returns-clause-dealt g c =
     let put = put_is desk c.number-number.result b.query.number c.open_query.new.keys.shards asked.shards table c.await_parts.new.table c.await_parts.ensures number of.shards in
     subst (λ (t : TableSeen). AreDealt asked (c.args.place + 1) (set tables k t)) (sym put)
     (dealt_begun asked c.args.place k b.query desk tables table of.countable.some_bases (c.comings_are_queries.ensures.from_one asked.lines) b.comes few base is_desk
-      (slice_get_read tables asked.bases k table (sym c.requires.tables.as_many) (omega (arith, c.base_place-base.ensures.within, of.bases)) c.index_mut.ensures.value)
-      c.requires.dealt)
+    (slice_get_read tables asked.bases k table (sym c.requires.tables.as_many) (omega (arith, c.base_place-base.ensures.within, of.bases)) c.index_mut.ensures.value)
+    c.requires.dealt)
