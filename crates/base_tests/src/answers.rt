@@ -14,6 +14,9 @@ use std::thread::join;
 
 const NOTES: u64 = 20_000;
 
+// Some thousandths of a second.
+const A_WHILE: u64 = 1_000_000;
+
 // Where the id of each note that ran is put.
 struct Answers {
     sender: Sender<u64>,
@@ -123,5 +126,45 @@ fn no_note_is_slept_through(rt: HostRuntime) {
         (queue.put(), queue.taken(), queue.left()),
         (NOTES, NOTES, 0)
     );
+    assert_eq!(rt; rest.pop(), None);
+}
+
+// Waits until the base has fallen asleep, by far, and ends without a post.
+fn end_late<R: Wait>(rt: &R, poster: Poster<Note>) -> SenderEnd<Note>
+    requires { poster.sent ≡ [] }
+    ensures end { (result.queue ≡ poster.queue) × (result.number ≡ poster.number) }
+    ensures posts { AllOn (λ note. note.0.exec) EXEC result }
+{
+    for _ in 0..A_WHILE {
+        hint::spin_loop();
+    }
+    poster.end(rt)
+}
+
+// A base that an end doesn't wake sleeps for good.
+#[test]
+fn an_end_wakes_a_base(rt: HostRuntime) {
+    let alloc = rt.alloc();
+    let ends = place_for_one(&rt, alloc);
+    let (base, poster) = one_poster(&rt, alloc);
+    let (answers, sender) = one_sender(&rt, alloc);
+    let poster = wrapped(&rt, alloc, poster);
+    let base = wrapped(&rt, alloc, base);
+    let world = wrapped(&rt, alloc, Answers { sender });
+    let (end, ran) = join(
+        &rt,
+        move ||
+            requires { poster.sent ≡ [] }
+            ensures end { (result.queue ≡ poster.queue) × (result.number ≡ poster.number) }
+            ensures posts { AllOn (λ note. note.0.exec) EXEC result }
+        { end_late(&rt, poster.open()) },
+        move || run_until_closed(&rt, base.open(), world.open()),
+    );
+    let (base, world, why) = ran;
+    assert_eq!(rt; why, Why::Closed);
+    let _answers = wrapped(&rt, alloc, answers);
+    let _world = wrapped(&rt, alloc, world);
+    let BaseEnd { queue, mut rest } = close_one(&rt, base, end, ends);
+    assert_eq!(rt; (queue.put(), queue.left()), (0, 0));
     assert_eq!(rt; rest.pop(), None);
 }

@@ -86,3 +86,25 @@ fn a_living_posters_messages_run_in_the_next_round(rt: HostRuntime) {
     let BaseEnd { queue, rest: _ } = close_one(&rt, base, poster.end(&rt), ends);
     assert_eq!(rt; (queue.put(), queue.taken(), queue.left()), (12, 12, 0));
 }
+
+// Ten messages of a poster that has ended: the round that takes them doesn't learn that nothing more can come. A base that sleeps behind it
+// sleeps for good.
+#[test]
+fn a_loop_ends_behind_a_full_round(rt: HostRuntime) {
+    let ends = place_for_one(&rt, rt.alloc());
+    let (mut base, mut poster) = one_poster(&rt, rt.alloc());
+    let mut world = Vec::new(rt.alloc());
+    for id in 20..30 {
+        assert!(rt; post(&rt, &mut poster, id));
+    }
+    let end = poster.end(&rt);
+    let all = whole_loop(&rt, &mut base, &mut world);
+    let closed = LoopEnd {
+        rounds: 2,
+        why: Why::Closed,
+    };
+    assert_eq!(rt; (all, world.len()), (closed, 10));
+    let BaseEnd { queue, mut rest } = close_one(&rt, base, end, ends);
+    assert_eq!(rt; (queue.put(), queue.left()), (10, 0));
+    assert_eq!(rt; rest.pop(), None);
+}
