@@ -1,4 +1,4 @@
-ghost use Rattle.std.specs.Prelude.{◌≡◌, ◌<◌, ◌≤◌, false, length, All, IfOk};
+ghost use Rattle.std.specs.Prelude.{◌≡◌, ◌<◌, ◌≤◌, [], false, length, vec_capacity, All, IfOk};
 ghost use Rattle.core_word.specs.Seen.{SeenHome};
 ghost use Rattle.core_cells.specs.Seen.{SeenPass};
 
@@ -237,5 +237,95 @@ fn two_threads_take_and_give_back_a_hundred_thousand_cells(rt: HostRuntime) -> R
     assert_eq!(rt; (own, other_own), (50000, 50000));
     assert_eq!(rt; counts(&t), (100000, 100000, 100000, 100000));
     assert_eq!(rt; first.free_cells(&rt, 9, &mut t), 8);
+    Ok(())
+}
+
+// Cells with one pass.
+fn cells_of_one_pass<'h>(
+    rt: &impl Wait,
+    alloc: Global,
+    homes: &'h mut [Numbers],
+) -> Result<(Cells<'h, u64, u64, u64>, CellPass<'h, u64, u64, u64>), AllocError>
+    requires homes { (0 < length homes.old) × (length homes.old ≤ 65536) }
+    requires untaken { All (λ (home : SeenHome). home.taken ≡ false) homes.old }
+    ensures { IfOk result (λ made. (made.1.cells ≡ made.0) × (made.1.passes ≡ 1)) }
+{
+    let Ok((cells, mut passes)) = Cells::new(rt, alloc, homes, 1) else {
+        return Err(AllocError);
+    };
+    let Some(pass) = passes.pop() else {
+        unreachable!()
+    };
+    Ok((cells, pass))
+}
+
+fn ended(left: Left<'_, u64, u64, u64>, t: &mut Tally) {
+    match left {
+        Left::First(_) => {}
+        Left::Last(_, husk) => husk.end(t),
+    }
+}
+
+// Begins a core, and ends it without giving its cell back.
+fn ended_for_good<'h>(
+    rt: &impl Wait,
+    cells: &Cells<'h, u64, u64, u64>,
+    pass: &mut CellPass<'h, u64, u64, u64>,
+    t: &mut Tally,
+)
+    requires { pass.old.cells ≡ cells.now }
+    ensures { (pass.new.cells ≡ pass.old.cells) × (pass.new.passes ≡ pass.old.passes) }
+{
+    let Ok((producer, consumer)) = cells.core(rt, pass, 1, t) else {
+        return;
+    };
+    let (answer, producer) = producer.set_result(Try::Value(5));
+    match answer {
+        Landed::Waiting => {}
+        Landed::Fire(fire) => {
+            fire.unpack(t);
+        }
+    }
+    ended(producer.leave(), t);
+    ended(consumer.give_up().leave(), t);
+}
+
+fn closed<'h>(
+    rt: &impl Wait,
+    cells: Cells<'h, u64, u64, u64>,
+    mut passes: Vec<CellPass<'h, u64, u64, u64>>,
+    pass: CellPass<'h, u64, u64, u64>,
+) -> usize
+    requires place { (passes.items ≡ []) × (1 ≤ vec_capacity passes) }
+    requires only { (pass.cells ≡ cells) × (pass.passes ≡ 1) }
+{
+    passes.push_reserved(pass);
+    cells.close(rt, passes)
+}
+
+// Closes cells one of which was not given back: how many are free.
+fn free_at_the_close<'h>(
+    rt: &impl Wait,
+    alloc: Global,
+    homes: &'h mut [Numbers],
+    t: &mut Tally,
+) -> Result<usize, AllocError>
+    requires homes { (0 < length homes.old) × (length homes.old ≤ 65536) }
+    requires untaken { All (λ (home : SeenHome). home.taken ≡ false) homes.old }
+{
+    let (cells, mut pass) = cells_of_one_pass(rt, alloc, homes)?;
+    let passes = Vec::with_capacity(alloc, 1)?;
+    ended_for_good(rt, &cells, &mut pass, t);
+    Ok(closed(rt, cells, passes, pass))
+}
+
+#[test]
+fn a_close_says_how_many_cells_are_free(rt: HostRuntime) -> Result<(), Fail> {
+    let alloc = rt.alloc();
+    let mut homes = [home(alloc)?, home(alloc)?, home(alloc)?];
+    let mut t = Tally::new();
+    let free = free_at_the_close(&rt, alloc, &mut homes, &mut t)?;
+    assert_eq!(rt; free, 2);
+    assert_eq!(rt; counts(&t), (1, 0, 1, 0));
     Ok(())
 }
