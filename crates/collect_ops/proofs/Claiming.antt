@@ -16,7 +16,7 @@ use Rattle.collect_ops.specs.declared.view.Phase.TheVariants as phase
 use Rattle.collect_ops.specs.declared.view.View.{View}
 use Rattle.collect_ops.specs.declared.view.View.TheVariants as view
 use Rattle.collect_ops.specs.Views.{waits}
-use Rattle.collect_ops.specs.Rule.{Home, Cells, Claim, free, out, back, claim_word, left_of, PhaseFits, home_of, end_home, Gathering, DeskHolds}
+use Rattle.collect_ops.specs.Rule.{Home, DeskState, Claim, free, out, back, claim_word, left_of, PhaseFits, home_of, end_home, Gathering, DeskHolds}
 use Rattle.collect_ops.specs.Steps.{Standing, claims, returns_end}
 use Rattle.collect_ops.proofs.Lists.{within, set_last, words_at_claim, claim_word_is, left_set, same_arrival}
 use Rattle.collect_ops.proofs.Gather.{claimer_stays, arrives, gathers, home_same, Owes, arrival_steps}
@@ -65,7 +65,7 @@ module _ {X E : Type 0} (slots id n : ℕ) (r : Ending X E) (k : ℕ) where
   left_same : (ps : List (Phase X)) (p q : Phase X) → get_elem? ps k ≡ maybe.some p → waits p ≡ waits q → left_of ps ≡ left_of (set ps k q)
   left_same ps p q at same = let e = left_set ps k p q at in omega arith
 
-  claimed : (s : Cells X E) (b : Gathering s) → get_elem? s.views id ≡ maybe.some ready → slice_index s.words 1 ≡ 0 → b.claim ≡ free
+  claimed : (s : DeskState X E) (b : Gathering s) → get_elem? s.views id ≡ maybe.some ready → slice_index s.words 1 ≡ 0 → b.claim ≡ free
       → DeskHolds record { words = slice_set s.words 1 1; homes = set s.homes n maybe.none; views = set s.views id claiming }
   claimed s b at found is =
       let f = arrives s b id n r k phase.Ready at in
@@ -78,7 +78,7 @@ module _ {X E : Type 0} (slots id n : ℕ) (r : Ending X E) (k : ℕ) where
       (λ j u ne h. first_fits k j u (subst (λ c. PhaseFits c j u) is h))
       (set_here b.phases k phase.Claiming (within b.phases k phase.Ready f.3))
 
-  lost : (s : Cells X E) (b : Gathering s) → get_elem? s.views id ≡ maybe.some ready → claim_word b.claim ≡ 1
+  lost : (s : DeskState X E) (b : Gathering s) → get_elem? s.views id ≡ maybe.some ready → claim_word b.claim ≡ 1
       → DeskHolds record { words = slice_set s.words 1 1; homes = s.homes; views = set s.views id (view.Arriving n r k phase.Lost) }
   lost s b at is =
       let f = arrives s b id n r k phase.Ready at in

@@ -18,7 +18,7 @@ use Rattle.collect_ops.specs.declared.view.Phase.TheVariants as phase
 use Rattle.collect_ops.specs.declared.view.View.{View}
 use Rattle.collect_ops.specs.declared.view.View.TheVariants as view
 use Rattle.collect_ops.specs.Views.{waits, end_in}
-use Rattle.collect_ops.specs.Rule.{Held, Cells, Claim, free, out, back, claim_word, left_of, ClaimFits, home_of, end_home, DeskHolds}
+use Rattle.collect_ops.specs.Rule.{Held, DeskState, Claim, free, out, back, claim_word, left_of, ClaimFits, home_of, end_home, DeskHolds}
 use Rattle.collect_ops.specs.Closing.{IsOf, IsUntouched, Closes, ClosesUntouched, Rests, kept_in_slots, kept_from, held_outcome, held_end, unclaimed, uncounted}
 use Rattle.collect_ops.proofs.Lists.{within, left_word, claim_word_is}
 use Rattle.collect_ops.proofs.Gather.{home_at}
@@ -40,15 +40,15 @@ module _ {X : Type 0} where
   nobody ps (back k) h fits = let same = some-injective _ _ (sym (h k (within ps k _ fits)) ∙ fits) in cc
 
 module _ {X E : Type 0} where
-  pub finally : (F G : Cells X E → Type 0) (words : List ℕ) (slots : List (Held X E)) → ((s : Cells X E) → F s → G s) → Final F words slots → Final G words slots
+  pub finally : (F G : DeskState X E → Type 0) (words : List ℕ) (slots : List (Held X E)) → ((s : DeskState X E) → F s → G s) → Final F words slots → Final G words slots
   finally F G words slots h f = (f.0, h f.0 f.1, f.2, f.3, f.4)
 
-  pub owner_is : (id n : ℕ) (r : Ending X E) (s : Cells X E) → Seen DeskHolds id (view.Owner n r) s → IsOf n r s
+  pub owner_is : (id n : ℕ) (r : Ending X E) (s : DeskState X E) → Seen DeskHolds id (view.Owner n r) s → IsOf n r s
   owner_is id n r s (inl b, at) = absurd (none_before s b id _ (λ h. cc) (λ h. cc) at)
   owner_is id n r s (inr (inl b), at) = let f = b.views id _ at in inl (b, sym f.0, sym f.1)
   owner_is id n r s (inr (inr b), at) = let f = b.views id _ at in inr (b, sym f.0, sym f.1)
 
-  pub dealer_is : (id n d : ℕ) (r : Ending X E) (s : Cells X E) → Seen DeskHolds id (view.Dealing n r d) s → IsOf n r s
+  pub dealer_is : (id n d : ℕ) (r : Ending X E) (s : DeskState X E) → Seen DeskHolds id (view.Dealing n r d) s → IsOf n r s
   dealer_is id n d r s (inl b, at) = absurd (none_before s b id _ (λ h. cc) (λ h. cc) at)
   dealer_is id n d r s (inr (inl b), at) = let f = b.views id _ at in inl (b, sym f.0, sym f.1)
   dealer_is id n d r s (inr (inr b), at) = let f = b.views id _ at in inr (b, sym f.0, sym f.1)
@@ -160,7 +160,7 @@ module _ {X E : Type 0} where
   pub end_there : (n : ℕ) (end : Option E) (words : List ℕ) (slots : List (Held X E)) (c : Closes n end words slots) → slice_index words 1 ≡ 0 → slice_index words 0 ≢ 0 → get_elem? slots n ≡ maybe.some (Some (item.End c.ending))
   end_there n end words slots c claimed left = from c.last.0 c.last.1 c.last.2 c.last.4
     where
-      from : (s : Cells X E) → IsOf n c.ending s → s.words ≡ words → ((k : ℕ) (y : Held X E) → get_elem? s.homes k ≡ maybe.some (maybe.some y) → get_elem? slots k ≡ maybe.some y) → get_elem? slots n ≡ maybe.some (Some (item.End c.ending))
+      from : (s : DeskState X E) → IsOf n c.ending s → s.words ≡ words → ((k : ℕ) (y : Held X E) → get_elem? s.homes k ≡ maybe.some (maybe.some y) → get_elem? slots k ≡ maybe.some y) → get_elem? slots n ≡ maybe.some (Some (item.End c.ending))
       from s (inl (b, size, ending)) ws match =
           let none = nobody_claimed b.claim (sym (claim_word_is s.words _ _ b.words) ∙ (ap (λ (l : List ℕ). slice_index l 1) ws ∙ claimed)) in
           let wide : length (map (home_of {X = X} {E = E}) b.phases) ≡ n = length-map b.phases (home_of {X = X} {E = E}) ∙ (b.long ∙ size) in
@@ -210,7 +210,7 @@ module _ {X E : Type 0} where
   pub kept_back : (n : ℕ) (end : Option E) (words : List ℕ) (slots : List (Held X E)) → Closes n end words slots → slice_index words 0 ≢ 0 → n ≤ length (kept_from 0 n slots) + slice_index words 0
   kept_back n end words slots c left = from c.last.0 c.last.1 c.last.2 c.last.4
     where
-      from : (s : Cells X E) → IsOf n c.ending s → s.words ≡ words → ((k : ℕ) (y : Held X E) → get_elem? s.homes k ≡ maybe.some (maybe.some y) → get_elem? slots k ≡ maybe.some y) → n ≤ length (kept_from 0 n slots) + slice_index words 0
+      from : (s : DeskState X E) → IsOf n c.ending s → s.words ≡ words → ((k : ℕ) (y : Held X E) → get_elem? s.homes k ≡ maybe.some (maybe.some y) → get_elem? slots k ≡ maybe.some y) → n ≤ length (kept_from 0 n slots) + slice_index words 0
       from s (inl (b, size, ending)) ws match =
           let long = b.long in
           let count = kept_counts b.phases (take n slots) (λ k x found at. let below = within b.phases k _ at in take_here n k slots (Some (item.Outcome x)) (omega arith) (match k (Some (item.Outcome x)) (home_at s b k (phase.Kept x found) at))) in
@@ -231,7 +231,7 @@ module _ {X E : Type 0} where
 pub two_words : {X E : Type 0} (n : ℕ) (end : Option E) (words : List ℕ) (slots : List (Held X E)) → Closes n end words slots → words ≡ slice_index words 0 ∷ slice_index words 1 ∷ []
 two_words n end words slots c = from c.last.0 c.last.1 c.last.2
   where
-    from : (s : Cells _ _) → IsOf n c.ending s → s.words ≡ words → words ≡ slice_index words 0 ∷ slice_index words 1 ∷ []
+    from : (s : DeskState _ _) → IsOf n c.ending s → s.words ≡ words → words ≡ slice_index words 0 ∷ slice_index words 1 ∷ []
     from s (inl (b, size, ending)) ws = subst (λ (l : List ℕ). l ≡ slice_index l 0 ∷ slice_index l 1 ∷ []) (sym b.words ∙ ws) refl
     from s (inr (b, size, ending)) ws = subst (λ (l : List ℕ). l ≡ slice_index l 0 ∷ slice_index l 1 ∷ []) (sym b.words ∙ ws) refl
 

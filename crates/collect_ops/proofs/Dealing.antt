@@ -12,7 +12,7 @@ use Rattle.collect_ops.specs.declared.view.Phase.{Phase}
 use Rattle.collect_ops.specs.declared.view.Phase.TheVariants as phase
 use Rattle.collect_ops.specs.declared.view.View.{View}
 use Rattle.collect_ops.specs.declared.view.View.TheVariants as view
-use Rattle.collect_ops.specs.Rule.{Cells, GatheringView, Gathering, Unopened, DeskHolds}
+use Rattle.collect_ops.specs.Rule.{DeskState, GatheringView, Gathering, Unopened, DeskHolds}
 use Rattle.collect_ops.specs.Steps.{Standing, dealer, dealt}
 
 -- an element of a list with one more at its end
@@ -34,7 +34,7 @@ module _ {X E : Type 0} where
   other_view size r seats ps id view.Clash ne h = h
   other_view size r seats ps id view.Spent ne h = h
 
-  deals : (s : Cells X E) (b : Gathering s) (id : ℕ) (v left right : View X E) → get_elem? s.views id ≡ maybe.some v → id ≡ 0
+  deals : (s : DeskState X E) (b : Gathering s) (id : ℕ) (v left right : View X E) → get_elem? s.views id ≡ maybe.some v → id ≡ 0
       → GatheringView b.size b.ending (length s.views + 1) b.phases 0 left → GatheringView b.size b.ending (length s.views + 1) b.phases (length s.views) right
       → DeskHolds record { words = s.words; homes = s.homes; views = set s.views id left ++ right ∷ [] }
   deals s b id v left right at first mine new = inr (inl record {
@@ -71,7 +71,7 @@ module _ {X E : Type 0} where
           (λ e. subst (λ u. GatheringView b.size b.ending (length s.views + 1) b.phases j u) (r.1 (e ∙ sym wide)) (subst (λ i. GatheringView b.size b.ending (length s.views + 1) b.phases i right) (sym e) new))
           (λ ne. before j w (r.0 (λ e. ne (e ∙ wide)))))
 
-  pub none_before : (s : Cells X E) (b : Unopened s) (id : ℕ) (v : View X E) → v ≢ view.Making → v ≢ view.Opening → get_elem? s.views id ≡ maybe.some v → ⊥
+  pub none_before : (s : DeskState X E) (b : Unopened s) (id : ℕ) (v : View X E) → v ≢ view.Making → v ≢ view.Opening → get_elem? s.views id ≡ maybe.some v → ⊥
   none_before s b id v first second at = ⊎_elim
       (λ (e : (s.views ≡ view.Making ∷ []) × _). only id view.Making (λ h. first (sym h)) (sym (ap (λ vs. get_elem? vs id) e.0) ∙ at))
       (λ (e : (s.views ≡ view.Opening ∷ []) × _). only id view.Opening (λ h. second (sym h)) (sym (ap (λ vs. get_elem? vs id) e.0) ∙ at))

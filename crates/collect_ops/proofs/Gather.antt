@@ -14,7 +14,7 @@ use Rattle.collect_ops.specs.declared.view.Phase.{Phase}
 use Rattle.collect_ops.specs.declared.view.Phase.TheVariants as phase
 use Rattle.collect_ops.specs.declared.view.View.{View}
 use Rattle.collect_ops.specs.declared.view.View.TheVariants as view
-use Rattle.collect_ops.specs.Rule.{Held, Home, Cells, Claim, free, out, back, claim_word, left_of, PhaseFits, ClaimFits, home_of, end_home, Unopened, GatheringView, Gathering, FullPhase, DeskHolds}
+use Rattle.collect_ops.specs.Rule.{Held, Home, DeskState, Claim, free, out, back, claim_word, left_of, PhaseFits, ClaimFits, home_of, end_home, Unopened, GatheringView, Gathering, FullPhase, DeskHolds}
 use Rattle.collect_ops.specs.Steps.{Standing}
 use Rattle.collect_ops.proofs.Lists.{within, set_before}
 
@@ -30,7 +30,7 @@ claimer_stays ps k p q (back j) at first second stands = dite (ℕ_discrete j k)
 
 module _ {X E : Type 0} where
   -- the seat of an arrival is that of the arrival at its index
-  pub arrives : (s : Cells X E) (b : Gathering s) (id n : ℕ) (r : Ending X E) (k : ℕ) (p : Phase X) → get_elem? s.views id ≡ maybe.some (view.Arriving n r k p)
+  pub arrives : (s : DeskState X E) (b : Gathering s) (id n : ℕ) (r : Ending X E) (k : ℕ) (p : Phase X) → get_elem? s.views id ≡ maybe.some (view.Arriving n r k p)
       → (n ≡ b.size) × (r ≡ b.ending) × (id ≡ k + 2) × (get_elem? b.phases k ≡ maybe.some p)
   arrives s b id n r k p at = b.views id (view.Arriving n r k p) at
 
@@ -49,7 +49,7 @@ module _ {X E : Type 0} where
   other_view size r seats seats' ps k q id id' view.Clash mine ne same h = h
   other_view size r seats seats' ps k q id id' view.Spent mine ne same h = h
 
-  module _ (s : Cells X E) (b : Gathering s) (id n : ℕ) (r : Ending X E) (k : ℕ) (p q : Phase X) (at : get_elem? s.views id ≡ maybe.some (view.Arriving n r k p)) where
+  module _ (s : DeskState X E) (b : Gathering s) (id n : ℕ) (r : Ending X E) (k : ℕ) (p q : Phase X) (at : get_elem? s.views id ≡ maybe.some (view.Arriving n r k p)) where
     abbrev changed : List (Phase X)
     changed = set b.phases k q
 
@@ -99,7 +99,7 @@ module _ {X E : Type 0} where
     })
 
   -- an arrival that hasn't arrived has its seat while outcomes are gathered
-  pub not_unopened : (s : Cells X E) → Unopened s → (id n : ℕ) (r : Ending X E) (k : ℕ) (p : Phase X) → get_elem? s.views id ≡ maybe.some (view.Arriving n r k p) → ⊥
+  pub not_unopened : (s : DeskState X E) → Unopened s → (id n : ℕ) (r : Ending X E) (k : ℕ) (p : Phase X) → get_elem? s.views id ≡ maybe.some (view.Arriving n r k p) → ⊥
   not_unopened s b id n r k p at = ⊎_elim
       (λ (e : _ × _). none_there id view.Making (λ h. cc) (ap (λ vs. get_elem? vs id) (sym e.0) ∙ at))
       (λ (e : _ × _). none_there id view.Opening (λ h. cc) (ap (λ vs. get_elem? vs id) (sym e.0) ∙ at))
@@ -110,11 +110,11 @@ module _ {X E : Type 0} where
       none_there (suc j) v ne e = some-ne-none _ (sym e)
 
   -- the slot of an arrival
-  pub home_at : (s : Cells X E) (b : Gathering s) (k : ℕ) (p : Phase X) → get_elem? b.phases k ≡ maybe.some p → get_elem? s.homes k ≡ maybe.some (home_of p)
+  pub home_at : (s : DeskState X E) (b : Gathering s) (k : ℕ) (p : Phase X) → get_elem? b.phases k ≡ maybe.some p → get_elem? s.homes k ≡ maybe.some (home_of p)
   home_at s b k p at = ap (λ hs. get_elem? hs k) b.homes ∙ at_longer (map home_of b.phases) (end_home b.ending b.claim ∷ []) k (home_of p) (at_map home_of b.phases k p at)
 
   -- its slot changes with its phase
-  pub home_set : (s : Cells X E) (b : Gathering s) (k : ℕ) (p q : Phase X) → get_elem? b.phases k ≡ maybe.some p → set s.homes k (home_of q) ≡ map home_of (set b.phases k q) ++ end_home b.ending b.claim ∷ []
+  pub home_set : (s : DeskState X E) (b : Gathering s) (k : ℕ) (p q : Phase X) → get_elem? b.phases k ≡ maybe.some p → set s.homes k (home_of q) ≡ map home_of (set b.phases k q) ++ end_home b.ending b.claim ∷ []
   home_set s b k p q at =
       let lt = within b.phases k p at in
       let long = length-map b.phases (home_of {X = X} {E = E}) in
@@ -128,7 +128,7 @@ module _ {X E : Type 0} where
 
   -- what a step of an arrival owes while outcomes are gathered
   abbrev pub Owes : ℕ → ℕ → Ending X E → ℕ → Phase X → List (ℕ × Held X E) → ℕ → (ℕ → ℕ) → (ℕ → Standing X E → Type 0) → Type 0
-  Owes id n r k p cs i f then = (s : Cells X E) (b : Gathering s) → get_elem? s.views id ≡ maybe.some (view.Arriving n r k p) → slice_index s.words i < 18446744073709551616
+  Owes id n r k p cs i f then = (s : DeskState X E) (b : Gathering s) → get_elem? s.views id ≡ maybe.some (view.Arriving n r k p) → slice_index s.words i < 18446744073709551616
       → (w : View X E) × (a : Act (Held X E)) × Valid s.homes cs a × DeskHolds record { words = slice_set s.words i (f (slice_index s.words i)); homes = homes_after s.homes cs a; views = slice_set s.views id w }
       × then (slice_index s.words i) (w, carried_after cs a)
 

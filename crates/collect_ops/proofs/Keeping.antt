@@ -17,7 +17,7 @@ use Rattle.collect_ops.specs.declared.view.Phase.TheVariants as phase
 use Rattle.collect_ops.specs.declared.view.View.{View}
 use Rattle.collect_ops.specs.declared.view.View.TheVariants as view
 use Rattle.collect_ops.specs.Views.{waits}
-use Rattle.collect_ops.specs.Rule.{Held, Home, Cells, Claim, free, out, back, claim_word, left_of, ClaimFits, home_of, end_home, GatheringView, Gathering, FullPhase, FullView, DeskHolds}
+use Rattle.collect_ops.specs.Rule.{Held, Home, DeskState, Claim, free, out, back, claim_word, left_of, ClaimFits, home_of, end_home, GatheringView, Gathering, FullPhase, FullView, DeskHolds}
 use Rattle.collect_ops.specs.Steps.{Standing, takes_slot, keeps, full_slots}
 use Rattle.collect_ops.proofs.Lists.{within, set_before, words_at_left, left_word, left_set, left_at, left_two, left_within, same_arrival, first_held}
 use Rattle.collect_ops.proofs.Gather.{claimer_stays, arrives, gathers, home_at, home_set, Owes, arrival_steps}
@@ -105,7 +105,7 @@ module _ {X E : Type 0} (slots id n : ℕ) (r : Ending X E) (k : ℕ) (x : X) wh
   abbrev own : List (ℕ × Held X E)
   own = (k, full x) ∷ []
 
-  more : (s : Cells X E) (b : Gathering s) → get_elem? s.views id ≡ maybe.some holding → slice_index s.words 0 < 18446744073709551616
+  more : (s : DeskState X E) (b : Gathering s) → get_elem? s.views id ≡ maybe.some holding → slice_index s.words 0 < 18446744073709551616
       → DeskHolds record { words = slice_set s.words 0 (less (slice_index s.words 0)); homes = set s.homes k (maybe.some (full x)); views = set s.views id (view.Arriving n r k (phase.Kept x (slice_index s.words 0))) }
   more s b at small =
       let found : ℕ = slice_index s.words 0 in
@@ -144,7 +144,7 @@ module _ {X E : Type 0} (slots id n : ℕ) (r : Ending X E) (k : ℕ) (x : X) wh
   other_phase ps j (phase.Emptied ys) ne at one to = let two = left_two ps k j phase.Holding (phase.Emptied ys) ne at to in absurd (omega arith)
   other_phase ps j (phase.Told ys i y) ne at one to = let two = left_two ps k j phase.Holding (phase.Told ys i y) ne at to in absurd (omega arith)
 
-  full_view : (s : Cells X E) (b : Gathering s) → get_elem? b.phases k ≡ maybe.some phase.Holding → left_of b.phases ≡ 1 → id ≡ k + 2 → id < length s.views
+  full_view : (s : DeskState X E) (b : Gathering s) → get_elem? b.phases k ≡ maybe.some phase.Holding → left_of b.phases ≡ 1 → id ≡ k + 2 → id < length s.views
       → (j : ℕ) (v : View X E) → j ≢ id → GatheringView b.size b.ending (length s.views) b.phases j v → FullView b.size b.ending k (map (left_in x) b.phases) false j v
   full_view s b at one mine inside j view.Making ne h = h
   full_view s b at one mine inside j view.Opening ne h = h
@@ -170,7 +170,7 @@ module _ {X E : Type 0} (slots id n : ℕ) (r : Ending X E) (k : ℕ) (x : X) wh
   list_of ps = map (left_in x) ps
 
   -- what all slots hold, the outcome of the last one included
-  slots_then : (s : Cells X E) (b : Gathering s) → get_elem? b.phases k ≡ maybe.some phase.Holding → left_of b.phases ≡ 1 → r ≡ b.ending
+  slots_then : (s : DeskState X E) (b : Gathering s) → get_elem? b.phases k ≡ maybe.some phase.Holding → left_of b.phases ≡ 1 → r ≡ b.ending
       → set s.homes k (maybe.some (full x)) ≡ partly 0 (map full (list_of b.phases) ++ Some (item.End r) ∷ [])
   slots_then s b at one same =
       let c = unclaimed b.phases b.claim at one b.claimer in
@@ -182,7 +182,7 @@ module _ {X E : Type 0} (slots id n : ℕ) (r : Ending X E) (k : ℕ) (x : X) wh
       ∙ ((λ i. all_left x b.phases k at one i ++ end_home (sym same i) (c i) ∷ [])
       ∙ kept_home x (list_of b.phases) (Some (item.End r))))
 
-  last : (s : Cells X E) (b : Gathering s) → get_elem? s.views id ≡ maybe.some holding → slice_index s.words 0 ≡ 1 → (hs : List (Home X E)) → hs ≡ replicate (n + 1) maybe.none
+  last : (s : DeskState X E) (b : Gathering s) → get_elem? s.views id ≡ maybe.some holding → slice_index s.words 0 ≡ 1 → (hs : List (Home X E)) → hs ≡ replicate (n + 1) maybe.none
       → DeskHolds record { words = slice_set s.words 0 (less (slice_index s.words 0)); homes = hs; views = set s.views id (view.Arriving n r k (phase.Emptying (list_of b.phases))) }
   last s b at found hs empty =
       let f = arrives s b id n r k phase.Holding at in

@@ -11,7 +11,7 @@ use Rattle.collect_ops.specs.declared.view.Phase.{Phase}
 use Rattle.collect_ops.specs.declared.view.Phase.TheVariants as phase
 use Rattle.collect_ops.specs.declared.view.View.{View}
 use Rattle.collect_ops.specs.declared.view.View.TheVariants as view
-use Rattle.collect_ops.specs.Rule.{Held, Cells, free, left_of, PhaseFits, home_of, GatheringView, Unopened, DeskHolds}
+use Rattle.collect_ops.specs.Rule.{Held, DeskState, free, left_of, PhaseFits, home_of, GatheringView, Unopened, DeskHolds}
 use Rattle.collect_ops.specs.Steps.{Standing, takes_end_slot, gives_end}
 use Rattle.collect_ops.proofs.Lists.{first_slot, first_held, set_last, words_at_left}
 
@@ -78,7 +78,7 @@ module _ {X E : Type 0} where
   begins size words e = inl record { size = size; words = e; stage = inl (refl, refl) }
 
   -- only a table that isn't open has such a seat
-  making_is : (s : Cells X E) (id : ℕ) → DeskHolds s → get_elem? s.views id ≡ maybe.some view.Making → (b : Unopened s) × (s.views ≡ view.Making ∷ []) × (s.homes ≡ map maybe.some (replicate (b.size + 1) None))
+  making_is : (s : DeskState X E) (id : ℕ) → DeskHolds s → get_elem? s.views id ≡ maybe.some view.Making → (b : Unopened s) × (s.views ≡ view.Making ∷ []) × (s.homes ≡ map maybe.some (replicate (b.size + 1) None))
   making_is s id (inl b) at = ⊎_elim
       (λ (e : (s.views ≡ view.Making ∷ []) × (s.homes ≡ map maybe.some (replicate (b.size + 1) None))). (b, e.0, e.1))
       (λ (e : (s.views ≡ view.Opening ∷ []) × _). absurd (other id (sym (ap (λ vs. get_elem? vs id) e.0) ∙ at)))
@@ -90,7 +90,7 @@ module _ {X E : Type 0} where
   making_is s id (inr (inl b)) at = absurd (b.views id view.Making at)
   making_is s id (inr (inr b)) at = absurd (b.views id view.Making at)
 
-  opening_is : (s : Cells X E) (id : ℕ) → DeskHolds s → get_elem? s.views id ≡ maybe.some view.Opening → (b : Unopened s) × (s.views ≡ view.Opening ∷ []) × (s.homes ≡ map maybe.some (replicate b.size None) ++ maybe.none ∷ [])
+  opening_is : (s : DeskState X E) (id : ℕ) → DeskHolds s → get_elem? s.views id ≡ maybe.some view.Opening → (b : Unopened s) × (s.views ≡ view.Opening ∷ []) × (s.homes ≡ map maybe.some (replicate b.size None) ++ maybe.none ∷ [])
   opening_is s id (inl b) at = ⊎_elim
       (λ (e : (s.views ≡ view.Making ∷ []) × _). absurd (other id (sym (ap (λ vs. get_elem? vs id) e.0) ∙ at)))
       (λ (e : (s.views ≡ view.Opening ∷ []) × (s.homes ≡ map maybe.some (replicate b.size None) ++ maybe.none ∷ [])). (b, e.0, e.1))

@@ -11,7 +11,7 @@ use Rattle.collect_ops.specs.declared.view.Phase.{Phase}
 use Rattle.collect_ops.specs.declared.view.Phase.TheVariants as phase
 use Rattle.collect_ops.specs.declared.view.View.{View}
 use Rattle.collect_ops.specs.declared.view.View.TheVariants as view
-use Rattle.collect_ops.specs.Rule.{Held, Cells, FullPhase, FullView, Full, Gathering, full_home, DeskHolds}
+use Rattle.collect_ops.specs.Rule.{Held, DeskState, FullPhase, FullView, Full, Gathering, full_home, DeskHolds}
 use Rattle.collect_ops.specs.Steps.{Standing, returns_all, empty_slots}
 use Rattle.collect_ops.proofs.Lists.{words_at_left, same_arrival}
 use Rattle.collect_ops.proofs.Gather.{not_unopened}
@@ -32,19 +32,19 @@ module _ {X : Type 0} where
 module _ {X E : Type 0} where
   -- what a step of the last arrival owes, once all outcomes are kept
   abbrev pub FullOwes : ℕ → ℕ → Ending X E → ℕ → Phase X → List (ℕ × Held X E) → ℕ → (ℕ → ℕ) → (ℕ → Standing X E → Type 0) → Type 0
-  FullOwes id n r k p cs i f then = (s : Cells X E) (b : Full s) → get_elem? s.views id ≡ maybe.some (view.Arriving n r k p)
+  FullOwes id n r k p cs i f then = (s : DeskState X E) (b : Full s) → get_elem? s.views id ≡ maybe.some (view.Arriving n r k p)
       → (w : View X E) × (a : Act (Held X E)) × Valid s.homes cs a × DeskHolds record { words = slice_set s.words i (f (slice_index s.words i)); homes = homes_after s.homes cs a; views = slice_set s.views id w }
       × then (slice_index s.words i) (w, carried_after cs a)
 
   -- the last arrival has its seat once all outcomes are kept
   pub last_steps : (slots id n : ℕ) (r : Ending X E) (k : ℕ) (p : Phase X) (cs : List (ℕ × Held X E)) (i : ℕ) (f : ℕ → ℕ) (then : ℕ → Standing X E → Type 0)
-      → ((s : Cells X E) (b : Gathering s) → get_elem? b.phases k ≡ maybe.some p → ⊥) → FullOwes id n r k p cs i f then → Allows DeskHolds slots id (view.Arriving n r k p, cs) i f then
+      → ((s : DeskState X E) (b : Gathering s) → get_elem? b.phases k ≡ maybe.some p → ⊥) → FullOwes id n r k p cs i f then → Allows DeskHolds slots id (view.Arriving n r k p, cs) i f then
   last_steps slots id n r k p cs i f then not owes s (inl b) long at small = absurd (not_unopened s b id n r k p at)
   last_steps slots id n r k p cs i f then not owes s (inr (inl b)) long at small = absurd (not s b (b.views id _ at).3)
   last_steps slots id n r k p cs i f then not owes s (inr (inr b)) long at small = owes s b at
 
   -- the table after the last arrival's phase changes
-  pub filled_up : (s : Cells X E) (b : Full s) (id n : ℕ) (r : Ending X E) (k : ℕ) (p q : Phase X) → get_elem? s.views id ≡ maybe.some (view.Arriving n r k p) → (given : Bool) (hs : _)
+  pub filled_up : (s : DeskState X E) (b : Full s) (id n : ℕ) (r : Ending X E) (k : ℕ) (p q : Phase X) → get_elem? s.views id ≡ maybe.some (view.Arriving n r k p) → (given : Bool) (hs : _)
       → hs ≡ replicate (b.size + 1) (full_home given) → FullPhase b.last b.xs given k q
       → ((j : ℕ) (v : View X E) → j ≢ id → FullView b.size b.ending b.last b.xs b.given j v → FullView b.size b.ending b.last b.xs given j v)
       → DeskHolds record { words = slice_set s.words 0 (slice_index s.words 0); homes = hs; views = set s.views id (view.Arriving n r k q) }

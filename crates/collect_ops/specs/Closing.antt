@@ -8,7 +8,7 @@ use Rattle.atomic_table.specs.declared.owned.Closed.{Closed}
 use Rattle.collect_ops.specs.declared.view.Ending.{Ending}
 use Rattle.collect_ops.specs.declared.view.Item.TheVariants as item
 use Rattle.collect_ops.specs.Seen.{DeskId, KeptSeen}
-use Rattle.collect_ops.specs.Rule.{Held, Cells, Gathering, Full}
+use Rattle.collect_ops.specs.Rule.{Held, DeskState, Gathering, Full}
 
 -- the end, where some arrivals were left and nobody had claimed: else an arrival got it
 abbrev pub unclaimed : {E : Type 0} → ℕ → ℕ → Option E → Option E
@@ -46,7 +46,7 @@ module _ {X E : Type 0} where
   kept_from next size slots = kept_in_slots (drop next (take size slots))
 
   -- the table's last state is one of a desk of this size and with this ending
-  abbrev pub IsOf : ℕ → Ending X E → Cells X E → Type 0
+  abbrev pub IsOf : ℕ → Ending X E → DeskState X E → Type 0
   IsOf size r s = ((b : Gathering s) × (b.size ≡ size) × (b.ending ≡ r)) ⊎ ((b : Full s) × (b.size ≡ size) × (b.ending ≡ r))
 
   -- the words and slots of a desk at which nobody has arrived

@@ -22,8 +22,8 @@ abbrev pub Home : Type 0 → Type 0 → Type 0
 Home X E = maybe.Option (Held X E)
 
 -- the state of a table whose slots hold items and whose seats have views of a desk
-abbrev pub Cells : Type 0 → Type 0 → Type 0
-Cells X E = State (Held X E) (View X E)
+abbrev pub DeskState : Type 0 → Type 0 → Type 0
+DeskState X E = State (Held X E) (View X E)
 
 -- whether the end was claimed, and the index of the arrival that claimed it: it has the slot, or has given it back
 pub data Claim : Type 0 where
@@ -92,7 +92,7 @@ module _ {X E : Type 0} where
   end_home r (back k) = maybe.some None
 
   -- The desk isn't open: its one seat is about to put the end into its slot.
-  pub record Unopened (s : Cells X E) : Type 0 where
+  pub record Unopened (s : DeskState X E) : Type 0 where
     pub size : ℕ
     pub words : s.words ≡ size ∷ 0 ∷ []
     pub stage :
@@ -111,7 +111,7 @@ module _ {X E : Type 0} where
   GatheringView size ending seats phases id view.Spent = ⊥
 
   -- Not all outcomes are kept. The phases of the arrivals by index decide what the words and the slots are. One that wasn't dealt is ready.
-  pub record Gathering (s : Cells X E) : Type 0 where
+  pub record Gathering (s : DeskState X E) : Type 0 where
     pub size : ℕ
     pub ending : Ending X E
     pub phases : List (Phase X)
@@ -140,7 +140,7 @@ module _ {X E : Type 0} where
   FullView size ending last xs given id view.Spent = Unit {0}
 
   -- All outcomes were kept, and the arrival that was the last has taken them out. It has all slots, or has given them back empty.
-  pub record Full (s : Cells X E) : Type 0 where
+  pub record Full (s : DeskState X E) : Type 0 where
     pub size : ℕ
     pub ending : Ending X E
     pub last : ℕ
@@ -151,5 +151,5 @@ module _ {X E : Type 0} where
     pub homes : s.homes ≡ replicate (size + 1) (full_home given)
     pub views : (id : ℕ) (v : View X E) → get_elem? s.views id ≡ maybe.some v → FullView size ending last xs given id v
 
-  abbrev pub DeskHolds : Cells X E → Type 0
+  abbrev pub DeskHolds : DeskState X E → Type 0
   DeskHolds s = Unopened s ⊎ (Gathering s ⊎ Full s)

@@ -7,13 +7,13 @@ ghost use Rattle.collect_ops.specs.Views.{desk_in};
 use crate::desk::Gathers;
 use crate::listed::Listed;
 use crate::receipt::{Completed, Lost, Receipt};
-use crate::rule::{Cells, Place};
+use crate::rule::{DeskTable, Place};
 use crate::steps;
 use std::marker::Model;
 
 /// The arrivals of a desk that weren't given yet, by index.
 pub struct Arrivals<'d, D: Gathers> {
-    table: &'d Cells<D::Kept, D::End>,
+    table: &'d DeskTable<D::Kept, D::End>,
     seat: Place<D::Kept, D::End>,
     size: usize,
     next: usize,
@@ -34,7 +34,7 @@ impl<'d, D: Gathers> Model for Arrivals<'d, D> {
 
 impl<'d, D: Gathers> Arrivals<'d, D> {
     pub(crate) fn new(
-        table: &'d Cells<D::Kept, D::End>,
+        table: &'d DeskTable<D::Kept, D::End>,
         seat: Place<D::Kept, D::End>,
         size: usize,
     ) -> Arrivals<'d, D>
@@ -100,7 +100,7 @@ impl<'d, D: Gathers> Model for Arrival<'d, D> {
 
 impl<'d, D: Gathers> Arrival<'d, D> {
     fn new(
-        table: &'d Cells<D::Kept, D::End>,
+        table: &'d DeskTable<D::Kept, D::End>,
         seat: Place<D::Kept, D::End>,
         size: usize,
         index: usize,
@@ -136,7 +136,7 @@ impl<'d, D: Gathers> Arrival<'d, D> {
 
 /// An arrival at a desk of any kind.
 pub(crate) struct Pass<'d, X, E> {
-    table: &'d Cells<X, E>,
+    table: &'d DeskTable<X, E>,
     seat: Place<X, E>,
     size: usize,
     index: usize,

@@ -4,7 +4,7 @@ ghost use Rattle.collect_ops.specs.Steps.{IsKept, IsDone};
 ghost use Rattle.collect_ops.specs.Views.{desk_in, index_in, phase_in, kept_in, found_in, list_in};
 ghost use Rattle.collect_ops.specs.declared.view.Phase.{Phase};
 
-use crate::rule::{Cells, Place};
+use crate::rule::{DeskTable, Place};
 use crate::steps;
 use crate::view::Phase;
 use std::marker::Model;
@@ -89,7 +89,7 @@ impl<X, E> Drop for Lost<X, E> {
 
 /// Shows that an arrival completed its desk: it found 1 left, or claimed the end.
 pub struct Completed<'d, X, E> {
-    table: &'d Cells<X, E>,
+    table: &'d DeskTable<X, E>,
     seat: Place<X, E>,
 }
 
@@ -110,7 +110,7 @@ impl<'d, X, E> Completed<'d, X, E> {
     ghost use Rattle.collect_ops.specs.Steps.{IsDesk};
     ghost use Rattle.collect_ops.specs.Views.{size_in};
 
-    pub(crate) fn new(table: &'d Cells<X, E>, seat: Place<X, E>) -> Completed<'d, X, E>
+    pub(crate) fn new(table: &'d DeskTable<X, E>, seat: Place<X, E>) -> Completed<'d, X, E>
         requires table { seat.table_id ≡ table.now.table_id }
         requires desk { IsDesk (size_in seat.me.0) table.now.table_id }
         requires done { IsDone (phase_in seat.me.0) }

@@ -7,7 +7,7 @@ use crate::view::{Item, View};
 use atomic_table::{Join, Play, Seat, Shared, Split, TableRule};
 
 /// The words and slots of a desk, as its arrivals share them.
-pub(crate) type Cells<X, E> = Shared<Option<Item<X, E>>, View<X, E>, (), DeskRule>;
+pub(crate) type DeskTable<X, E> = Shared<Option<Item<X, E>>, View<X, E>, (), DeskRule>;
 
 /// The seat of a desk or of an arrival.
 pub(crate) type Place<X, E> = Seat<Option<Item<X, E>>, View<X, E>>;

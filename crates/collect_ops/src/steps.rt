@@ -13,8 +13,8 @@ ghost use Rattle.collect_ops.specs.Steps.{IsDesk, HasRoom, IsDone, IsLast, IsKee
 
 use crate::listed::Listed;
 use crate::rule::{
-    Cells, Claims, Deals, GivesEnd, Keeps, Meets, Never, Place, ReadsTold, ReturnsAll, ReturnsEnd,
-    TakesEndSlot, TakesSlot, Tells,
+    Claims, Deals, DeskTable, GivesEnd, Keeps, Meets, Never, Place, ReadsTold, ReturnsAll,
+    ReturnsEnd, TakesEndSlot, TakesSlot, Tells,
 };
 use crate::view::{Ending, Item, Phase, View};
 
@@ -25,7 +25,7 @@ pub(crate) const LEFT: usize = 0;
 pub(crate) const CLAIM: usize = 1;
 
 // Puts an item into the empty slot that the seat took last.
-fn put<X, E>(table: &Cells<X, E>, seat: &mut Place<X, E>, slot: usize, item: Item<X, E>)
+fn put<X, E>(table: &DeskTable<X, E>, seat: &mut Place<X, E>, slot: usize, item: Item<X, E>)
     requires { (seat.old.table_id ≡ table.now.table_id) × (seat.old.me.1 ≡ (slot, None) ∷ rest seat.old.me.1) }
     ensures { Sits table.now.table_id seat.new (seat.old.me.0, (slot, Some item) ∷ rest seat.old.me.1) }
 {
@@ -35,7 +35,7 @@ fn put<X, E>(table: &Cells<X, E>, seat: &mut Place<X, E>, slot: usize, item: Ite
 
 /// Puts the end into its slot.
 pub(crate) fn open<X, E>(
-    table: &Cells<X, E>,
+    table: &DeskTable<X, E>,
     seat: &mut Place<X, E>,
     size: usize,
     ending: Ending<X, E>,
@@ -51,7 +51,7 @@ pub(crate) fn open<X, E>(
 
 /// Deals the desk's own seat.
 pub(crate) fn deal_owner<X, E>(
-    table: &Cells<X, E>,
+    table: &DeskTable<X, E>,
     seat: &mut Place<X, E>,
     size: usize,
 ) -> Place<X, E>
@@ -65,7 +65,7 @@ pub(crate) fn deal_owner<X, E>(
 
 /// Deals the seat of the next arrival.
 pub(crate) fn deal_arrival<X, E>(
-    table: &Cells<X, E>,
+    table: &DeskTable<X, E>,
     seat: &mut Place<X, E>,
     size: usize,
     index: usize,
@@ -81,7 +81,7 @@ pub(crate) fn deal_arrival<X, E>(
 
 /// Leaves an outcome in the slot of this arrival and takes 1 off the count. It answers how many were left.
 pub(crate) fn keep<X, E>(
-    table: &Cells<X, E>,
+    table: &DeskTable<X, E>,
     seat: &mut Place<X, E>,
     size: usize,
     index: usize,
@@ -99,7 +99,7 @@ pub(crate) fn keep<X, E>(
 
 /// Claims the end, and says whether nobody had claimed.
 pub(crate) fn claim<X, E>(
-    table: &Cells<X, E>,
+    table: &DeskTable<X, E>,
     seat: &mut Place<X, E>,
     size: usize,
     index: usize,
@@ -113,7 +113,7 @@ pub(crate) fn claim<X, E>(
 }
 
 // Takes the ending out of its slot, which the seat took last.
-fn take_ending<X, E>(table: &Cells<X, E>, seat: &mut Place<X, E>, size: usize) -> Ending<X, E>
+fn take_ending<X, E>(table: &DeskTable<X, E>, seat: &mut Place<X, E>, size: usize) -> Ending<X, E>
     requires { (seat.old.table_id ≡ table.now.table_id) × ((r : Ending X E) × (seat.old.me.1 ≡ (size, Some (Item.End r)) ∷ rest seat.old.me.1)) }
     ensures had { seat.old.me.1 ≡ (size, Some (Item.End result)) ∷ rest seat.old.me.1 }
     ensures sits { Sits table.now.table_id seat.new (seat.old.me.0, (size, None) ∷ rest seat.old.me.1) }
@@ -126,7 +126,7 @@ fn take_ending<X, E>(table: &Cells<X, E>, seat: &mut Place<X, E>, size: usize) -
 }
 
 // Takes the outcome out of the slot that the seat took last.
-fn take_outcome<X, E>(table: &Cells<X, E>, seat: &mut Place<X, E>, slot: usize) -> X
+fn take_outcome<X, E>(table: &DeskTable<X, E>, seat: &mut Place<X, E>, slot: usize) -> X
     requires { (seat.old.table_id ≡ table.now.table_id) × ((x : X) × (seat.old.me.1 ≡ (slot, Some (Item.Outcome x)) ∷ rest seat.old.me.1)) }
     ensures had { seat.old.me.1 ≡ (slot, Some (Item.Outcome result)) ∷ rest seat.old.me.1 }
     ensures sits { Sits table.now.table_id seat.new (seat.old.me.0, (slot, None) ∷ rest seat.old.me.1) }
@@ -140,7 +140,7 @@ fn take_outcome<X, E>(table: &Cells<X, E>, seat: &mut Place<X, E>, slot: usize) 
 
 // Takes all outcomes out of their slots, the one of the highest index first.
 fn take_list<X, E>(
-    table: &Cells<X, E>,
+    table: &DeskTable<X, E>,
     seat: &mut Place<X, E>,
     size: usize,
     mut room: Vec<X>,
@@ -163,7 +163,7 @@ fn take_list<X, E>(
 }
 
 // The arrival that claimed gives the slot of the end back.
-fn return_end<X, E>(table: &Cells<X, E>, seat: &mut Place<X, E>, size: usize, index: usize)
+fn return_end<X, E>(table: &DeskTable<X, E>, seat: &mut Place<X, E>, size: usize, index: usize)
     requires desk { IsDesk size table.now.table_id }
     requires claiming { (r : Ending X E) × Sits table.now.table_id seat.old (View.Arriving size r index Phase.Claiming, (size, None) ∷ []) }
     ensures { (r : Ending X E) → seat.old.me ≡ (View.Arriving size r index Phase.Claiming, (size, None) ∷ []) → Sits table.now.table_id seat.new (at size r index Phase.Claimed) }
@@ -172,7 +172,7 @@ fn return_end<X, E>(table: &Cells<X, E>, seat: &mut Place<X, E>, size: usize, in
 }
 
 // The arrival that was the last gives all slots back.
-fn return_all<X, E>(table: &Cells<X, E>, seat: &mut Place<X, E>, size: usize, index: usize)
+fn return_all<X, E>(table: &DeskTable<X, E>, seat: &mut Place<X, E>, size: usize, index: usize)
     requires desk { IsDesk size table.now.table_id }
     requires emptying { (r : Ending X E) × (xs : List X) × Sits table.now.table_id seat.old (View.Arriving size r index (Phase.Emptying xs), empty_slots 0 (size + 1)) }
     ensures { (r : Ending X E) (xs : List X) → seat.old.me ≡ (View.Arriving size r index (Phase.Emptying xs), empty_slots 0 (size + 1)) → Sits table.now.table_id seat.new (at size r index (Phase.Emptied xs)) }
@@ -182,7 +182,7 @@ fn return_all<X, E>(table: &Cells<X, E>, seat: &mut Place<X, E>, size: usize, in
 
 /// The arrival that claimed takes the end out.
 pub(crate) fn take_end<X, E>(
-    table: &Cells<X, E>,
+    table: &DeskTable<X, E>,
     seat: &mut Place<X, E>,
     size: usize,
     index: usize,
@@ -200,7 +200,7 @@ pub(crate) fn take_end<X, E>(
 
 /// The arrival that was the last takes all outcomes and the end out.
 pub(crate) fn take_all<X, E>(
-    table: &Cells<X, E>,
+    table: &DeskTable<X, E>,
     seat: &mut Place<X, E>,
     size: usize,
     index: usize,
@@ -218,7 +218,7 @@ pub(crate) fn take_all<X, E>(
 }
 
 /// The arrival that was the last is told what another had kept: it stands in the list.
-pub(crate) fn tell<X, E>(table: &Cells<X, E>, seat: &mut Place<X, E>, other: Place<X, E>)
+pub(crate) fn tell<X, E>(table: &DeskTable<X, E>, seat: &mut Place<X, E>, other: Place<X, E>)
     requires words { 0 < table.now.table_id.words }
     requires last { (seat.old.table_id ≡ table.now.table_id) × IsLast seat.old.me }
     requires kept { (other.table_id ≡ table.now.table_id) × IsKeeper other.me }
@@ -231,7 +231,7 @@ pub(crate) fn tell<X, E>(table: &Cells<X, E>, seat: &mut Place<X, E>, other: Pla
 }
 
 /// Two arrivals don't both complete: no call of this can be made.
-pub(crate) fn meet<X, E>(table: &Cells<X, E>, seat: &mut Place<X, E>, other: Place<X, E>)
+pub(crate) fn meet<X, E>(table: &DeskTable<X, E>, seat: &mut Place<X, E>, other: Place<X, E>)
     requires words { 0 < table.now.table_id.words }
     requires one { (seat.old.table_id ≡ table.now.table_id) × (seat.old.me.1 ≡ []) × IsDone (phase_in seat.old.me.0) }
     requires other { (other.table_id ≡ table.now.table_id) × (other.me.1 ≡ []) × IsDone (phase_in other.me.0) }
