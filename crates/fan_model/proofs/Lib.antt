@@ -4,6 +4,7 @@ mod PlaceLaws
 mod Lists
 mod AskedLaws
 mod ComingLaws
+mod AlikeLaws
 mod ComingSteps
 mod HowMany
 mod RowProofs

@@ -8,6 +8,7 @@ ghost use Rattle.query_model.specs.declared.line.Line.{Line};
 ghost use Rattle.query_model.specs.declared.line.Line.TheVariants as line;
 ghost use Rattle.query_model.specs.declared.line.Query.{Query};
 ghost use Rattle.query_model.specs.declared.reply.Reply.{Reply};
+ghost use Rattle.query_model.specs.Alike.{AreAlike};
 ghost use Rattle.query_model.specs.Documents.{IsLine, docs_of, queries_of};
 ghost use Rattle.query_model.specs.LineByLine.{next_asked};
 ghost use Rattle.query_model.specs.Lines.{is_query, ticks_of};
@@ -19,7 +20,7 @@ ghost use Rattle.fan_model.specs.Laws.{answer_of, is_answer};
 ghost use Rattle.fan_model.specs.Places.{IsReplyAt, owed_from};
 ghost use Rattle.fan_model.specs.Tasks.{task_runs};
 
-use query_model::laws::turns_line_by_line;
+use query_model::laws::{alike_lines_ask_the_same, turns_line_by_line};
 
 /// The answered queries, in their order, give those of the replies that aren't cancelled.
 pub fn answers_in_order()
@@ -92,3 +93,11 @@ pub fn each_query_has_a_reply()
     ensures comings { (lines : List Line) → length (comings_of lines) ≡ length (queries_of lines) }
     ensures replies { (lines : List Line) → length (replies_of lines) ≡ length (queries_of lines) }
 {}
+
+/// The same queries of alike lines are answered, in the same order, and the same comes at each place.
+pub fn alike_lines_come_to_the_same()
+    ensures answered { (lines others : List Line) → AreAlike lines others → answered_in lines ≡ answered_in others }
+    ensures comings { (lines others : List Line) → AreAlike lines others → comings_of lines ≡ comings_of others }
+{
+    alike_lines_ask_the_same();
+}

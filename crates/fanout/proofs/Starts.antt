@@ -1,6 +1,7 @@
 -- The front and the workers, as they are made of what was opened.
 use Rattle.std.proofs.Common.{◌≡◌, List, [], ◌∷◌, ap}
 use Rattle.std.specs.Prelude.{◌≤◌, vec_capacity}
+use Rattle.query_model.specs.Alike.{AreAlike}
 use Rattle.fan_model.specs.Report.{Asking}
 use Rattle.fan_model.specs.Tasks.{pool_exec}
 use Rattle.fan_parts.specs.declared.jobs.PrintJob.{PrintJob}
@@ -19,7 +20,7 @@ use Rattle.fanout.specs.Fronts.{IsSideStart}
 
 module _ {N : Type 0} where
   pub side_start : (asked : Asking) (ids : RunIds) (start : FrontStart N) (pool : PoolSeen) (workers : List (WorkerSlot TaskSeen (WorldSeen N))) (room : SideRoom N)
-      → start.front.lines.now ≡ asked.lines → start.front.shards ≡ asked.shards → start.front.bases ≡ asked.bases → IsCountable asked
+      → AreAlike start.front.lines.now asked.lines → start.front.shards ≡ asked.shards → start.front.bases ≡ asked.bases → IsCountable asked
       → IsNewWorld ids 0 start.front.world → start.front.printer ≡ new_printer_poster asked ids 0
       → IsNewPool pool_exec 3 1 ids.workers 1 0 pool start.owner start.keep start.adders.items (new_workers pool.id 0 ids.workers) (start.helper ∷ [])
       → AreWorkers ids pool.id workers → HasEndRoom ids.workers room.ends → room.helped.items ≡ [] → 1 ≤ vec_capacity room.helped → IsSideStart asked ids start pool workers room

@@ -28,6 +28,12 @@ pub record AreKnobs (knobs : Knobs) : Type 0 where
 abbrev pub asking_of : List Line → ℕ → Knobs → Asking
 asking_of lines shards knobs = record { lines = lines; shards = shards; bases = knobs.bases; stop_at = knobs.stop_at }
 
+-- the run over so many shards that these knobs make
+pub record IsAskedBy (asked : Asking) (shards : ℕ) (knobs : Knobs) : Type 0 where
+  pub shards_are : asked.shards ≡ shards
+  pub bases_are : asked.bases ≡ knobs.bases
+  pub stop_is : asked.stop_at ≡ knobs.stop_at
+
 -- what the sink gained of this text: all of it; or a front of it, and where a write failed, its faults rose
 abbrev pub WritesText : Bytes → Shown → Shown → FanOutcome → Type 0
 WritesText text start now outcome.Done = Gains start now text

@@ -1,6 +1,7 @@
 -- What a run is over.
 use Rattle.std.specs.Prelude.{◌≡◌, ◌^◌, ℕ, ◌≤◌, List, All, Option}
 use Rattle.query_model.specs.declared.line.Line.{Line}
+use Rattle.query_model.specs.Alike.{AreAlike}
 use Rattle.query_model.specs.Documents.{IsWithinLimits}
 use Rattle.fan_model.specs.Report.{Asking}
 use Rattle.fan_parts.specs.Facts.{IsCountable}
@@ -18,9 +19,9 @@ pub record AreFew (counted : Counted) : Type 0 where
   pub tops : counted.tops ≤ 2 ^ 32
   pub by_base : All (λ count. count ≤ 2 ^ 32) counted.by_base.items
 
--- Lines with their turns, how many queries are answered, where the pool is stopped, and how the run is to be made.
+-- Lines that are alike to the run's, with the run's turns, how many queries are answered, where the pool is stopped, and how the run is to be made.
 pub record IsPlanned (asked : Asking) (lines : List Line) (turns : List Turn) (counted : Counted) (stop : Option ℕ) (knobs : Knobs) : Type 0 where
-  pub lines_are : lines ≡ asked.lines
+  pub lines_are : AreAlike lines asked.lines
   pub limits : IsWithinLimits asked.lines asked.shards
   pub countable : IsCountable asked
   pub turns_are : AreTurnsOf asked.lines turns

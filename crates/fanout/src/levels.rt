@@ -3,16 +3,17 @@ ghost use Rattle.std.specs.List.{All};
 ghost use Rattle.core_cells.specs.Seen.{AreAll};
 ghost use Rattle.core_word.specs.Seen.{SeenHome};
 ghost use Rattle.fan_base.specs.Outside.{shown};
+ghost use Rattle.query_model.specs.Alike.{AreAlike};
 ghost use Rattle.query_model.specs.Documents.{IsWithinLimits, docs_of};
 ghost use Rattle.fan_model.specs.Answered.{answered_in, tops_in};
 ghost use Rattle.query_parts.specs.Parts.{AreShards};
-ghost use Rattle.fanout.specs.Ends.{AreKnobs, IsEndOf, asking_of};
+ghost use Rattle.fanout.specs.Ends.{AreKnobs, IsAskedBy, IsEndOf};
 ghost use Rattle.run_desks.specs.Tables.{AreTablesOf};
 ghost use Rattle.fanout.specs.Homes.{AreEnough};
 ghost use Rattle.fanout.specs.Plans.{IsPlanned};
 
 use crate::inside::run_over_cells;
-use crate::plan::RunPlan;
+use crate::plan::{RunPlan, counts_of_run, turns_of_run};
 use crate::run::{FanEnd, Knobs};
 use core_cells::Cells;
 use core_word::Tally;
@@ -24,7 +25,7 @@ use run_desks::{DeskKeys, EmptySlots, OpenDesks, let_go_keys, open_desks};
 use run_homes::{
     close_desks, close_reply_homes, close_task_homes, empty_slots, keys_of, new_homes,
 };
-use run_plan::{count, plan, stop_place};
+use run_plan::stop_place;
 use run_setup::{TaskCellPass, TaskCells};
 use shard_index::Shard;
 use std::alloc::Global;
@@ -39,8 +40,10 @@ type MadeTaskHomes<N> = Result<Vec<TaskHome<N>>, Vec<TaskHome<N>>>;
 // The most homes that the cores of tasks have.
 const MOST_CELLS: u64 = 1_024;
 
-/// Plans the run of this name, and makes the homes of its inner cores.
-pub(crate) fn run_named<
+/// Answers all queries of the run of this name over these shards, which stand for its documents. The lines are the run's, and may have lost
+/// the words of their documents: they are gone through for queries, ticks and cancels alone. A caller that lets words go picks the name before,
+/// by `Brand`, where it has the lines with them: so it is itself generic in the name from there on.
+pub fn fan_run_named<
     N: RunName + Send + Sync + 'static,
     K: Sink + Send,
     G: Gate,
@@ -54,17 +57,19 @@ pub(crate) fn run_named<
     sink: &mut K,
     gate: &G,
 ) -> FanEnd
-    requires asked { N.asked ≡ asking_of lines.now (length shards.now) knobs }
-    requires limits { IsWithinLimits lines.now (length shards.now) }
-    requires shards { AreShards shards.now (docs_of lines.now) }
+    requires asked { IsAskedBy N.asked (length shards.now) knobs }
+    requires limits { IsWithinLimits N.asked.lines (length shards.now) }
+    requires alike { AreAlike lines.now N.asked.lines }
+    requires walked { IsWithinLimits lines.now (length shards.now) }
+    requires shards { AreShards shards.now (docs_of N.asked.lines) }
     requires few { length shards.now ≤ 64 }
     requires knobs { AreKnobs knobs }
     ensures { IsEndOf N.asked (shown (K.holds sink.old) (K.faults sink.old)) (shown (K.holds sink.new) (K.faults sink.new)) result }
 {
-    let Ok(turns) = plan::<N, R>(rt, alloc, ExecId(knobs.bases + 2), lines) else {
+    let Ok(turns) = turns_of_run::<N, R>(rt, alloc, ExecId(knobs.bases + 2), lines) else {
         return FanEnd::refused(alloc);
     };
-    let Ok(counted) = count(alloc, lines, turns.as_slice(), knobs.bases) else {
+    let Ok(counted) = counts_of_run::<N>(alloc, lines, turns.as_slice(), knobs.bases) else {
         return FanEnd::refused(alloc);
     };
     let Ok(mut homes) = new_homes(alloc, counted.tops as usize) else {

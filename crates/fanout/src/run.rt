@@ -5,7 +5,7 @@ ghost use Rattle.query_model.specs.Documents.{IsWithinLimits, docs_of};
 ghost use Rattle.query_parts.specs.Parts.{AreShards};
 ghost use Rattle.fanout.specs.Ends.{AreKnobs, IsEndOf, Reports, TellsNoRun, Writes, asking_of};
 
-use crate::levels::run_named;
+use crate::levels::fan_run_named;
 use core_word::Tally;
 use fan_base::{Gate, Sink};
 use query_model::Input;
@@ -62,7 +62,7 @@ pub fn fan_run<K: Sink + Send, G: Gate, R: Threads + Wait + Sync>(
     ensures reports { Reports (asking_of input.now.lines (length shards.now) knobs) result }
     ensures unmade { result.pool ≡ None → TellsNoRun result }
 {
-    run_named::<Brand, K, G, R>(rt, alloc, &input.lines, shards, knobs, sink, gate)
+    fan_run_named::<Brand, K, G, R>(rt, alloc, &input.lines, shards, knobs, sink, gate)
 }
 
 impl FanEnd {

@@ -6,6 +6,7 @@ pub mod RowProofs
 pub mod FactLaws
 pub mod QueryFactLaws
 pub mod LimitLaws
+pub mod AlikeLaws
 pub mod SortingLaws
 pub mod OrderLaws
 pub mod LineByLine

@@ -8,6 +8,7 @@ pub mod Lines
 pub mod Reading
 pub mod Sorting
 pub mod Documents
+pub mod Alike
 pub mod Answers
 pub mod Order
 pub mod Output

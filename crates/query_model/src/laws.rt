@@ -1,5 +1,5 @@
 //! What follows from the definitions. These functions do nothing: their clauses are laws.
-ghost use Rattle.std.specs.Prelude.{◌≡◌, ◌↔◌, ◌<◌, ◌+◌, ◌*◌, ◌++◌, ◌∷◌, [], ℕ, List, Option, Some, None, Ok, slice_get, Bool, false, not, nat_lt, map, filter, ◌≤◌, All};
+ghost use Rattle.std.specs.Prelude.{◌≡◌, ◌↔◌, ◌<◌, ◌+◌, ◌*◌, ◌++◌, ◌∷◌, [], ℕ, List, Option, Some, None, Ok, length, slice_get, Bool, false, not, nat_lt, map, filter, ◌≤◌, All};
 ghost use Rattle.std.specs.List.Sorted.{IsPermutation};
 ghost use Rattle.fan_base.specs.declared.doc.Doc.{Doc};
 ghost use Rattle.query_model.specs.Pieces.{Bytes};
@@ -9,9 +9,10 @@ ghost use Rattle.query_model.specs.declared.line.Line.TheVariants as line;
 ghost use Rattle.query_model.specs.declared.line.Query.{Query};
 ghost use Rattle.query_model.specs.ByFacts.{IsSkipped, IsDocLine, IsTickLine, IsCancelLine, IsQueryLine};
 ghost use Rattle.query_model.specs.Lines.{LineBehind};
-ghost use Rattle.query_model.specs.Documents.{docs_of, IsLine, IsWithinLimits};
+ghost use Rattle.query_model.specs.Documents.{docs_of, queries_of, IsLine, IsWithinLimits};
+ghost use Rattle.query_model.specs.Alike.{AreAlike, without_words};
 ghost use Rattle.query_model.specs.Answers.{ranks_before};
-ghost use Rattle.query_model.specs.Order.{Turn, comes_before, left_in, replies_of, turns_of};
+ghost use Rattle.query_model.specs.Order.{Asked, Turn, asked_in, comes_before, docs_before, due_of, left_in, outcome_of, replies_of, turns_of};
 ghost use Rattle.query_model.specs.Walk.{all_replies, progress_of, step};
 ghost use Rattle.std.specs.List.{count_by, sum_by};
 ghost use Rattle.query_model.specs.Lines.{is_query, ticks_of};
@@ -33,6 +34,37 @@ pub fn input_is_decided()
 /// What is accepted is within each limit.
 pub fn accepted_is_within_limits()
     ensures { (bytes : Bytes) (shards : ℕ) (input : Input) → Accepts bytes shards input → IsWithinLimits input.lines shards }
+{}
+
+/// Lines are alike where they are the same but for the words of their documents. Any lines are alike to themselves and to the
+/// same lines without those words.
+pub fn alike_lines()
+    ensures same { (lines : List Line) → AreAlike lines lines }
+    ensures back { (lines others : List Line) → AreAlike lines others → AreAlike others lines }
+    ensures joined { (lines between others : List Line) → AreAlike lines between → AreAlike between others → AreAlike lines others }
+    ensures without { (lines : List Line) → AreAlike (map without_words lines) lines }
+{}
+
+/// Alike lines have the same queries at the same places, the same comes of each, and as many documents stand before it.
+pub fn alike_lines_ask_the_same()
+    ensures at { (lines others : List Line) (place : ℕ) (query : Query) → AreAlike lines others →
+        slice_get lines place ≡ Some (line.Query query) → slice_get others place ≡ Some (line.Query query) }
+    ensures queries { (lines others : List Line) → AreAlike lines others → queries_of lines ≡ queries_of others }
+    ensures asked { (lines others : List Line) → AreAlike lines others → asked_in lines ≡ asked_in others }
+    ensures outcome { (lines others : List Line) (a : Asked) → AreAlike lines others → outcome_of lines a ≡ outcome_of others a }
+    ensures due { (lines others : List Line) (a : Asked) → AreAlike lines others → due_of lines a ≡ due_of others a }
+    ensures left { (lines others : List Line) → AreAlike lines others → left_in lines ≡ left_in others }
+    ensures documents { (lines others : List Line) → AreAlike lines others → length (docs_of lines) ≡ length (docs_of others) }
+    ensures before { (lines others : List Line) (a : Asked) → AreAlike lines others →
+        length (docs_before lines a) ≡ length (docs_before others a) }
+{}
+
+/// Lines each of whose numbers and words lie in their ranges are within the limits where alike lines are. So lines within the limits
+/// are within them without the words of their documents.
+pub fn alike_lines_are_within_limits()
+    ensures alike { (lines others : List Line) (shards : ℕ) → AreAlike lines others → All IsLine lines →
+        IsWithinLimits others shards → IsWithinLimits lines shards }
+    ensures without { (lines : List Line) (shards : ℕ) → IsWithinLimits lines shards → IsWithinLimits (map without_words lines) shards }
 {}
 
 /// What a piece gives by facts that stand in no order: no line exactly where it is skipped, and a line exactly where it is the

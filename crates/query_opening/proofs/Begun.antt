@@ -6,6 +6,8 @@ use Rattle.std.proofs.lemmas.List.Elements.{All-append, All-head, All-map, All-t
 use Rattle.query_model.specs.declared.line.Ask.{Ask}
 use Rattle.query_model.specs.declared.line.Line.{Line}
 use Rattle.query_model.specs.declared.line.Line.TheVariants as line
+use Rattle.query_model.specs.declared.line.Query.{Query}
+use Rattle.query_model.specs.Alike.{AreAlike}
 use Rattle.query_model.specs.Answers.{answer}
 use Rattle.query_model.specs.Documents.{docs_of}
 use Rattle.query_model.specs.Order.{asked_in, docs_before, left_in}
@@ -40,6 +42,12 @@ pub line_is : (asked : Asking) (place number at documents : ℕ) (b : IsBegun as
 line_is asked place number at documents b laws =
     let is = is_asked asked.lines place (Coming.begins b.query) laws.asked laws.left b.comes.at in
     ap (λ (k : ℕ). slice_get asked.lines k) b.line_is ∙ is.line
+
+-- the line of a query, among lines that are alike
+pub there : (lines walked : List Line) (at : ℕ) (query : Query) → AreAlike walked lines
+    → ((all others : List Line) (place : ℕ) (q : Query) → AreAlike all others → slice_get all place ≡ Some (line.Query q) → slice_get others place ≡ Some (line.Query q))
+    → slice_get lines at ≡ Some (line.Query query) → slice_get walked at ≡ Some (line.Query query)
+there lines walked at query alike law is = law lines walked at query (record { same = sym alike.same }) is
 
 pub ask_is : (asked : Asking) (place number at documents : ℕ) (asks : Ask) (b : IsBegun asked place number at documents) → Laws asked.lines → asks ≡ b.query.query.ask → IsAskOf asked number asks documents
 ask_is asked place number at documents asks b laws same =

@@ -2,12 +2,14 @@ ghost use Rattle.std.specs.Prelude.{◌≡◌, Some};
 ghost use Rattle.std.specs.List.{slice_get};
 ghost use Rattle.query_model.specs.declared.line.Line.TheVariants as line;
 ghost use Rattle.query_model.specs.declared.line.Query.{Query};
+ghost use Rattle.query_model.specs.Alike.{AreAlike};
 ghost use Rattle.fan_model.specs.Tasks.{printer_exec};
 ghost use Rattle.query_opening.specs.Turns.{IsAskAt, IsBegun, IsCancelled};
 
 use fan_base::ExecId;
 use fan_model::laws::{comings_in_order, queries_are_numbered};
 use fan_parts::{CancelledReply, NumberedAsk, RunName};
+use query_model::laws::alike_lines_ask_the_same;
 use query_model::{Line, Lines, Query};
 use query_parts::documents_before_are_the_first;
 
@@ -19,10 +21,11 @@ pub fn numbered_ask<'i, N: RunName>(
     line: usize,
     documents: u32,
 ) -> NumberedAsk<'i, N>
-    requires lines { lines.now ≡ N.asked.lines }
+    requires lines { AreAlike lines.now N.asked.lines }
     requires begun { IsBegun N.asked place number line documents }
     ensures { IsAskAt N.asked place number documents result }
 {
+    alike_lines_ask_the_same();
     comings_in_order();
     queries_are_numbered();
     documents_before_are_the_first();

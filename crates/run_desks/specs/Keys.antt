@@ -1,5 +1,6 @@
 -- What the desks of a run are opened with.
 use Rattle.std.specs.Prelude.{◌≡◌, ◌≤◌, List, length}
+use Rattle.query_model.specs.Alike.{AreAlike}
 use Rattle.fan_model.specs.Answered.{tops_in}
 use Rattle.fan_model.specs.Comings.{Coming}
 use Rattle.fan_model.specs.Report.{Asking}
@@ -8,9 +9,9 @@ use Rattle.run_plan.specs.Turns.{begun_in}
 use Rattle.run_desks.specs.declared.keys.DeskKeys.{DeskKeys}
 
 module _ {N : Type 0} where
-  -- they are of this run: its lines and its numbers
+  -- they are of this run: its lines but for the words of documents, and its numbers
   pub record AreKeysOf (asked : Asking) (keys : DeskKeys N) : Type 0 where
-    pub lines : keys.lines.now ≡ asked.lines
+    pub lines : AreAlike keys.lines.now asked.lines
     pub shards : keys.shards ≡ asked.shards
     pub bases : keys.bases ≡ asked.bases
     pub countable : IsCountable asked

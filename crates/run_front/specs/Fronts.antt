@@ -1,6 +1,7 @@
 -- What the front works with, and what it has done at a place of the order of answers.
 use Rattle.std.specs.Prelude.{◌≡◌, ℕ, List, ◌++◌}
 use Rattle.fan_base.specs.declared.number.ExecId.{ExecId}
+use Rattle.query_model.specs.Alike.{AreAlike}
 use Rattle.fan_model.specs.Report.{Asking}
 use Rattle.fan_model.specs.Tasks.{Run, printer_exec, task_runs}
 use Rattle.fan_parts.specs.Facts.{IsCountable}
@@ -8,9 +9,9 @@ use Rattle.run_plan.specs.Turns.{begun_between}
 use Rattle.run_front.specs.declared.front.Front.{Front}
 
 module _ {N : Type 0} where
-  -- the front of this run: the run's lines and numbers, and a poster to its printer's base
+  -- the front of this run: the run's lines but for the words of documents, its numbers, and a poster to its printer's base
   pub record IsFrontOf (asked : Asking) (front : Front N) : Type 0 where
-    pub lines : front.lines.now ≡ asked.lines
+    pub lines : AreAlike front.lines.now asked.lines
     pub shards : front.shards ≡ asked.shards
     pub bases : front.bases ≡ asked.bases
     pub countable : IsCountable asked

@@ -19,6 +19,7 @@ use crate::priority::{gathering_exec, prio_at, priority_of};
 use fan_base::{Gate, Memory};
 use fan_parts::RunName;
 use keep_alive::KeepAlive;
+use query_model::laws::alike_lines_ask_the_same;
 use query_opening::numbered_ask;
 use query_tasks::{TaskAdder, TaskHelper, TaskPool, start_tasks, tasks_are_runs};
 use run_desks::{begun_query_is_asked, known_turns};
@@ -142,6 +143,7 @@ fn early_query<'c, 't, 'i: 't, N: RunName + 'static, G: Gate, R: Wait>(
     ensures posted { (first : List (PrintJob N)) → HasPosted N.asked place first front.old.printer →
         OnOk result (HasPosted N.asked (place + 1) first front.new.printer) }
 {
+    alike_lines_ask_the_same();
     begun_query_is_asked::<N>();
     place_by_place();
     tasks_are_runs();

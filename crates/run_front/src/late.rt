@@ -16,6 +16,7 @@ use crate::front::Front;
 use crate::priority::{gathering_exec, prio_at, queue_number};
 use fan_base::{ExecId, Memory};
 use fan_parts::RunName;
+use query_model::laws::alike_lines_ask_the_same;
 use query_opening::numbered_ask;
 use query_tasks::{run_tasks_here, tasks_are_runs};
 use run_desks::{begun_query_is_asked, known_turns};
@@ -100,6 +101,7 @@ fn late_query<'c, 't, 'i: 't, N: RunName + 'static, R: Wait>(
     ensures posted { (first : List (PrintJob N)) → HasPosted N.asked place first front.old.printer →
         OnOk result (HasPosted N.asked (place + 1) first front.new.printer) }
 {
+    alike_lines_ask_the_same();
     begun_query_is_asked::<N>();
     place_by_place();
     tasks_are_runs();

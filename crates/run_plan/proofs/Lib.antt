@@ -3,3 +3,4 @@ mod Coming
 mod Noting
 mod Stops
 mod Counted
+mod Alike

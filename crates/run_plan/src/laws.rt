@@ -2,6 +2,7 @@
 ghost use Rattle.std.specs.Prelude.{◌≡◌, ◌≤◌, ℕ, ◌+◌, List, [], ◌∷◌, ◌++◌, Some, length, take, drop, slice_get};
 ghost use Rattle.query_model.specs.declared.line.Line.{Line};
 ghost use Rattle.query_model.specs.declared.line.Line.TheVariants as line;
+ghost use Rattle.query_model.specs.Alike.{AreAlike};
 ghost use Rattle.query_model.specs.Documents.{queries_of};
 ghost use Rattle.query_model.specs.Order.{Asked};
 ghost use Rattle.fan_model.specs.Answered.{answered_in};
@@ -9,13 +10,18 @@ ghost use Rattle.fan_model.specs.Comings.{Coming, ComesAt, comings_of, query_of}
 ghost use Rattle.fan_parts.specs.Facts.{IsCountable};
 ghost use Rattle.front_walk.specs.Following.{IsInput};
 ghost use Rattle.query_opening.specs.Turns.{IsBegun, IsCancelled};
+ghost use Rattle.run_notes.specs.Counting.{HasCounted};
+ghost use Rattle.run_notes.specs.declared.counting.Counted.{Counted};
 ghost use Rattle.run_plan.specs.declared.turn.BegunQuery.{BegunQuery};
 ghost use Rattle.run_plan.specs.declared.turn.Turn.{Turn};
 ghost use Rattle.run_plan.specs.declared.turn.Turn.TheVariants as turn;
 ghost use Rattle.run_plan.specs.Turns.{AreTurnsOf, begun_between, begun_in};
 
-use fan_model::laws::{comings_in_order, each_query_has_a_reply, queries_are_numbered};
+use fan_model::laws::{
+    alike_lines_come_to_the_same, comings_in_order, each_query_has_a_reply, queries_are_numbered,
+};
 use fan_parts::RunName;
+use query_model::laws::alike_lines_ask_the_same;
 
 /// The turn at a place is what comes there in the run.
 pub fn turns_are_of_the_run<N: RunName>()
@@ -65,4 +71,14 @@ pub fn comings_are_queries()
 {
     comings_in_order();
     queries_are_numbered();
+}
+
+/// Alike lines have the same turns, and as many of their queries are answered.
+pub fn alike_lines_have_the_same_turns()
+    ensures turns { (lines others : List Line) (turns : List Turn) → AreAlike lines others → AreTurnsOf lines turns → AreTurnsOf others turns }
+    ensures counts { (lines others : List Line) (bases : ℕ) (counted : Counted) → AreAlike lines others
+        → HasCounted lines bases counted → HasCounted others bases counted }
+{
+    alike_lines_ask_the_same();
+    alike_lines_come_to_the_same();
 }

@@ -1,4 +1,5 @@
-ghost use Rattle.std.specs.Prelude.{◌≡◌, ◌≤◌, ◌++◌, ◌∷◌, [], length, OnOk, IfOk};
+ghost use Rattle.std.specs.Prelude.{◌≡◌, ◌≤◌, ◌++◌, ◌∷◌, [], List, length, OnOk, IfOk};
+ghost use Rattle.query_model.specs.declared.line.Line.{Line};
 ghost use Rattle.query_model.specs.Documents.{queries_of};
 ghost use Rattle.front_walk.specs.Following.{IsInput};
 ghost use Rattle.run_plan.specs.Turns.{AreTurnsOf};
@@ -7,25 +8,33 @@ ghost use Rattle.run_plan.specs.Planning.{IsNoted};
 use crate::laws::comings_are_queries;
 use crate::turn::{BegunQuery, Turn};
 use fan_base::{ExecId, Memory};
-use fan_parts::RunName;
 use front_walk::{AtTurn, QueryTurn, walk};
 use query_model::{Lines, Query};
 use std::alloc::Global;
-use std::marker::PhantomData;
+use std::marker::{Brand, PhantomData};
 use std::sync::Wait;
+
+// The lines that are planned.
+pub(crate) trait Planned {
+    ghost lines: { List Line };
+}
+
+impl Planned for Brand {
+    ghost lines = { [] };
+}
 
 // A hook that notes what comes.
 #[derive(Drop)]
-struct Planner<N: RunName> {
+struct Planner<N: Planned> {
     turns: Vec<Turn>,
     of: PhantomData<N>,
-    ghost few: { length (queries_of N.asked.lines) ≤ 50000 },
+    ghost few: { length (queries_of N.lines) ≤ 50000 },
 }
 
-impl<N: RunName> AtTurn for Planner<N> {
-    ghost lines = { N.asked.lines };
+impl<N: Planned> AtTurn for Planner<N> {
+    ghost lines = { N.lines };
 
-    ghost does = { λ place coming before sufficed after. IsNoted N.asked.lines coming sufficed before.turns.items after.turns.items };
+    ghost does = { λ place coming before sufficed after. IsNoted N.lines coming sufficed before.turns.items after.turns.items };
 
     fn begin<R: Wait>(
         &mut self,
@@ -61,14 +70,27 @@ fn note(turns: &mut Vec<Turn>, turn: Turn) -> Result<(), Memory>
 }
 
 /// The turns of all queries, place by place. The lines are gone through once, with a timer base of this executor.
-pub fn plan<N: RunName, R: Wait>(
+pub fn plan<R: Wait>(
     rt: &R,
     alloc: Global,
     exec: ExecId,
     lines: &Lines,
 ) -> Result<Vec<Turn>, Memory>
     requires input { IsInput lines.now }
-    requires lines { lines.now ≡ N.asked.lines }
+    ensures turns { IfOk result (λ turns. AreTurnsOf lines.now turns.items) }
+{
+    plan_named::<Brand, R>(rt, alloc, exec, lines)
+}
+
+// The same, under a name of these lines.
+fn plan_named<N: Planned, R: Wait>(
+    rt: &R,
+    alloc: Global,
+    exec: ExecId,
+    lines: &Lines,
+) -> Result<Vec<Turn>, Memory>
+    requires input { IsInput lines.now }
+    requires lines { lines.now ≡ N.lines }
     ensures turns { IfOk result (λ turns. AreTurnsOf lines.now turns.items) }
 {
     let mut planner = Planner::<N> {

@@ -1,8 +1,7 @@
-use Rattle.std.proofs.Common.{◌≡◌, ◌≤◌, ℕ, List, map, refl, sym, ap, ◌∙◌, arith, w8}
+use Rattle.std.proofs.Common.{◌≡◌, ◌≤◌, ℕ, map, refl, sym, ap, ◌∙◌, arith, w8}
 use mir.Val.{of_z, to_z}
-use Rattle.std.specs.List.{range_with_len, slice_get}
+use Rattle.std.specs.List.{range_with_len}
 use Rattle.std.proofs.lemmas.Result.{on_ok_weaker}
-use Rattle.query_model.specs.declared.line.Line.{Line}
 use Rattle.query_model.specs.Order.{Asked}
 use Rattle.fan_model.specs.Tasks.{pool_exec, queue_of, task_run}
 use Rattle.fan_parts.specs.Facts.{IsAskOf}
@@ -19,8 +18,8 @@ pub prio_at-requires : goal.prio_at-requires
 prio_at-requires g c =
     let b = c.requires.begun in (
       b.query.query,
-      ap (λ (l : List Line). slice_get l c.args.query.line) c.requires.front.lines
-          ∙ c.begun_query_is_asked.ensures.line c.args.place c.args.query.number c.args.query.line c.args.query.documents b,
+      c.alike_lines_ask_the_same.ensures.at g.N.RunName.asked.lines c.args.front.now.lines.now c.args.query.line b.query.query (record { same = sym c.requires.front.lines.same })
+          (c.begun_query_is_asked.ensures.line c.args.place c.args.query.number c.args.query.line c.args.query.documents b),
     )
 
 pub gathering_exec-exec-requires-clause-number : goal.gathering_exec-exec-requires-clause-number
@@ -41,8 +40,9 @@ returns-clause-added g c = λ first so_far.
     let same : is_ask.query ≡ b.query =
     c.begun_query_is_asked.ensures.same c.args.place c.args.query.number c.args.query.line c.args.query.documents b ask is_ask here in
     let prio : c.prio_at.result ≡ b.query.query.prio =
-    c.prio_at.ensures b.query.query (ap (λ (l : List Line). slice_get l c.args.query.line) c.requires.front.lines
-    ∙ c.begun_query_is_asked.ensures.line c.args.place c.args.query.number c.args.query.line c.args.query.documents b) in
+    c.prio_at.ensures b.query.query
+    (c.alike_lines_ask_the_same.ensures.at asked.lines c.args.front.now.lines.now c.args.query.line b.query.query (record { same = sym c.requires.front.lines.same })
+    (c.begun_query_is_asked.ensures.line c.args.place c.args.query.number c.args.query.line c.args.query.documents b)) in
     let at : ℕ = queue_in c.args.pool.now.id (to_z w8 (of_z w8 c.priority_of-priority.result)) in
     let queue : at ≡ queue_of is_ask.query.query.prio =
     queue_is _ c.prio_at.result is_ask.query.query.prio c.priority_of-priority.result c.requires.queues c.priority_of-priority.ensures

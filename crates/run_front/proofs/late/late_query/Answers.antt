@@ -1,8 +1,7 @@
 use Rattle.std.proofs.Common.{◌≡◌, ◌+◌, ◌++◌, ◌≤◌, ℕ, List, map, refl, sym, ap, ◌∙◌, arith}
-use Rattle.std.specs.List.{range_with_len, slice_get}
+use Rattle.std.specs.List.{range_with_len}
 use Rattle.std.proofs.lemmas.Result.{on_ok_weaker}
 use Rattle.fan_base.specs.declared.number.ExecId.{ExecId}
-use Rattle.query_model.specs.declared.line.Line.{Line}
 use Rattle.query_model.specs.Order.{Asked}
 use Rattle.fan_model.specs.Tasks.{Run, front_exec, queue_of, task_run}
 use Rattle.fan_parts.specs.Facts.{IsAskOf}
@@ -17,8 +16,8 @@ pub prio_at-requires : goal.prio_at-requires
 prio_at-requires g c =
     let b = c.requires.begun in (
       b.query.query,
-      ap (λ (l : List Line). slice_get l c.args.query.line) c.requires.front.lines
-          ∙ c.begun_query_is_asked.ensures.line c.args.place c.args.query.number c.args.query.line c.args.query.documents b,
+      c.alike_lines_ask_the_same.ensures.at g.N.RunName.asked.lines c.args.front.now.lines.now c.args.query.line b.query.query (record { same = sym c.requires.front.lines.same })
+          (c.begun_query_is_asked.ensures.line c.args.place c.args.query.number c.args.query.line c.args.query.documents b),
     )
 
 pub gathering_exec-base-requires-clause-number : goal.gathering_exec-base-requires-clause-number
@@ -40,8 +39,9 @@ returns-clause-direct g c = λ start first within so_far.
     let same : is_ask.query ≡ b.query =
     c.begun_query_is_asked.ensures.same c.args.place c.args.query.number c.args.query.line c.args.query.documents b ask is_ask here in
     let prio : c.prio_at.result ≡ b.query.query.prio =
-    c.prio_at.ensures b.query.query (ap (λ (l : List Line). slice_get l c.args.query.line) c.requires.front.lines
-    ∙ c.begun_query_is_asked.ensures.line c.args.place c.args.query.number c.args.query.line c.args.query.documents b) in
+    c.prio_at.ensures b.query.query
+    (c.alike_lines_ask_the_same.ensures.at asked.lines c.args.front.now.lines.now c.args.query.line b.query.query (record { same = sym c.requires.front.lines.same })
+    (c.begun_query_is_asked.ensures.line c.args.place c.args.query.number c.args.query.line c.args.query.documents b)) in
     let queue : c.queue_number-queue.result ≡ queue_of is_ask.query.query.prio =
     c.queue_number-queue.ensures ∙ (ap queue_of prio ∙ ap (λ (q : Asked). queue_of q.query.prio) (sym same)) in
     let on_front : exec ≡ front_exec asked.bases = ap (λ (n : ℕ). front_exec n) c.requires.front.bases in

@@ -1,10 +1,10 @@
-use Rattle.fanout.proofs.levels.run_named.Goals as goal
+use Rattle.fanout.proofs.levels.fan_run_named.Goals as goal
 
 pub returns-in_default : goal.returns-in_default
 returns-in_default g c = c.refused.ensures _ _
 
-pub returns-in_default-count : goal.returns-in_default-count
-returns-in_default-count g c = c.refused-in_default-count.ensures _ _
+pub returns-in_default-counts_of_run : goal.returns-in_default-counts_of_run
+returns-in_default-counts_of_run g c = c.refused-in_default-counts_of_run.ensures _ _
 
 pub returns-in_default-new_homes : goal.returns-in_default-new_homes
 returns-in_default-new_homes g c = c.refused-in_default-new_homes.ensures _ _
