@@ -1,3 +1,4 @@
+mod DigitLemmas
 mod DrawnWords
 mod Expressions
 mod Limits

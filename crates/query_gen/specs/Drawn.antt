@@ -6,7 +6,11 @@ use Rattle.query_model.specs.declared.line.Ask.{Ask}
 use Rattle.query_model.specs.declared.line.Ask.TheVariants as ask
 use Rattle.query_model.specs.Generated.{Drawn, ◌>>=◌, draw_two, draw_word, just}
 
--- where there was memory: what came, and the state behind it, are what is drawn from the state before
+-- what came, and the state behind it, are what is drawn from the state before
+abbrev pub IsDrawnFrom : {A : Type 0} → Drawn A → A → ℕ → ℕ → Type 0
+IsDrawnFrom draws drawn old new = (drawn ≡ (draws old).0) × (new ≡ (draws old).1)
+
+-- the same where there was memory
 abbrev pub IsDrawn : {A E : Type 0} → Drawn A → Result A E → ℕ → ℕ → Type 0
 IsDrawn draws result old new = IfOk result (λ drawn. (drawn ≡ (draws old).0) × (new ≡ (draws old).1))
 

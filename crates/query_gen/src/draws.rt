@@ -1,7 +1,8 @@
-ghost use Rattle.std.specs.Prelude.{◌≡◌, ◌<◌, ◌++◌, codes, IfOk};
+ghost use Rattle.std.specs.Prelude.{◌≡◌, ◌<◌, ◌+◌, ◌++◌, codes};
 ghost use Rattle.std.specs.Fmt.{decimal};
+ghost use Rattle.fan_base.specs.Word.{IsWord};
 ghost use Rattle.query_model.specs.Generated.{draw, draw_word, draw_words};
-ghost use Rattle.query_gen.specs.Drawn.{IsDrawn};
+ghost use Rattle.query_gen.specs.Drawn.{IsDrawn, IsDrawnFrom};
 
 use fan_base::{Word, Words};
 use std::alloc::{AllocError, Global};
@@ -54,20 +55,20 @@ impl Draws {
     }
 
     /// `w` and a number below 500.
-    pub(crate) fn word(&mut self, alloc: Global) -> Result<Word, AllocError>
-        ensures { IsDrawn draw_word result self.old self.new }
+    pub(crate) fn word(&mut self) -> Word
+        ensures { IsDrawnFrom draw_word result self.old self.new }
     {
-        word_of(alloc, self.number(WORDS))
+        word_of(self.number(WORDS))
     }
 
     /// So many words.
     pub(crate) fn words(&mut self, alloc: Global, count: u64) -> Result<Words, AllocError>
         ensures { IsDrawn (draw_words count) result self.old self.new }
     {
-        let mut words = Vec::new(alloc);
+        let mut words = Vec::with_capacity(alloc, count as usize)?;
         let mut left = count;
         'words: while left > 0 {
-            words.push(self.word(alloc)?)?;
+            words.push(self.word())?;
             left -= 1;
         }
         Ok(Words::from_vec(words))
@@ -75,13 +76,37 @@ impl Draws {
 }
 
 /// `w` and the number.
-fn word_of(alloc: Global, number: u64) -> Result<Word, AllocError>
+fn word_of(number: u64) -> Word
     requires { number < 500 }
-    ensures { IfOk result (λ word. word ≡ codes "w" ++ decimal number) }
+    ensures { result ≡ codes "w" ++ decimal number }
 {
-    let text = format!(in alloc; "w{number}")?;
-    match Word::new(text.as_bytes()) {
-        Ok(word) => Ok(word),
+    let units = digit(number % 10);
+    let tens = digit(number / 10 % 10);
+    let hundreds = digit(number / 10 / 10);
+    if number < 10 {
+        word(&[b'w', units])
+    } else if number < 100 {
+        word(&[b'w', tens, units])
+    } else {
+        word(&[b'w', hundreds, tens, units])
+    }
+}
+
+/// A digit's letter.
+fn digit(number: u64) -> u8
+    requires { number < 10 }
+    ensures { result ≡ 48 + number }
+{
+    b'0' + number as u8
+}
+
+/// The word of these bytes.
+fn word(bytes: &[u8]) -> Word
+    requires { IsWord bytes.now }
+    ensures { result ≡ bytes.now }
+{
+    match Word::new(bytes) {
+        Ok(word) => word,
         Err(_) => unreachable!(),
     }
 }

@@ -1,6 +1,6 @@
 ghost use Rattle.std.specs.Prelude.{◌≡◌, ◌<◌, ◌≤◌};
 ghost use Rattle.query_model.specs.Generated.{draw_ask, draw_count, draw_delayed, draw_queries, draw_query, draw_ticks, draw_top, prio_of};
-ghost use Rattle.query_gen.specs.Drawn.{IsDrawn, IsDrawnBehind, draw_find_both, draw_find_either, draw_find_without, draw_pair, draw_present};
+ghost use Rattle.query_gen.specs.Drawn.{IsDrawn, IsDrawnBehind, IsDrawnFrom, draw_find_both, draw_find_either, draw_find_without, draw_pair, draw_present};
 
 use crate::draws::Draws;
 use fan_base::{Word, Words};
@@ -53,10 +53,10 @@ impl Draws {
         match number {
             2 => Ok((None, self.find_either(alloc)?)),
             3 => Ok((None, self.find_without(alloc)?)),
-            4 => Ok((None, self.count(alloc)?)),
+            4 => Ok((None, self.count())),
             5 => Ok((None, self.present(alloc)?)),
             6 => Ok((None, self.top(alloc)?)),
-            7 => self.delayed(alloc),
+            7 => Ok(self.delayed()),
             _ => Ok((None, self.find_both(alloc)?)),
         }
     }
@@ -64,21 +64,21 @@ impl Draws {
     fn find_both(&mut self, alloc: Global) -> Result<Ask, AllocError>
         ensures { IsDrawn draw_find_both result self.old self.new }
     {
-        let (a, b) = self.two(alloc)?;
+        let (a, b) = self.two();
         Ok(Ask::Find(Expr::both(alloc, Expr::word(a), Expr::word(b))?))
     }
 
     fn find_either(&mut self, alloc: Global) -> Result<Ask, AllocError>
         ensures { IsDrawn draw_find_either result self.old self.new }
     {
-        let (a, b) = self.two(alloc)?;
+        let (a, b) = self.two();
         Ok(Ask::Find(Expr::either(alloc, Expr::word(a), Expr::word(b))?))
     }
 
     fn find_without(&mut self, alloc: Global) -> Result<Ask, AllocError>
         ensures { IsDrawn draw_find_without result self.old self.new }
     {
-        let (a, b) = self.two(alloc)?;
+        let (a, b) = self.two();
         let without = Expr::not(alloc, Expr::word(b))?;
         Ok(Ask::Find(Expr::both(alloc, Expr::word(a), without)?))
     }
@@ -86,40 +86,40 @@ impl Draws {
     fn present(&mut self, alloc: Global) -> Result<Ask, AllocError>
         ensures { IsDrawn draw_present result self.old self.new }
     {
-        let (a, b) = self.two(alloc)?;
+        let (a, b) = self.two();
         Ok(Ask::Present(Expr::both(alloc, Expr::word(a), Expr::word(b))?))
     }
 
-    fn count(&mut self, alloc: Global) -> Result<Ask, AllocError>
-        ensures { IsDrawn draw_count result self.old self.new }
+    fn count(&mut self) -> Ask
+        ensures { IsDrawnFrom draw_count result self.old self.new }
     {
-        Ok(Ask::Count(Expr::word(self.word(alloc)?)))
+        Ask::Count(Expr::word(self.word()))
     }
 
     fn top(&mut self, alloc: Global) -> Result<Ask, AllocError>
         ensures { IsDrawn draw_top result self.old self.new }
     {
         let more = self.number(10) as u32;
-        let (a, b) = self.two(alloc)?;
+        let (a, b) = self.two();
         let mut words = Vec::new(alloc);
         words.push(a)?;
         words.push(b)?;
         Ok(Ask::Top(1 + more, Words::from_vec(words)))
     }
 
-    fn delayed(&mut self, alloc: Global) -> Result<(Option<u32>, Ask), AllocError>
-        ensures { IsDrawn draw_delayed result self.old self.new }
+    fn delayed(&mut self) -> (Option<u32>, Ask)
+        ensures { IsDrawnFrom draw_delayed result self.old self.new }
     {
         let more = self.number(1000) as u32;
-        Ok((Some(1 + more), self.count(alloc)?))
+        (Some(1 + more), self.count())
     }
 
-    fn two(&mut self, alloc: Global) -> Result<(Word, Word), AllocError>
-        ensures { IsDrawn draw_pair result self.old self.new }
+    fn two(&mut self) -> (Word, Word)
+        ensures { IsDrawnFrom draw_pair result self.old self.new }
     {
-        let a = self.word(alloc)?;
-        let b = self.word(alloc)?;
-        Ok((a, b))
+        let a = self.word();
+        let b = self.word();
+        (a, b)
     }
 }
 

@@ -1,10 +1,18 @@
-use Rattle.std.proofs.Common.{subst, sym, ◌∙◌}
-use Rattle.fan_base.specs.Word.{IsWord}
-use Rattle.query_gen.proofs.DrawnWords.{drawn_is_word, is_never_refused}
+use Rattle.std.proofs.Common.{◌∙◌, ap, sym, arith, [], ◌∷◌, ℕ, List}
+use Rattle.query_gen.proofs.DigitLemmas.{one_digit, two_digits, three_digits}
 use Rattle.query_gen.proofs.draws.word_of.Goals as goal
 
-pub unreachable-requires : goal.unreachable-requires
-unreachable-requires c =
-    is_never_refused c.new.result c.as_bytes.result.now c.in-Err.field-0
-    (subst IsWord (sym (c.as_bytes.ensures.value ∙ c.in_ok-text.ensures.ok)) (drawn_is_word c.args.number c.requires))
-    c.new.ensures.bad c.new.ensures.in_place c.in-Err.is
+pub returns-then-number-lt10 : goal.returns-then-number-lt10
+returns-then-number-lt10 c =
+    c.word.ensures ∙ ((λ i. 119 ∷ c.digit-units.ensures i ∷ [])
+    ∙ ap (λ (ds : List ℕ). 119 ∷ ds) (sym (one_digit c.args.number (omega (arith, c.if-number-lt10.true)))))
+
+pub returns-then-number-lt100 : goal.returns-then-number-lt100
+returns-then-number-lt100 c =
+    c.word-then-number-lt100.ensures ∙ ((λ i. 119 ∷ c.digit-tens.ensures i ∷ c.digit-units.ensures i ∷ [])
+    ∙ ap (λ (ds : List ℕ). 119 ∷ ds) (sym (two_digits c.args.number (omega (arith, c.if-number-lt10.false)) (omega (arith, c.if-number-lt100.true)))))
+
+pub returns-else-number-lt100 : goal.returns-else-number-lt100
+returns-else-number-lt100 c =
+    c.word-else-number-lt100.ensures ∙ ((λ i. 119 ∷ c.digit-hundreds.ensures i ∷ c.digit-tens.ensures i ∷ c.digit-units.ensures i ∷ [])
+    ∙ ap (λ (ds : List ℕ). 119 ∷ ds) (sym (three_digits c.args.number (omega (arith, c.if-number-lt100.false)) (omega (arith, c.requires)))))
