@@ -1,3 +1,4 @@
 pub mod CommandLemmas
 pub mod EndingLemmas
 pub mod LineLemmas
+pub mod UnbegunLemmas

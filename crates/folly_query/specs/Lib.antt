@@ -1,5 +1,4 @@
 pub mod Passing
 pub mod Endings
 pub mod Statuses
-pub mod Joining
 pub mod Reports

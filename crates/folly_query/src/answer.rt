@@ -1,21 +1,24 @@
-ghost use Rattle.std.specs.Prelude.{◌≡◌, ◌≤◌, IfOk, None, length};
+ghost use Rattle.std.specs.Prelude.{◌≡◌, ◌≤◌, IfOk, None, length, map};
 ghost use Rattle.fan_base.specs.Outside.{shown};
+ghost use Rattle.query_model.specs.Alike.{without_words};
 ghost use Rattle.query_model.specs.Documents.{IsWithinLimits, docs_of};
 ghost use Rattle.query_parts.specs.Parts.{AreShards};
 ghost use Rattle.query_words.specs.Laws.{AreSettingsInRange};
-ghost use Rattle.fanout.specs.Ends.{Reports, ReportsAs, TellsNoRun, Writes};
+ghost use Rattle.fanout.specs.Ends.{IsEndOf, Reports, TellsNoRun, Writes};
 ghost use Rattle.folly_query.specs.Reports.{asked_by};
 
-use crate::parts::{join, split};
 use core_word::Tally;
 use fan_base::{Gate, Memory, Sink};
-use fanout::{FanEnd, FanOutcome, Knobs, fan_run};
-use query_model::Input;
+use fanout::{FanEnd, FanOutcome, Knobs, RunName, fan_run_named};
+use line_table::LineTable;
+use query_model::Lines;
+use query_model::laws::{alike_lines, alike_lines_are_within_limits};
 use query_parts::build_shards_beside;
 use query_words::Settings;
 use run_notes::Notes;
 use shard_index::Shard;
 use std::alloc::Global;
+use std::marker::Brand;
 use std::sync::Wait;
 use std::thread::Threads;
 
@@ -23,18 +26,35 @@ use std::thread::Threads;
 pub fn answer<K: Sink + Send, G: Gate, R: Threads + Wait + Sync>(
     rt: &R,
     alloc: Global,
-    input: Input,
+    table: LineTable,
     settings: Settings,
     sink: &mut K,
     gate: &G,
 ) -> FanEnd
-    requires limits { IsWithinLimits input.lines settings.shards }
+    requires limits { IsWithinLimits table settings.shards }
     requires settings { AreSettingsInRange settings }
-    ensures writes { Writes input (shown (K.holds sink.old) (K.faults sink.old)) (shown (K.holds sink.new) (K.faults sink.new)) result.outcome }
-    ensures reports { Reports (asked_by settings input.lines) result }
+    ensures writes { Writes (record { lines = table }) (shown (K.holds sink.old) (K.faults sink.old)) (shown (K.holds sink.new) (K.faults sink.new)) result.outcome }
+    ensures reports { Reports (asked_by settings table) result }
     ensures unmade { result.pool ≡ None → TellsNoRun result }
 {
-    let (input, shards) = match with_shards(rt, alloc, input, settings.shards) {
+    answer_named::<Brand, K, G, R>(rt, alloc, table, settings, sink, gate)
+}
+
+/// The run of this name. The words of the documents are dropped once the shards stand.
+fn answer_named<
+    N: RunName + Send + Sync + 'static,
+    K: Sink + Send,
+    G: Gate,
+    R: Threads + Wait + Sync,
+>(rt: &R, alloc: Global, table: LineTable, settings: Settings, sink: &mut K, gate: &G) -> FanEnd
+    requires asked { N.asked ≡ asked_by settings table }
+    requires limits { IsWithinLimits table settings.shards }
+    requires settings { AreSettingsInRange settings }
+    ensures { IsEndOf N.asked (shown (K.holds sink.old) (K.faults sink.old)) (shown (K.holds sink.new) (K.faults sink.new)) result }
+{
+    alike_lines();
+    alike_lines_are_within_limits();
+    let (lines, shards) = match with_shards(rt, alloc, table, settings.shards) {
         Ok(parts) => parts,
         Err(Memory) => return no_memory(alloc),
     };
@@ -43,7 +63,7 @@ pub fn answer<K: Sink + Send, G: Gate, R: Threads + Wait + Sync>(
         bases: settings.bases,
         stop_at: settings.stop_at,
     };
-    fan_run(rt, alloc, &input, shards.as_slice(), knobs, sink, gate)
+    fan_run_named::<N, K, G, R>(rt, alloc, &lines, shards.as_slice(), knobs, sink, gate)
 }
 
 /// The end of a run that hasn't begun.
@@ -59,22 +79,21 @@ fn no_memory(alloc: Global) -> FanEnd
     }
 }
 
-/// The input as it was, and so many shards of its documents, built beside each other.
+/// The lines without the words of their documents, and so many shards of the documents, built beside each other.
 fn with_shards<R: Threads + Sync>(
     rt: &R,
     alloc: Global,
-    input: Input,
+    table: LineTable,
     shards: u32,
-) -> Result<(Input, Vec<Shard>), Memory>
-    requires limits { IsWithinLimits input.lines shards }
+) -> Result<(Lines, Vec<Shard>), Memory>
+    requires limits { IsWithinLimits table shards }
     requires some { 1 ≤ shards }
     requires many { shards ≤ 64 }
-    ensures input { IfOk result (λ made. made.0 ≡ input) }
-    ensures shards { IfOk result (λ made. AreShards made.1.items (docs_of input.lines)) }
+    ensures lines { IfOk result (λ made. made.0 ≡ map without_words table) }
+    ensures shards { IfOk result (λ made. AreShards made.1.items (docs_of table)) }
     ensures many { IfOk result (λ made. length made.1.items ≡ shards) }
 {
-    let (docs, others) = split(alloc, input)?;
+    let (docs, lines) = table.into_parts(alloc)?;
     let shards = build_shards_beside(rt, alloc, &docs, shards)?;
-    let input = join(alloc, docs, others)?;
-    Ok((input, shards))
+    Ok((lines, shards))
 }

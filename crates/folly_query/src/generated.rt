@@ -1,4 +1,4 @@
-ghost use Rattle.std.specs.Prelude.{◌≡◌, ◌≢◌, None};
+ghost use Rattle.std.specs.Prelude.{◌≡◌, None};
 ghost use Rattle.fan_base.specs.Outside.{shown};
 ghost use Rattle.query_model.specs.Generated.{summary_of};
 ghost use Rattle.query_words.specs.Laws.{AreNumbersInRange, AreSettingsInRange};
@@ -38,8 +38,8 @@ pub fn sum_up<K: Sink, G: Gate, R: Threads + Wait + Sync>(
         docs,
         queries,
     } = generation;
-    let input = match generate(alloc, seed, docs, queries) {
-        Ok(input) => input,
+    let table = match generate(alloc, seed, docs, queries) {
+        Ok(table) => table,
         Err(Memory) => return Report::empty(alloc, Status::Memory),
     };
     let mut replies = Buffer::new(alloc);
@@ -48,7 +48,7 @@ pub fn sum_up<K: Sink, G: Gate, R: Threads + Wait + Sync>(
         pool,
         queues,
         tally,
-    } = answer(rt, alloc, input, settings, &mut replies, gate);
+    } = answer(rt, alloc, table, settings, &mut replies, gate);
     match outcome {
         FanOutcome::Done => Report {
             status: write_summary(alloc, docs, queries, replies.bytes(), sink),

@@ -17,7 +17,6 @@ mod answer;
 mod args;
 mod buffer;
 mod generated;
-mod parts;
 mod read;
 mod report;
 mod run;

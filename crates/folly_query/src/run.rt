@@ -15,7 +15,7 @@ use crate::report::{Report, Status};
 use fan_base::{Gate, Memory, Sink, Source};
 use query_model::laws::accepted_is_within_limits;
 use query_model::{BadInput, InputFault};
-use query_text::{error_line, read_input};
+use query_text::{error_line, read_lines};
 use query_words::laws::{commands_are_in_range, words_are_at_most_one_command};
 use query_words::{Command, Settings};
 use reply_printer::write_all;
@@ -100,14 +100,14 @@ fn run<S: Source, K: Sink + Send, G: Gate, R: Threads + Wait + Sync>(
         Err(ReadEnd::Fault) => return Report::empty(alloc, Status::ReadFault),
         Err(ReadEnd::TooLarge) => return Report::empty(alloc, Status::TooLarge),
     };
-    let input = match read_input(alloc, text.as_slice(), settings.shards) {
-        Ok(input) => input,
+    let table = match read_lines(alloc, text.as_slice(), settings.shards) {
+        Ok(table) => table,
         Err(InputFault::Memory) => return Report::empty(alloc, Status::Memory),
         Err(InputFault::Bad(bad)) => return Report::empty(alloc, refuse(alloc, bad, sink)),
     };
     accepted_is_within_limits();
     drop(text);
-    Report::of_run(answer(rt, alloc, input, settings, sink, gate))
+    Report::of_run(answer(rt, alloc, table, settings, sink, gate))
 }
 
 /// Writes the error line of a refusal, as far as the sink takes it, and gives the status.

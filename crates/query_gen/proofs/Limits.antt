@@ -6,7 +6,7 @@ use Rattle.std.specs.Prelude.{if◌then◌else◌}
 use Rattle.std.specs.List.{AllPass, list_any, sum_by}
 use Rattle.std.proofs.lemmas.List.{append-nil}
 use Rattle.std.proofs.lemmas.List.Elements.{All-append, All-cons, All-nil, filter_map-append}
-use Rattle.std.proofs.lemmas.List.Sums.{sum_by-append}
+use Rattle.std.proofs.lemmas.List.Sums.{count_by-le-length, sum_by-append}
 use Rattle.fan_base.specs.declared.doc.Doc.{Doc}
 use Rattle.fan_base.specs.Word.{is_word}
 use Rattle.query_model.specs.declared.line.Ask.{Ask}
@@ -14,7 +14,8 @@ use Rattle.query_model.specs.declared.line.Line.{Line}
 use Rattle.query_model.specs.declared.line.Line.TheVariants as line
 use Rattle.query_model.specs.Documents.{DifferentIds, IsAsk, IsLine, IsWithinLimits, docs_of, doc_of_line, queries_of, query_of_line}
 use Rattle.query_model.specs.Limits.{most_delay}
-use Rattle.query_model.specs.Lines.{ticks_of}
+use Rattle.query_model.specs.Lines.{is_doc, ticks_of}
+use Rattle.line_table.specs.Rooms.{IsRoomFor}
 use Rattle.query_model.specs.Generated.{Drawn, draw, draw_ask, draw_doc, draw_docs, draw_queries, draw_query, draw_tick, draw_ticks, draw_top, draw_word, draw_words, generated_input, just, next_state}
 use Rattle.query_gen.proofs.DrawnWords.{drawn_is_word}
 
@@ -42,6 +43,13 @@ is_document place state h =
       id = omega (arith, h);
       are_words = record { few = omega (arith, few, below 60 state (omega arith)); each = words_pass (1 + more) (draw 60 state).1 };
     }
+
+-- a drawn document has room behind fewer lines than 20,000
+pub room_for_document : (before : List Line) (place state : ℕ) → length before ≡ place → place < 20000 → IsRoomFor before (draw_doc place state).0
+room_for_document before place state e h = record {
+  few_words = (is_document place state h).are_words.few;
+  few_documents = omega (arith, count_by-le-length is_doc before, e, h);
+}
 
 -- what is asked of documents that were drawn, with no query and no tick
 record AreDocuments (place count : ℕ) (lines : List Line) : Type 0 where

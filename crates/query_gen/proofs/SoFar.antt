@@ -1,8 +1,9 @@
 -- Lists that are drawn place by place: what was drawn so far, and what the draws that are left give behind it.
-use Rattle.std.proofs.Common.{refl, sym, ap, subst, ◌∙◌, ◌≡◌, ◌+◌, ℕ, suc, List, [], ◌∷◌, ◌++◌, append_assoc}
+use Rattle.std.proofs.Common.{refl, sym, ap, subst, ◌∙◌, ◌≡◌, ◌+◌, ℕ, suc, List, [], ◌∷◌, ◌++◌, append_assoc, Result, Ok, Err, IfOk}
 use Rattle.std.proofs.lemmas.List.{append-nil}
 use Rattle.fan_base.specs.declared.word.Word.{Word}
 use Rattle.query_model.specs.declared.line.Line.{Line}
+use Rattle.query_gen.specs.Drawn.{IsDrawnOnto}
 use Rattle.query_model.specs.Generated.{Drawn, draw_doc, draw_docs, draw_lines, draw_queries, draw_query, draw_ticks, draw_word, draw_words}
 
 -- of draws that begin at a place and are so many: `lines` are those so far, behind what was there `before`
@@ -63,10 +64,12 @@ ends draws before lines place left state count start h e none =
     let end : (draws place 0 state).1 ≡ (draws 0 count start).1 = subst (λ n. (draws place n state).1 ≡ (draws 0 count start).1) e h.state_is in
     (sym (append-nil lines) ∙ (ap (λ drawn. lines ++ drawn.0) (sym none) ∙ all), ap (λ drawn. drawn.1) (sym none) ∙ end)
 
--- documents behind nothing, and queries behind them
-pub whole : (seed start middle docs queries : ℕ) (empty with_docs all : List Line) → start ≡ seed → empty ≡ [] → with_docs ≡ empty ++ (draw_docs 0 docs start).0 → middle ≡ (draw_docs 0 docs start).1
-    → all ≡ with_docs ++ (draw_queries 0 queries middle).0 → all ≡ (draw_lines docs queries seed).0
-whole seed start middle docs queries empty with_docs all s e d m a =
-    let first : with_docs ≡ (draw_docs 0 docs seed).0 = d ∙ (λ i. e i ++ (draw_docs 0 docs (s i)).0) in
-    let behind : middle ≡ (draw_docs 0 docs seed).1 = m ∙ (λ i. (draw_docs 0 docs (s i)).1) in
-    a ∙ (λ i. first i ++ (draw_queries 0 queries (behind i)).0)
+-- documents, and queries behind them
+pub whole : {E : Type 0} (result : Result (List Line) E) (documents : List Line) (seed start middle new docs queries : ℕ) → start ≡ seed
+    → (documents ≡ (draw_docs 0 docs start).0) × (middle ≡ (draw_docs 0 docs start).1)
+    → IsDrawnOnto (draw_queries 0 queries) result documents middle new → IfOk result (λ table. table ≡ (draw_lines docs queries seed).0)
+whole (Ok all) documents seed start middle new docs queries s first behind =
+    let docs_are : documents ≡ (draw_docs 0 docs seed).0 = first.0 ∙ (λ i. (draw_docs 0 docs (s i)).0) in
+    let state : middle ≡ (draw_docs 0 docs seed).1 = first.1 ∙ (λ i. (draw_docs 0 docs (s i)).1) in
+    behind.0 ∙ (λ i. docs_are i ++ (draw_queries 0 queries (state i)).0)
+whole (Err e) documents seed start middle new docs queries s first behind = tt

@@ -1,5 +1,5 @@
 -- What a draw of the code says of itself.
-use Rattle.std.specs.Prelude.{ℕ, ◌≡◌, ◌++◌, List, Result, IfOk, OnOk}
+use Rattle.std.specs.Prelude.{ℕ, ◌≡◌, ◌++◌, List, Result, IfOk}
 use Rattle.fan_base.specs.declared.word.Word.{Word}
 use Rattle.query_grammar.specs.Tree.{Tree}
 use Rattle.query_model.specs.declared.line.Ask.{Ask}
@@ -14,9 +14,9 @@ IsDrawnFrom draws drawn old new = (drawn ≡ (draws old).0) × (new ≡ (draws o
 abbrev pub IsDrawn : {A E : Type 0} → Drawn A → Result A E → ℕ → ℕ → Type 0
 IsDrawn draws result old new = IfOk result (λ drawn. (drawn ≡ (draws old).0) × (new ≡ (draws old).1))
 
--- the same of draws that are put behind a list
-abbrev pub IsDrawnBehind : {A E : Type 0} → Drawn (List A) → Result (Unit {0}) E → List A → List A → ℕ → ℕ → Type 0
-IsDrawnBehind draws result before behind old new = OnOk result ((behind ≡ before ++ (draws old).0) × (new ≡ (draws old).1))
+-- the same of draws that are put behind a list, which is handed back
+abbrev pub IsDrawnOnto : {A E : Type 0} → Drawn (List A) → Result (List A) E → List A → ℕ → ℕ → Type 0
+IsDrawnOnto draws result before old new = IfOk result (λ behind. (behind ≡ before ++ (draws old).0) × (new ≡ (draws old).1))
 
 -- two words
 abbrev pub draw_pair : Drawn (Word × Word)

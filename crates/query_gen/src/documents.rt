@@ -1,9 +1,10 @@
 ghost use Rattle.std.specs.Prelude.{◌≤◌, ◌<◌};
 ghost use Rattle.query_model.specs.Generated.{draw_doc, draw_docs};
-ghost use Rattle.query_gen.specs.Drawn.{IsDrawn, IsDrawnBehind};
+ghost use Rattle.query_gen.specs.Drawn.{IsDrawn};
 
 use crate::draws::Draws;
-use fan_base::Doc;
+use fan_base::{Doc, Memory};
+use line_table::LineTable;
 use query_model::Line;
 use std::alloc::{AllocError, Global};
 
@@ -24,21 +25,17 @@ impl Draws {
         }))
     }
 
-    /// Puts so many documents behind the lines.
-    pub(crate) fn documents(
-        &mut self,
-        alloc: Global,
-        count: u32,
-        lines: &mut Vec<Line>,
-    ) -> Result<(), AllocError>
+    /// The lines of so many documents.
+    pub(crate) fn documents(&mut self, alloc: Global, count: u32) -> Result<LineTable, Memory>
         requires { count ≤ 20000 }
-        ensures { IsDrawnBehind (draw_docs 0 count) result lines.old.items lines.new.items self.old self.new }
+        ensures { IsDrawn (draw_docs 0 count) result self.old self.new }
     {
+        let mut lines = LineTable::new(alloc);
         let mut place = 0;
         'documents: while place < count {
-            lines.push(self.document(alloc, place)?)?;
+            lines = lines.with(self.document(alloc, place)?)?;
             place += 1;
         }
-        Ok(())
+        Ok(lines)
     }
 }

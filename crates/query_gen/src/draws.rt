@@ -92,7 +92,7 @@ fn word_of(number: u64) -> Word
     }
 }
 
-/// A digit's letter.
+/// The character of a digit, 0 to 9.
 fn digit(number: u64) -> u8
     requires { number < 10 }
     ensures { result ≡ 48 + number }

@@ -1,29 +1,31 @@
 ghost use Rattle.std.specs.Prelude.{◌≡◌, ◌<◌, ◌≤◌};
 ghost use Rattle.query_model.specs.Generated.{draw_ask, draw_count, draw_delayed, draw_queries, draw_query, draw_ticks, draw_top, prio_of};
-ghost use Rattle.query_gen.specs.Drawn.{IsDrawn, IsDrawnBehind, IsDrawnFrom, draw_find_both, draw_find_either, draw_find_without, draw_pair, draw_present};
+ghost use Rattle.query_gen.specs.Drawn.{IsDrawn, IsDrawnFrom, IsDrawnOnto, draw_find_both, draw_find_either, draw_find_without, draw_pair, draw_present};
 
 use crate::draws::Draws;
-use fan_base::{Word, Words};
+use fan_base::{Memory, Word, Words};
+use line_table::LineTable;
 use query_model::{Ask, Expr, Line, Prio, Query};
 use std::alloc::{AllocError, Global};
 
 impl Draws {
-    /// Puts so many queries, and the ticks behind each tenth of them, behind the lines.
+    /// The lines, with so many queries behind them, and the ticks behind each tenth of these.
     pub(crate) fn queries(
         &mut self,
         alloc: Global,
         count: u32,
-        lines: &mut Vec<Line>,
-    ) -> Result<(), AllocError>
-        ensures { IsDrawnBehind (draw_queries 0 count) result lines.old.items lines.new.items self.old self.new }
+        lines: LineTable,
+    ) -> Result<LineTable, Memory>
+        ensures { IsDrawnOnto (draw_queries 0 count) result lines self.old self.new }
     {
+        let mut lines = lines;
         let mut place = 0;
         'queries: while place < count {
-            lines.push(self.query(alloc)?)?;
-            self.ticks(place, lines)?;
+            lines = lines.with(self.query(alloc)?)?;
+            lines = self.ticks(place, lines)?;
             place += 1;
         }
-        Ok(())
+        Ok(lines)
     }
 
     fn query(&mut self, alloc: Global) -> Result<Line, AllocError>
@@ -35,15 +37,15 @@ impl Draws {
         Ok(Line::Query(Query { delay, prio, ask }))
     }
 
-    /// Ticks, where this is the place of a tenth query.
-    fn ticks(&mut self, place: u32, lines: &mut Vec<Line>) -> Result<(), AllocError>
-        ensures { IsDrawnBehind (draw_ticks place) result lines.old.items lines.new.items self.old self.new }
+    /// The lines, with ticks behind them where this is the place of a tenth query.
+    fn ticks(&mut self, place: u32, lines: LineTable) -> Result<LineTable, Memory>
+        ensures { IsDrawnOnto (draw_ticks place) result lines self.old self.new }
     {
         if place % 10 == 9 {
             let more = self.number(300) as u32;
-            lines.push(Line::Tick(1 + more))?;
+            return lines.with(Line::Tick(1 + more));
         }
-        Ok(())
+        Ok(lines)
     }
 
     /// What is asked by a number below 8, and the delay.

@@ -1,6 +1,6 @@
 ghost use Rattle.std.specs.Prelude.{◌≡◌};
 
-use fan_base::Refused;
+use fan_base::{Memory, Refused};
 use query_grammar::ExprFault;
 use std::alloc::AllocFailed;
 
@@ -55,6 +55,16 @@ pub enum InputFault {
     Bad(BadInput),
     /// Want of memory.
     Memory,
+}
+
+impl From<Memory> for InputFault {
+    ghost use Rattle.query_model.specs.declared.fault.InputFault.TheVariants as fault;
+
+    ghost from_gives = { λ _ e. e ≡ fault.Memory };
+
+    fn from(_memory: Memory) -> InputFault {
+        InputFault::Memory
+    }
 }
 
 impl<X: Drop> From<Refused<X>> for InputFault {

@@ -1,6 +1,7 @@
-ghost use Rattle.std.specs.Prelude.{◌≡◌, ◌<◌, ◌≤◌, ◌^◌, List, IfOk, length, take};
+ghost use Rattle.std.specs.Prelude.{◌≡◌, ◌*◌, ◌≤◌, ◌^◌, List, IfOk, length, take};
 ghost use Rattle.fan_base.specs.declared.doc.Doc.{Doc};
 ghost use Rattle.query_model.specs.Answers.{answer};
+ghost use Rattle.query_model.specs.Limits.{most_words};
 ghost use Rattle.query_model.specs.Parts.{part_before};
 ghost use Rattle.shard_index.specs.Parts.{by_shard};
 ghost use Rattle.shard_index.specs.Standing.{AreShort};
@@ -19,7 +20,7 @@ use std::alloc::Global;
 pub fn build_shards(alloc: Global, docs: &Docs, shards: u32) -> Result<Vec<Shard>, Memory>
     requires some { 1 ≤ shards }
     requires many { shards ≤ 64 }
-    requires few { length docs.now < 2 ^ 32 }
+    requires few { length docs.now * most_words ≤ 2 ^ 32 }
     requires short { AreShort docs.now }
     ensures shards { IfOk result (λ all. AreShards all.items docs.now) }
     ensures many { IfOk result (λ all. length all.items ≡ shards) }

@@ -8,6 +8,7 @@ use Rattle.std.proofs.lemmas.List.{take_all, length-take-le}
 use Rattle.query_grammar.specs.declared.token.Token.{Token}
 use Rattle.query_grammar.specs.declared.fault.ExprFault.TheVariants as expr
 use Rattle.query_grammar.specs.Tree.{Tree}
+use Rattle.fan_base.specs.declared.doc.Doc.{Doc}
 use Rattle.query_model.specs.declared.line.Line.{Line}
 use Rattle.query_model.specs.declared.line.Line.TheVariants as line
 use Rattle.query_model.specs.declared.line.Ask.{Ask}
@@ -17,7 +18,7 @@ use Rattle.query_model.specs.declared.fault.BadKind.TheVariants.{BadByte}
 use Rattle.query_model.specs.Results.{◌>>=◌, check}
 use Rattle.query_model.specs.Pieces.{Bytes, fields, is_printable}
 use Rattle.query_model.specs.Expressions.{GivesTree, tokens_of}
-use Rattle.query_model.specs.ByFacts.{IsTickLine}
+use Rattle.query_model.specs.ByFacts.{IsDocLine, IsTickLine}
 use Rattle.query_model.specs.Lines as model
 use Rattle.query_text.specs.declared.fault.LineFault.{LineFault}
 use Rattle.query_text.specs.declared.fault.LineFault.TheVariants as fault
@@ -76,10 +77,11 @@ tree_by_first texts tokens r is g = by (tokens_of texts) r is g
     by (Ok all) (Err fault.Memory) is g = tt
     by (Err kind) r is g = absurd cc
 
--- the ticks of a line that a piece stands for have room
-pub has_room : (shards : ℕ) (before : List Line) (piece : Bytes) (l : Line) → ((n : ℕ) → model.LineBehind shards before piece (Ok (Some (line.Tick n))) → IsTickLine before piece n)
+-- for a line that a piece stands for there is room
+pub has_room : (shards : ℕ) (before : List Line) (piece : Bytes) (l : Line) → ((doc : Doc) → model.LineBehind shards before piece (Ok (Some (line.Doc doc))) → IsDocLine before piece doc)
+    → ((n : ℕ) → model.LineBehind shards before piece (Ok (Some (line.Tick n))) → IsTickLine before piece n)
     → model.LineBehind shards before piece (Ok (Some l)) → HasRoom before l
-has_room shards before piece (line.Doc doc) facts is = tt
-has_room shards before piece (line.Query query) facts is = tt
-has_room shards before piece (line.Tick n) facts is = (facts n is).room
-has_room shards before piece (line.Cancel n) facts is = tt
+has_room shards before piece (line.Doc doc) docs facts is = let doc_is = docs doc is in record { few_words = doc_is.words.few; few_documents = doc_is.room }
+has_room shards before piece (line.Query query) docs facts is = tt
+has_room shards before piece (line.Tick n) docs facts is = (facts n is).room
+has_room shards before piece (line.Cancel n) docs facts is = tt

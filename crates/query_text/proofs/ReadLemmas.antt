@@ -13,7 +13,7 @@ use Rattle.query_model.specs.Lines.{LineBehind}
 use Rattle.query_model.specs.Reading.{kept, StandFor, Accepts, Refuses}
 use Rattle.query_model.specs.Laws.{IsDecided}
 use Rattle.query_text.specs.Progress.{HasRead}
-use Rattle.query_text.specs.Outcomes.{IsInput, IsRefusal}
+use Rattle.query_text.specs.Outcomes.{AreLinesOf, IsRefusal}
 
 kept-push : (marks : List (Option Line)) (mark : Option Line) → kept (marks ++ mark ∷ []) ≡ kept marks ++ option_to_list mark
 kept-push [] None = refl
@@ -77,14 +77,18 @@ pub number_below : (bytes : Bytes) (shards : ℕ) (left rest : List Bytes) (line
 number_below bytes shards left rest lines number piece h front =
     omega (arith, h.number_is, ap length h.cut, length-append h.done left, ap length front, length-pieces bytes)
 
-pub gives_accepts : (bytes : Bytes) (shards : ℕ) (r : Result Input InputFault) → IsDecided bytes shards → IfOk r (λ input. Accepts bytes shards input)
-    → ((bad : BadInput) → r ≡ Err (fault.Bad bad) → Refuses bytes shards bad) → (input : Input) → Accepts bytes shards input → IsInput r input
-gives_accepts bytes shards (Ok read) d accepted refused input a = d.one_input read input accepted a
+-- the input of these lines
+abbrev pub input_of : List Line → Input
+input_of lines = record { lines = lines }
+
+pub gives_accepts : (bytes : Bytes) (shards : ℕ) (r : Result (List Line) InputFault) → IsDecided bytes shards → IfOk r (λ lines. Accepts bytes shards (record { lines = lines }))
+    → ((bad : BadInput) → r ≡ Err (fault.Bad bad) → Refuses bytes shards bad) → (input : Input) → Accepts bytes shards input → AreLinesOf r input
+gives_accepts bytes shards (Ok read) d accepted refused input a = ap (λ (i : Input). i.lines) (d.one_input (input_of read) input accepted a)
 gives_accepts bytes shards (Err (fault.Bad bad)) d accepted refused input a = d.never_both input bad a (refused bad refl)
 gives_accepts bytes shards (Err fault.Memory) d accepted refused input a = tt
 
-pub gives_refuses : (bytes : Bytes) (shards : ℕ) (r : Result Input InputFault) → IsDecided bytes shards → IfOk r (λ input. Accepts bytes shards input)
+pub gives_refuses : (bytes : Bytes) (shards : ℕ) (r : Result (List Line) InputFault) → IsDecided bytes shards → IfOk r (λ lines. Accepts bytes shards (record { lines = lines }))
     → ((bad : BadInput) → r ≡ Err (fault.Bad bad) → Refuses bytes shards bad) → (bad : BadInput) → Refuses bytes shards bad → IsRefusal r bad
-gives_refuses bytes shards (Ok read) d accepted refused bad u = d.never_both read bad accepted u
+gives_refuses bytes shards (Ok read) d accepted refused bad u = d.never_both (input_of read) bad accepted u
 gives_refuses bytes shards (Err (fault.Bad found)) d accepted refused bad u = d.one_refusal found bad (refused found refl) u
 gives_refuses bytes shards (Err fault.Memory) d accepted refused bad u = tt

@@ -2,6 +2,7 @@
 use Rattle.std.specs.Prelude.{◌≡◌, Result, Ok, Err}
 use Rattle.std.specs.Global.{Vec}
 use Rattle.std.specs.Prelude.{List}
+use Rattle.line_table.specs.declared.table.LineTable.{LineTable}
 use Rattle.query_model.specs.declared.fault.BadKind.{BadKind}
 use Rattle.query_model.specs.declared.fault.BadInput.{BadInput}
 use Rattle.query_model.specs.declared.fault.InputFault.{InputFault}
@@ -38,8 +39,14 @@ IsInput (Ok read) given = read ≡ given
 IsInput (Err (input.Bad bad)) given = ⊥
 IsInput (Err input.Memory) given = Unit {0}
 
+-- the answer is the lines of this input, unless memory ran out
+abbrev pub AreLinesOf : Result LineTable InputFault → Input → Type 0
+AreLinesOf (Ok read) given = read ≡ given.lines
+AreLinesOf (Err (input.Bad bad)) given = ⊥
+AreLinesOf (Err input.Memory) given = Unit {0}
+
 -- the answer is this refusal, unless memory ran out
-abbrev pub IsRefusal : Result Input InputFault → BadInput → Type 0
+abbrev pub IsRefusal : {X : Type 0} → Result X InputFault → BadInput → Type 0
 IsRefusal (Ok read) given = ⊥
 IsRefusal (Err (input.Bad bad)) given = bad ≡ given
 IsRefusal (Err input.Memory) given = Unit {0}

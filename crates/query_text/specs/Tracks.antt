@@ -11,6 +11,7 @@ use Rattle.query_model.specs.declared.fault.Limit.TheVariants as limit
 use Rattle.query_model.specs.Results.{check}
 use Rattle.query_model.specs.Limits.{most_ticks}
 use Rattle.query_model.specs.Lines.{is_doc, is_query, has_id, ticks_of}
+use Rattle.line_table.specs.Rooms.{IsRoomForDoc}
 use Rattle.query_text.specs.declared.so_far.SoFar.TheInside.{Inside}
 
 pub record Tracks (a : Inside) : Type 0 where
@@ -23,9 +24,9 @@ pub record Tracks (a : Inside) : Type 0 where
 abbrev pub tick_room : List Line → ℕ → Result (Unit {0}) BadKind
 tick_room before n = check (nat_le (sum_by ticks_of before + n) most_ticks) (bad.Limit limit.Ticks)
 
--- with the ticks of this line there are at most 10,000,000
+-- the document has at most 1,000 words and is one of at most 200,000; with the ticks of this line there are at most 10,000,000
 abbrev pub HasRoom : List Line → Line → Type 0
-HasRoom before (line.Doc _) = Unit {0}
+HasRoom before (line.Doc doc) = IsRoomForDoc before doc
 HasRoom before (line.Query _) = Unit {0}
 HasRoom before (line.Tick n) = sum_by ticks_of before + n ≤ most_ticks
 HasRoom before (line.Cancel _) = Unit {0}

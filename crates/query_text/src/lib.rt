@@ -6,7 +6,7 @@ pub use query_model::{
     Ask, BadInput, BadKind, Expr, ExprFault, Hits, Input, InputFault, Limit, Line, Lines, Prio,
     Query, Reply,
 };
-pub use read::read_input;
+pub use read::{read_input, read_lines};
 pub use reply::{error_line, reply_line};
 pub use write::write_input;
 

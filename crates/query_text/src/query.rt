@@ -10,7 +10,7 @@ use crate::keyword::keyword_of;
 use crate::number::number_field;
 use crate::so_far::SoFar;
 use crate::tokens::{expr_of, first_tokens};
-use crate::words::words_of;
+use crate::words::{without_spare, words_of};
 use query_grammar::Expr;
 use query_model::limits::{MOST_DELAY, MOST_RANKED};
 use query_model::{Ask, ExprAsk, Keyword, Line, Prio, Query};
@@ -133,5 +133,5 @@ fn top_behind(alloc: Global, mut fields: Fields<'_>) -> Result<Ask, LineFault>
         return Err(MISSING_FIELD);
     }
     let words = words_of(alloc, fields)?;
-    Ok(Ask::Top(most, words))
+    Ok(Ask::Top(most, without_spare(words)))
 }

@@ -4,8 +4,9 @@ ghost use Rattle.query_model.specs.Lines.{doc_room, query_room, is_query, has_id
 ghost use Rattle.query_text.specs.Tracks.{HasRoom, tick_room};
 
 use fan_base::Doc;
+use line_table::LineTable;
 use query_model::limits::{MOST_DOCUMENTS, MOST_QUERIES, MOST_TASKS, MOST_TICKS};
-use query_model::{BadKind, InputFault, Limit, Line, Lines, Query};
+use query_model::{BadKind, InputFault, Limit, Line, Query};
 use std::alloc::Global;
 use std::collections::BTreeSet;
 use std::marker::Model;
@@ -13,7 +14,7 @@ use std::marker::Model;
 /// The lines read so far, and what is to be known of them where the next line is checked.
 #[derive(Drop)]
 pub struct SoFar {
-    lines: Lines,
+    lines: LineTable,
     ids: BTreeSet<u32>,
     documents: usize,
     queries: usize,
@@ -43,7 +44,7 @@ impl SoFar {
         ensures { result ≡ [] }
     {
         SoFar {
-            lines: Lines::new(alloc),
+            lines: LineTable::new(alloc),
             ids: BTreeSet::new(alloc),
             documents: 0,
             queries: 0,
@@ -51,8 +52,8 @@ impl SoFar {
         }
     }
 
-    /// The lines.
-    pub fn into_lines(self) -> Lines
+    /// The lines, their documents by numbers.
+    pub fn into_table(self) -> LineTable
         ensures { result ≡ self }
     {
         let SoFar { lines, .. } = self;
@@ -111,18 +112,19 @@ impl SoFar {
     }
 
     fn with_doc(self, doc: Doc) -> Result<SoFar, InputFault>
+        requires { HasRoom self (Line.Doc doc) }
         ensures ok { IfOk result (λ more. more ≡ self ++ Line.Doc doc ∷ []) }
         ensures err { IfErr result (λ fault. fault ≡ InputFault.Memory) }
     {
         let SoFar {
-            mut lines,
+            lines,
             mut ids,
             documents,
             queries,
             ticks,
         } = self;
         ids.insert(doc.id)?;
-        lines.push(Line::Doc(doc))?;
+        let lines = lines.with(Line::Doc(doc))?;
         let many = lines.len();
         prove!(documents < many);
         Ok(SoFar {
@@ -139,13 +141,13 @@ impl SoFar {
         ensures err { IfErr result (λ fault. fault ≡ InputFault.Memory) }
     {
         let SoFar {
-            mut lines,
+            lines,
             ids,
             documents,
             queries,
             ticks,
         } = self;
-        lines.push(Line::Query(query))?;
+        let lines = lines.with(Line::Query(query))?;
         let many = lines.len();
         prove!(queries < many);
         Ok(SoFar {
@@ -163,13 +165,13 @@ impl SoFar {
         ensures err { IfErr result (λ fault. fault ≡ InputFault.Memory) }
     {
         let SoFar {
-            mut lines,
+            lines,
             ids,
             documents,
             queries,
             ticks,
         } = self;
-        lines.push(Line::Tick(more))?;
+        let lines = lines.with(Line::Tick(more))?;
         Ok(SoFar {
             lines,
             ids,
@@ -184,13 +186,13 @@ impl SoFar {
         ensures err { IfErr result (λ fault. fault ≡ InputFault.Memory) }
     {
         let SoFar {
-            mut lines,
+            lines,
             ids,
             documents,
             queries,
             ticks,
         } = self;
-        lines.push(Line::Cancel(number))?;
+        let lines = lines.with(Line::Cancel(number))?;
         Ok(SoFar {
             lines,
             ids,

@@ -23,11 +23,11 @@ pub fn words_of(alloc: Global, mut fields: Fields<'_>) -> Result<Words, LineFaul
             Err(fault) => return Err(fault),
         }
     }
-    Ok(without_spare(words))
+    Ok(words)
 }
 
 /// The words, in no more memory than they need.
-fn without_spare(words: Words) -> Words
+pub fn without_spare(words: Words) -> Words
     ensures { result ≡ words }
 {
     let mut words = words.into_vec();

@@ -2,6 +2,7 @@
 use denote.Param.Send.{IsSend, IsSync, sendable}
 use Rattle.std.proofs.Crossing.{crosses}
 use Rattle.std.proofs.alloc.Global.TheSendSync as global_std
+use Rattle.std.proofs.sync.Arc.TheSendSync as arc_std
 use Rattle.std.proofs.vec.Vec.TheSendSync as vec_std
 use Rattle.std.proofs.collections.BTreeMap.TheSendSync as btreemap_std
 use Rattle.fan_base.proofs.list.List.TheSendSync as list_fan_base
@@ -17,7 +18,7 @@ use Rattle.shard_index.specs.contracts.counts.Counts as counts
 use Rattle.shard_index.specs.contracts.shard.Shard as shard
 use Rattle.query_model.specs.contracts.reply.Hits as hits
 
-ruleset parts = (global_std.the_field_send, global_std.the_send, global_std.the_field_sync, global_std.the_sync, vec_std.the_send, vec_std.the_sync, btreemap_std.the_send, btreemap_std.the_sync, list_fan_base.the_send, list_fan_base.the_sync, word_fan_base.the_send, word_fan_base.the_sync, hits_query_model.the_field_send, hits_query_model.the_send, counts_own.the_field_send, counts_own.the_send, dictionary_word_table.the_field_send, dictionary_word_table.the_send, dictionary_word_table.the_field_sync, dictionary_word_table.the_sync, hints_word_table.the_field_send, hints_word_table.the_send, hints_word_table.the_field_sync, hints_word_table.the_sync, sorted_word_table.the_field_send, sorted_word_table.the_send, sorted_word_table.the_field_sync, sorted_word_table.the_sync, index_own.the_field_send, index_own.the_send, index_own.the_field_sync, index_own.the_sync, shard_own.the_field_send, shard_own.the_send, shard_own.the_field_sync, shard_own.the_sync, crosses, sendable)
+ruleset parts = (global_std.the_field_send, global_std.the_send, global_std.the_field_sync, global_std.the_sync, vec_std.the_send, vec_std.the_sync, btreemap_std.the_send, btreemap_std.the_sync, arc_std.the_send, arc_std.the_sync, list_fan_base.the_send, list_fan_base.the_sync, word_fan_base.the_send, word_fan_base.the_sync, hits_query_model.the_field_send, hits_query_model.the_send, counts_own.the_field_send, counts_own.the_send, dictionary_word_table.the_field_send, dictionary_word_table.the_send, dictionary_word_table.the_field_sync, dictionary_word_table.the_sync, hints_word_table.the_field_send, hints_word_table.the_send, hints_word_table.the_field_sync, hints_word_table.the_sync, sorted_word_table.the_field_send, sorted_word_table.the_send, sorted_word_table.the_field_sync, sorted_word_table.the_sync, index_own.the_field_send, index_own.the_send, index_own.the_field_sync, index_own.the_sync, shard_own.the_field_send, shard_own.the_send, shard_own.the_field_sync, shard_own.the_sync, crosses, sendable)
 
 pub Shard-send : IsSend shard.the_row
 Shard-send = search parts depth 60 fits 20000

@@ -1,13 +1,14 @@
 -- Where a word stands, the places below a number come first.
-use Rattle.std.proofs.Common.{◌≡◌, ℕ, zero, suc, ◌+◌, ◌<◌, ◌≤◌, List, [], ◌∷◌, ◌++◌, length, true, false, ltb, get_or, replicate, subst, sym, arith}
+use Rattle.std.proofs.Common.{◌≡◌, ℕ, zero, suc, ◌+◌, ◌-◌, ◌<◌, ◌≤◌, List, [], ◌∷◌, ◌++◌, length, true, false, ltb, get_or, replicate, subst, sym, arith, ◌∙◌}
 use Rattle.std.specs.List.{AllByRecursion}
 use Rattle.std.specs.List.Sorted.{IsPartitionedBy, IsPartitionPoint}
 use Rattle.std.proofs.lemmas.Bool.Decides.{nat_tests}
+use Rattle.std.proofs.lemmas.List.{take_all}
 use Rattle.fan_base.specs.declared.doc.Doc.{Doc}
 use Rattle.fan_base.specs.declared.word.Word.{Word}
 use Rattle.query_model.specs.Answers.{times_in}
-use Rattle.shard_index.specs.Places.{standing_from, standing_of}
-use Rattle.shard_index.proofs.PlaceLemmas.{standing-from-above}
+use Rattle.shard_index.specs.Places.{front_of, standing_from, standing_of}
+use Rattle.shard_index.proofs.PlaceLemmas.{front-is, standing-from-above}
 
 from-at : (m : ℕ) (xs : List ℕ) (k d : ℕ) → AllByRecursion (λ x. m ≤ x) xs → k < length xs → m ≤ get_or xs k d
 from-at m [] k d h within = absurd (omega arith)
@@ -51,3 +52,17 @@ end-is front end xs split = ((λ k low. lt-of (get_or xs k 0) front (split.0 k 0
 
     ge-of : (x y : ℕ) → ltb x y ≡ false → y ≤ x
     ge-of x y h = grind (arith, nat_tests)
+
+-- where the last place is below a number, all are
+pub whole-front : (front : ℕ) (xs : List ℕ) → IsPartitionedBy (λ x. ltb x front) xs → 0 < length xs → get_or xs (length xs - 1) 0 < front → xs ≡ front_of front xs
+whole-front front xs parted some last =
+    sym (take_all (length xs) xs (omega arith)) ∙ front-is front (length xs) xs (omega arith) each (λ low. absurd (omega arith))
+  where
+    lt-of : (x y : ℕ) → ltb x y ≡ true → x < y
+    lt-of x y h = grind (arith, nat_tests)
+
+    lt-true : (x y : ℕ) → x < y → ltb x y ≡ true
+    lt-true x y h = grind (arith, nat_tests)
+
+    each : (k : ℕ) → k < length xs → get_or xs k 0 < front
+    each k low = lt-of (get_or xs k 0) front (parted k (length xs - 1) 0 (omega arith) (omega arith) (lt-true (get_or xs (length xs - 1) 0) front last))

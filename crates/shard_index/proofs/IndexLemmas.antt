@@ -1,5 +1,5 @@
--- An index of one more document, and what it tells of its first documents.
-use Rattle.std.proofs.Common.{◌≡◌, ℕ, suc, ◌+◌, ◌*◌, ◌<◌, ◌≤◌, ◌^◌, List, [], ◌∷◌, ◌++◌, length, get_or, replicate, refl, sym, ap, ◌∙◌, subst, arith, take, map, zip}
+-- What an index tells of its first documents.
+use Rattle.std.proofs.Common.{◌≡◌, ℕ, ◌+◌, ◌*◌, ◌<◌, ◌≤◌, ◌^◌, List, [], ◌∷◌, length, get_or, replicate, refl, sym, ap, ◌∙◌, subst, arith, take, map, zip}
 use Rattle.std.specs.List.{All, AllByRecursion}
 use Rattle.std.proofs.lemmas.List.{length-map, take-map, length-take-le}
 use Rattle.fan_base.specs.declared.doc.Doc.{Doc}
@@ -10,48 +10,15 @@ use Rattle.query_model.specs.Sorting.{sorted_by}
 use Rattle.query_model.specs.Parts.{weighted_score, weighted_top}
 use Rattle.shard_index.specs.declared.index.Index.{Index}
 use Rattle.shard_index.specs.Counting.{DifferentWords}
-use Rattle.shard_index.specs.declared.reading.Reading.{Reading}
 use Rattle.shard_index.specs.Places.{distinct, front_of, has_word, holds_in, places_where, standing_of}
-use Rattle.word_table.specs.Noted.{HasNoted, noted_at}
-use Rattle.word_table.specs.Numbers.{Knows}
 use Rattle.shard_index.specs.Selections.{ScoresAt, hits_where}
-use Rattle.shard_index.specs.Standing.{Indexes, Reads}
-use Rattle.shard_index.proofs.PlaceLemmas.{below-standing, distinct-standing, length-places, pairs-at, standing-push}
+use Rattle.shard_index.specs.Standing.{Indexes}
+use Rattle.shard_index.proofs.PlaceLemmas.{below-standing, distinct-standing, length-places, pairs-at}
 use Rattle.shard_index.proofs.ScoreLemmas.{all-take, differ-take, score-fits, score-more, scores-of-some, zip-maps}
-use Rattle.shard_index.proofs.TotalLemmas.{all-places, all-rec}
+use Rattle.shard_index.proofs.TotalLemmas.{all-rec}
 
 pub many-ids : (index : Index) (docs : List Doc) → Indexes index docs → length index.ids.items ≡ length docs
 many-ids index docs stands = ap length stands.ids ∙ length-map docs (λ d. d.id)
-
-pub many-read : (reading : Reading) (docs : List Doc) → Reads reading docs → length reading.ids.items ≡ length docs
-many-read reading docs reads = ap length reads.ids ∙ length-map docs (λ d. d.id)
-
-map-push : (docs : List Doc) (doc : Doc) → map (λ d. d.id) (docs ++ doc ∷ []) ≡ map (λ d. d.id) docs ++ doc.id ∷ []
-map-push [] doc = refl
-map-push (d ∷ ds) doc = ap (λ ids. d.id ∷ ids) (map-push ds doc)
-
-length-push : (docs : List Doc) (doc : Doc) → length (docs ++ doc ∷ []) ≡ length docs + 1
-length-push [] doc = refl
-length-push (d ∷ ds) doc = ap suc (length-push ds doc) ∙ (let e : suc (length ds + 1) ≡ suc (length ds) + 1 = omega arith in e)
-
-all-push : {A : Type 0} (P : A → Type 0) (xs : List A) (x : A) → AllByRecursion P xs → P x → AllByRecursion P (xs ++ x ∷ [])
-all-push P [] x h p = (p, tt)
-all-push P (y ∷ ys) x h p = (h.0, all-push P ys x h.1 p)
-
--- one more document is read
-pub reads-push : (old new : Reading) (docs : List Doc) (doc : Doc) (place : ℕ) (known : List Word) → Reads old docs → place ≡ length old.ids.items → new.ids.items ≡ old.ids.items ++ doc.id ∷ []
-    → Knows new.dictionary known → HasNoted new.notes known (noted_at (λ w. standing_of w docs) doc.words place) → length doc.words ≤ 1000 → length old.ids.items + 1 < 2 ^ 32 → Reads new (docs ++ doc ∷ [])
-reads-push old new docs doc place known reads is ids knows noted short room =
-    let many = many-read old docs reads in
-    record {
-      known = known;
-      ids = ids ∙ (ap (λ xs. xs ++ doc.id ∷ []) reads.ids ∙ sym (map-push docs doc));
-      knows = knows;
-      noted = subst (λ (f : Word → List ℕ). HasNoted new.notes known f)
-          (λ i w. (ap (λ (n : ℕ). standing_of w docs ++ replicate (times_in doc w) n) (is ∙ many) ∙ sym (standing-push w docs doc)) i) noted;
-      short = all-places (λ d. length d.words ≤ 1000) (docs ++ doc ∷ []) (all-push (λ d. length d.words ≤ 1000) docs doc (all-rec (λ d. length d.words ≤ 1000) docs reads.short) short);
-      few = omega (arith, length-push docs doc, many, room);
-    }
 
 -- where a word stands among the first documents
 pub standing-front : (docs : List Doc) (front : ℕ) (w : Word) (places : List ℕ) → places ≡ standing_of w docs → front_of front places ≡ standing_of w (take front docs)
@@ -116,3 +83,9 @@ top-is k docs words weights ids totals places are is scored =
     ∙ (ap (λ (all : List (ℕ × ℕ)). take k (ranked (map (λ p. get_or all p (0, 0)) (places_where scored.test docs)))) (zip-maps (weighted_score (zip words weights)) docs)
     ∙ (ap (λ ps. take k (ranked ps)) (pairs-at (λ d. (d.id, weighted_score (zip words weights) d)) scored.test docs)
     ∙ ap (λ ps. take k (sorted_by ranks_before ps)) (scores-of-some words weights scored.test docs scored.others)))
+
+pub top-of-all : (k : ℕ) (docs : List Doc) (words : List Word) (weights ids totals : List ℕ) → ids ≡ map (λ d. d.id) docs → totals ≡ map (weighted_score (zip words weights)) docs
+    → take k (ranked (zip ids totals)) ≡ weighted_top k words weights docs
+unfolding weighted_top
+top-of-all k docs words weights ids totals are is =
+    (λ i. take k (ranked (zip (are i) (is i)))) ∙ ap (λ (all : List (ℕ × ℕ)). take k (ranked all)) (zip-maps (weighted_score (zip words weights)) docs)

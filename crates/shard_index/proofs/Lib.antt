@@ -11,5 +11,6 @@ mod PartLemmas
 mod IndexLemmas
 mod MergeLemmas
 mod MarkLemmas
+pub mod TableLemmas
 pub mod Crossings
 pub mod FrontLemmas

@@ -141,15 +141,6 @@ places_from-push place test (d ∷ ds) doc = by (test d) (test doc) (places_from
 pub places-push : (test : Doc → Bool) (docs : List Doc) (doc : Doc) → places_where test (docs ++ doc ∷ []) ≡ cond (test doc) (places_where test docs ++ length docs ∷ []) (places_where test docs)
 places-push test docs doc = places_from-push 0 test docs doc ∙ ap (λ n. cond (test doc) (places_where test docs ++ n ∷ []) (places_where test docs)) (zero-add (length docs))
 
-standing_from-push : (place : ℕ) (word : Word) (docs : List Doc) (doc : Doc) → standing_from place word (docs ++ doc ∷ []) ≡ standing_from place word docs ++ replicate (times_in doc word) (place + length docs)
-standing_from-push place word [] doc = append-nil (replicate (times_in doc word) place) ∙ ap (λ n. replicate (times_in doc word) n) (sym (add-zero place))
-standing_from-push place word (d ∷ ds) doc =
-    ap (λ xs. replicate (times_in d word) place ++ xs) (standing_from-push (place + 1) word ds doc ∙ ap (λ n. standing_from (place + 1) word ds ++ replicate (times_in doc word) n) (shifted place (length ds)))
-    ∙ sym (append_assoc (replicate (times_in d word) place) (standing_from (place + 1) word ds) (replicate (times_in doc word) (place + suc (length ds))))
-
-pub standing-push : (word : Word) (docs : List Doc) (doc : Doc) → standing_of word (docs ++ doc ∷ []) ≡ standing_of word docs ++ replicate (times_in doc word) (length docs)
-standing-push word docs doc = standing_from-push 0 word docs doc ∙ ap (λ n. standing_of word docs ++ replicate (times_in doc word) n) (zero-add (length docs))
-
 -- how many pass, and what stands at their places
 
 pub length-places : (place : ℕ) (test : Doc → Bool) (docs : List Doc) → length (places_from place test docs) ≡ length (filter test docs)
@@ -308,6 +299,15 @@ last-is ps p x = by (is_last ps p) (same-last (slice_get ps (length ps - 1)) p x
 pub put-behind : (ps : List ℕ) (p : ℕ) (b : Bool) → is_last ps p ≡ b → ps ++ cond (not b) (p ∷ []) [] ≡ with_place ps p
 put-behind ps p true is = append-nil ps ∙ sym (ap (λ (c : Bool). cond c ps (ps ++ p ∷ [])) is)
 put-behind ps p false is = sym (ap (λ (c : Bool). cond c ps (ps ++ p ∷ [])) is)
+
+-- how many there are then
+pub count-behind : (ps : List ℕ) (p : ℕ) (b : Bool) → is_last ps p ≡ b → length ps + cond (not b) 1 0 ≡ length (with_place ps p)
+count-behind ps p true is = add-zero (length ps) ∙ sym (ap (λ (c : Bool). length (cond c ps (ps ++ p ∷ []))) is)
+count-behind ps p false is = one-more ps ∙ sym (ap (λ (c : Bool). length (cond c ps (ps ++ p ∷ []))) is)
+  where
+    one-more : (qs : List ℕ) → length qs + 1 ≡ length (qs ++ p ∷ [])
+    one-more [] = refl
+    one-more (q ∷ qs) = (let e : suc (length qs) + 1 ≡ suc (length qs + 1) = omega arith in e) ∙ ap suc (one-more qs)
 
 pub distinct-standing : (word : Word) (docs : List Doc) → distinct (standing_of word docs) ≡ places_where (has_word word) docs
 distinct-standing word docs = distinct-from word 0 [] docs tt

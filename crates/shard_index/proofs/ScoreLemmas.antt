@@ -1,13 +1,16 @@
 -- Scores of documents by weights, word by word, and their bounds.
-use Rattle.std.proofs.Common.{◌≡◌, ℕ, zero, suc, ◌+◌, ◌*◌, ◌<◌, ◌≤◌, ◌^◌, List, [], ◌∷◌, ◌++◌, length, Bool, true, false, ◌||◌, cond, eqb, ltb, get_or, refl, sym, ap, ◌∙◌, subst, arith, take, map, filter, zip, true≢false}
+use Rattle.std.proofs.Common.{◌≡◌, ℕ, zero, suc, ◌+◌, ◌*◌, ◌<◌, ◌≤◌, ◌^◌, List, [], ◌∷◌, ◌++◌, length, Bool, true, false, ◌||◌, cond, eqb, ltb, get_or, refl, sym, ap, ◌∙◌, subst, arith, take, map, filter, zip, true≢false, inl, inr}
 use Rattle.std.specs.List.{AllByRecursion, sum_by}
 use Rattle.std.specs.Cmp.Lexicographic.{pointwise, bytes_decides}
+use Rattle.std.proofs.lemmas.Bool.{cases_lt}
+use Rattle.std.proofs.lemmas.Bool.Decides.{nat_tests}
 use Rattle.std.proofs.lemmas.List.Sums.{sum_by-cons, sum_by-append}
 use Rattle.std.proofs.Math.Nat.{mul-le-mul_left}
 use Rattle.fan_base.specs.declared.doc.Doc.{Doc}
 use Rattle.fan_base.specs.declared.word.Word.{Word}
 use Rattle.query_grammar.specs.Truth.{is_among}
-use Rattle.query_model.specs.Answers.{times_in}
+use Rattle.query_model.specs.Answers.{ranked, ranks_before, times_in}
+use Rattle.query_model.specs.Sorting.{sorted_by}
 use Rattle.query_model.specs.Parts.{weighted_score}
 use Rattle.shard_index.specs.Counting.{DifferentWords}
 use Rattle.shard_index.specs.Places.{has_one}
@@ -200,3 +203,24 @@ scores-of-some words weights test (d ∷ ds) others = by (test d) (λ e. no-scor
         → positive (map pair (cond b (d ∷ filter test ds) (filter test ds))) ≡ cond (ltb 0 (score d)) (pair d ∷ rest) rest
     by true none more = ap (λ ps. cond (ltb 0 (score d)) (pair d ∷ ps) ps) more
     by false none more = more ∙ sym (ap (λ n. cond (ltb 0 n) (pair d ∷ rest) rest) (none refl))
+
+-- totals one after another
+
+is-positive : (n : ℕ) → 0 < n → ltb 0 n ≡ true
+is-positive n h = grind (arith, nat_tests)
+
+is-none : (n : ℕ) → n ≤ 0 → ltb 0 n ≡ false
+is-none n h = grind (arith, nat_tests)
+
+-- a total that is kept
+pub one-kept : (k : ℕ) (some more : List (ℕ × ℕ)) (score : ℕ × ℕ) → more ≡ some ++ score ∷ [] → 0 < score.1 → take k (sorted_by ranks_before (positive some ++ score ∷ [])) ≡ take k (ranked more)
+one-kept k some more score is high = ap (λ ps. take k (sorted_by ranks_before ps)) (positive-one some score (is-positive score.1 high) ∙ ap positive (sym is))
+
+-- a total that is too small to be kept
+pub too-small : (k least : ℕ) (kept some more : List (ℕ × ℕ)) (score : ℕ × ℕ) → more ≡ some ++ score ∷ [] → score.1 < least
+    → ((s : ℕ × ℕ) (scores : List (ℕ × ℕ)) → 0 < s.1 → s.1 < least → kept ≡ take k (sorted_by ranks_before scores) → kept ≡ take k (sorted_by ranks_before (scores ++ s ∷ [])))
+    → kept ≡ take k (ranked some) → kept ≡ take k (ranked more)
+too-small k least kept some more score is low skips keeps = elim (cases_lt 0 score.1) [
+  | inl high ↦ skips score (positive some) high low keeps ∙ one-kept k some more score is high
+  | inr none ↦ keeps ∙ ap (λ ps. take k (sorted_by ranks_before ps)) (positive-none some score (is-none score.1 none) ∙ ap positive (sym is))
+]

@@ -1,6 +1,7 @@
 -- For which documents an index stands.
-use Rattle.std.specs.Prelude.{ℕ, ◌≡◌, ◌<◌, ◌≤◌, ◌+◌, ◌*◌, ◌^◌, All, List, get_or, length, map, take}
+use Rattle.std.specs.Prelude.{ℕ, ◌≡◌, ◌<◌, ◌≤◌, ◌+◌, ◌*◌, ◌^◌, All, List, get_or, length, map, take, true}
 use Rattle.std.specs.List.{AllByRecursion}
+use Rattle.std.specs.List.Sorted.{IsNonDecreasing}
 use Rattle.fan_base.specs.declared.doc.Doc.{Doc}
 use Rattle.fan_base.specs.declared.word.Word.{Word}
 use Rattle.query_model.specs.Answers.{times_in}
@@ -10,28 +11,19 @@ use Rattle.shard_index.specs.declared.index.Index.{Index}
 use Rattle.shard_index.specs.declared.shard.Shard.{Shard}
 use Rattle.shard_index.specs.declared.shards.Shards.{Shards}
 use Rattle.shard_index.specs.Places.{standing_of}
-use Rattle.shard_index.specs.declared.reading.Reading.{Reading}
-use Rattle.word_table.specs.Noted.{HasNoted, HasPlaces}
 use Rattle.word_table.specs.Numbers.{Knows, words_in}
+use Rattle.word_table.specs.Rows.{HasPlaces}
 
 -- the words of each document are at most 1,000
 abbrev pub AreShort : List Doc → Type 0
 AreShort docs = All (λ doc. length doc.words ≤ most_words) docs
 
--- of these documents, in their order, the ids are read, and where each word stands
-pub record Reads (reading : Reading) (docs : List Doc) : Type 0 where
-  pub known : List Word
-  pub ids : reading.ids.items ≡ map (λ doc. doc.id) docs
-  pub knows : Knows reading.dictionary known
-  pub noted : HasNoted reading.notes known (λ word. standing_of word docs)
-  pub short : AreShort docs
-  pub few : length docs < 2 ^ 32
-
--- the index has the ids of these documents in their order, and for each word the places where it stands
+-- the index has the ids of these documents in their order, which ascend where it says so, and for each word the places where it stands
 pub record Indexes (index : Index) (docs : List Doc) : Type 0 where
   pub ids : index.ids.items ≡ map (λ doc. doc.id) docs
-  pub knows : Knows index.dictionary (words_in index.dictionary)
-  pub places : HasPlaces index.places (words_in index.dictionary) (λ word. standing_of word docs)
+  pub ascends : index.ascending ≡ true → IsNonDecreasing index.ids.items
+  pub knows : Knows index.dictionary.value (words_in index.dictionary.value)
+  pub places : HasPlaces index.places (words_in index.dictionary.value) (λ word. standing_of word docs)
   pub short : AreShort docs
   pub few : length docs < 2 ^ 32
 

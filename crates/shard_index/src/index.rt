@@ -1,49 +1,60 @@
-ghost use Rattle.std.specs.Prelude.{◌≡◌, ◌+◌, ◌*◌, ◌<◌, ◌≤◌, ◌^◌, ℕ, All, List, IfOk, length, map, take, zip};
+ghost use Rattle.std.specs.Prelude.{◌≡◌, ◌+◌, ◌*◌, ◌<◌, ◌≤◌, ◌^◌, ℕ, All, List, IfOk, length, map, take, true, zip};
 ghost use Rattle.fan_base.specs.declared.doc.Doc.{Doc};
-ghost use Rattle.query_model.specs.Answers.{hits_of, holding, times_in};
+ghost use Rattle.std.specs.List.{AllByRecursion};
+ghost use Rattle.std.specs.List.Sorted.{IsNonDecreasing};
+ghost use Rattle.query_model.specs.Answers.{having, hits_of, holding, times_in};
 ghost use Rattle.query_model.specs.Parts.{weighted_score, weighted_top};
+ghost use Rattle.word_table.specs.Numbered.{AreNumbers, doc_by};
+ghost use Rattle.word_table.specs.Numbers.{Knows, words_in};
+ghost use Rattle.word_table.specs.Rows.{AreFewAndShort, lent};
 ghost use Rattle.shard_index.specs.Counting.{counts_of, DifferentWords};
 ghost use Rattle.shard_index.specs.Places.{has_one, has_word, holds_in, places_where, standing_of};
-ghost use Rattle.shard_index.specs.Selections.{ScoresAt, Selects};
-ghost use Rattle.shard_index.specs.Standing.{HasRoom, Indexes, Reads};
+ghost use Rattle.shard_index.specs.Selections.{Selects};
+ghost use Rattle.shard_index.specs.Standing.{HasRoom, Indexes};
 
 use crate::counts::Counts;
-use crate::front::{below, distinct};
-use crate::hits::{hits, places_below};
+use crate::front::{below, count_distinct, distinct};
+use crate::hits::hits;
 use crate::marks::{mark_at, no_marks};
-use crate::reading::Reading;
 use crate::selection::{Selection, all, both};
-use crate::totals::{add_at, first_scores, zeros};
+use crate::totals::{add_at, first_of_all, first_scores, zeros};
 use fan_base::{Numbers, Scores, Word};
 use query_grammar::{Expr, Node};
 use query_model::Hits;
 use std::alloc::{AllocError, Global};
-use word_table::{Dictionary, Sorted};
+use std::sync::Arc;
+use word_table::{Dictionary, NumberedDoc, Sorted};
 
 /// An index of documents in the order of their lines: their ids, and for each word where it stands. It keeps no document.
 /// Each question is asked of the first `front` of the documents.
 #[derive(Drop)]
 pub struct Index {
     ids: Vec<u32>,
-    dictionary: Dictionary,
+    /// Whether the ids ascend.
+    ascending: bool,
+    dictionary: Arc<Dictionary, Global>,
     places: Sorted,
 }
 
 impl Index {
-    /// The index of the documents that were read.
-    pub fn of(alloc: Global, reading: Reading) -> Result<Index, AllocError>
-        requires { (docs : List Doc) × Reads reading docs }
-        ensures { (docs : List Doc) → Reads reading docs → IfOk result (λ index. Indexes index docs) }
+    /// The index of documents with numbers of a dictionary's words, in this order. It shares the dictionary.
+    pub fn of(
+        alloc: Global,
+        dictionary: &Arc<Dictionary, Global>,
+        docs: &[&NumberedDoc],
+    ) -> Result<Index, AllocError>
+        requires knows { Knows dictionary.now.value (words_in dictionary.now.value) }
+        requires numbers { AllByRecursion (AreNumbers (words_in dictionary.now.value)) (lent docs.now) }
+        requires few { AreFewAndShort (lent docs.now) }
+        ensures { IfOk result (λ index. Indexes index (map (doc_by (words_in dictionary.now.value)) (lent docs.now))) }
     {
-        let places = reading.notes.sorted(alloc, &reading.dictionary)?;
-        let Reading {
-            ids,
-            dictionary,
-            ..
-        } = reading;
+        let places = Sorted::of(alloc, dictionary, docs)?;
+        let ids = ids_of(alloc, docs)?;
+        let ascending = ascend(ids.as_slice());
         Ok(Index {
             ids,
-            dictionary,
+            ascending,
+            dictionary: Arc::try_clone(dictionary)?,
             places,
         })
     }
@@ -67,7 +78,7 @@ impl Index {
         ensures { (docs : List Doc) → Indexes self.now docs → IfOk result (λ hits. hits ≡ hits_of e.now (take front docs)) }
     {
         let selection = self.select(alloc, front, e)?;
-        hits(alloc, &self.ids[..front], &selection)
+        hits(alloc, &self.ids[..front], self.ascending, &selection)
     }
 
     /// For how many documents the expression holds.
@@ -76,8 +87,18 @@ impl Index {
         requires front { front ≤ length self.now.ids.items }
         ensures { (docs : List Doc) → Indexes self.now docs → IfOk result (λ total. total ≡ length (holding e.now (take front docs))) }
     {
-        let selection = self.select(alloc, front, e)?;
-        Ok(selection.count(front))
+        match e.node() {
+            Node::Word(word) => Ok(self.count_with(front, word)),
+            _ => Ok(self.select(alloc, front, e)?.count(front)),
+        }
+    }
+
+    /// How many of the first documents have a word.
+    fn count_with(&self, front: usize, word: &Word) -> u64
+        requires { (docs : List Doc) × Indexes self.now docs }
+        ensures { (docs : List Doc) → Indexes self.now docs → result ≡ length (having word.now (take front docs)) }
+    {
+        count_distinct(below(self.standing(word), front)) as u64
     }
 
     /// The documents for which the expression holds. It calls itself once for each level of the tree.
@@ -138,8 +159,33 @@ impl Index {
         ensures { (docs : List Doc) → Indexes self.now docs
             → IfOk result (λ scores. scores ≡ weighted_top k words.now weights.now (take front docs)) }
     {
+        if self.times(front, words) < front / 8 {
+            self.scores_of_some(alloc, front, words, weights, k)
+        } else {
+            self.scores_of_all(alloc, front, words, weights, k)
+        }
+    }
+
+    /// The same, where only the totals of documents with one of the words are looked at. To leave the others out costs more than it
+    /// saves where the words stand often.
+    fn scores_of_some(
+        &self,
+        alloc: Global,
+        front: usize,
+        words: &[Word],
+        weights: &[u64],
+        k: usize,
+    ) -> Result<Scores, AllocError>
+        requires docs { (docs : List Doc) × Indexes self.now docs }
+        requires front { front ≤ length self.now.ids.items }
+        requires differ { DifferentWords words.now }
+        requires many { length weights.now ≡ length words.now }
+        requires low { All (λ weight. weight < 2 ^ 32) weights.now }
+        ensures { (docs : List Doc) → Indexes self.now docs
+            → IfOk result (λ scores. scores ≡ weighted_top k words.now weights.now (take front docs)) }
+    {
         let totals = self.totals(alloc, front, words, weights)?;
-        let places = self.places_scored(alloc, front, words)?;
+        let places = self.places_with_one(alloc, front, words)?;
         first_scores(
             alloc,
             &self.ids[..front],
@@ -149,23 +195,25 @@ impl Index {
         )
     }
 
-    /// The places of the first documents but some with none of these words. To leave those out costs more than it saves where the
-    /// words stand often.
-    fn places_scored(
+    /// The same, where all totals are looked at.
+    fn scores_of_all(
         &self,
         alloc: Global,
         front: usize,
         words: &[Word],
-    ) -> Result<Vec<u32>, AllocError>
+        weights: &[u64],
+        k: usize,
+    ) -> Result<Scores, AllocError>
         requires docs { (docs : List Doc) × Indexes self.now docs }
         requires front { front ≤ length self.now.ids.items }
-        ensures { (docs : List Doc) → Indexes self.now docs → IfOk result (λ places. ScoresAt places.items words.now (take front docs)) }
+        requires differ { DifferentWords words.now }
+        requires many { length weights.now ≡ length words.now }
+        requires low { All (λ weight. weight < 2 ^ 32) weights.now }
+        ensures { (docs : List Doc) → Indexes self.now docs
+            → IfOk result (λ scores. scores ≡ weighted_top k words.now weights.now (take front docs)) }
     {
-        if self.times(front, words) < front / 8 {
-            self.places_with_one(alloc, front, words)
-        } else {
-            places_below(alloc, front)
-        }
+        let totals = self.totals(alloc, front, words, weights)?;
+        first_of_all(alloc, &self.ids[..front], totals.as_slice(), k)
     }
 
     /// How often these words stand in the first documents.
@@ -244,4 +292,22 @@ impl Index {
     {
         self.places.places(&self.dictionary, word)
     }
+}
+
+/// The ids of documents.
+fn ids_of(alloc: Global, docs: &[&NumberedDoc]) -> Result<Vec<u32>, AllocError>
+    ensures { IfOk result (λ ids. ids.items ≡ map (λ doc. doc.id) (lent docs.now)) }
+{
+    let mut ids = Vec::with_capacity(alloc, docs.len())?;
+    for doc in docs {
+        ids.push(doc.id)?;
+    }
+    Ok(ids)
+}
+
+/// Whether no id is smaller than one in front of it.
+fn ascend(ids: &[u32]) -> bool
+    ensures { result ≡ true → IsNonDecreasing ids.now }
+{
+    ids.is_sorted()
 }

@@ -18,7 +18,7 @@ mod laws;
 mod marks;
 mod merge;
 mod once;
-mod reading;
+mod part;
 mod selection;
 mod shard;
 mod shards;

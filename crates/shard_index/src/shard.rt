@@ -1,18 +1,21 @@
-ghost use Rattle.std.specs.Prelude.{◌≡◌, ◌<◌, ◌≤◌, ◌^◌, ℕ, All, List, IfOk, length, take};
+ghost use Rattle.std.specs.Prelude.{◌≡◌, ◌*◌, ◌<◌, ◌≤◌, ◌^◌, ℕ, All, List, IfOk, length, take};
 ghost use Rattle.fan_base.specs.declared.doc.Doc.{Doc};
 ghost use Rattle.query_model.specs.Answers.{hits_of, holding};
+ghost use Rattle.query_model.specs.Limits.{most_words};
 ghost use Rattle.query_model.specs.Parts.{part_before, part_of, weighted_top};
+ghost use Rattle.word_table.specs.Tables.{IsTableOf};
 ghost use Rattle.shard_index.specs.Counting.{counts_of, DifferentWords};
 ghost use Rattle.shard_index.specs.Standing.{AreShort, Stands, StandsFor};
 
 use crate::counts::Counts;
 use crate::index::Index;
-use crate::reading::Reading;
-use fan_base::{Doc, Docs, Memory, Scores, Words};
+use crate::part::{index_of_part, table_of_part};
+use fan_base::{Docs, Memory, Scores, Words};
 use query_grammar::Expr;
 use query_model::Hits;
 use query_model::laws::part_is_told_by_places;
 use std::alloc::Global;
+use word_table::DocTable;
 
 /// The shard with a number, of so many: an index of the documents at the places i, from 0, with `i mod shards` the number.
 /// Each question is asked of those at places below `before`.
@@ -24,22 +27,31 @@ pub struct Shard {
 }
 
 impl Shard {
-    /// The shard of the documents at the places i (from 0) with `i mod shards = no`.
+    /// The shard of the documents at the places i (from 0) with `i mod shards = no`. It has a dictionary of its own.
     pub fn build(alloc: Global, docs: &Docs, shards: u32, no: u32) -> Result<Shard, Memory>
         requires number { no < shards }
         requires shards { shards ≤ 64 }
-        requires few { length docs.now < 2 ^ 32 }
+        requires few { length docs.now * most_words ≤ 2 ^ 32 }
         requires short { AreShort docs.now }
         ensures { IfOk result (λ shard. StandsFor shard docs.now shards no) }
     {
-        let mut reading = Reading::new(alloc);
-        let docs = docs.as_slice();
-        for (place, doc) in docs.iter().enumerate() {
-            if place % shards as usize == no as usize {
-                reading.add(doc)?;
-            }
-        }
-        let index = Index::of(alloc, reading)?;
+        let table = table_of_part(alloc, docs.as_slice(), shards, no)?;
+        let index = index_of_part(alloc, &table, 1, 0)?;
+        Ok(Shard {
+            index,
+            shards,
+            number: no,
+        })
+    }
+
+    /// The shard of a table's documents at these places. It shares the table's dictionary.
+    pub fn of_table(alloc: Global, table: &DocTable, shards: u32, no: u32) -> Result<Shard, Memory>
+        requires number { no < shards }
+        requires shards { shards ≤ 64 }
+        requires table { (docs : List Doc) × IsTableOf table.now docs × (length docs < 2 ^ 32) × AreShort docs }
+        ensures { (docs : List Doc) → IsTableOf table.now docs → IfOk result (λ shard. StandsFor shard docs shards no) }
+    {
+        let index = index_of_part(alloc, table, shards, no)?;
         Ok(Shard {
             index,
             shards,

@@ -1,6 +1,7 @@
-ghost use Rattle.std.specs.Prelude.{◌≡◌, ◌<◌, ◌≤◌, ◌^◌, ◌++◌, ◌∷◌, [], All, List, ℕ, IfOk, OnOk, get_or, length, map, take};
+ghost use Rattle.std.specs.Prelude.{◌≡◌, ◌*◌, ◌<◌, ◌≤◌, ◌^◌, ◌++◌, ◌∷◌, [], All, List, ℕ, IfOk, OnOk, get_or, length, map, take};
 ghost use Rattle.fan_base.specs.declared.doc.Doc.{Doc};
 ghost use Rattle.query_model.specs.Answers.{answer, each_once, hits_of, top_of, weight_of};
+ghost use Rattle.query_model.specs.Limits.{most_words};
 ghost use Rattle.query_model.specs.Parts.{part_before, weighted_top};
 ghost use Rattle.shard_index.specs.Counting.{counts_of, DifferentWords};
 ghost use Rattle.shard_index.specs.Parts.{by_shard};
@@ -30,7 +31,7 @@ impl Shards {
     pub fn build(alloc: Global, docs: &Docs, shards: u32) -> Result<Shards, Memory>
         requires some { 1 ≤ shards }
         requires many { shards ≤ 64 }
-        requires few { length docs.now < 2 ^ 32 }
+        requires few { length docs.now * most_words ≤ 2 ^ 32 }
         requires short { AreShort docs.now }
         ensures many { IfOk result (λ all. how_many all ≡ shards) }
         ensures stand { IfOk result (λ all. StandForAll all docs.now) }

@@ -47,3 +47,24 @@ pub fn first_scores(
     }
     Ok(Scores::from_vec(kept))
 }
+
+/// The first `k` of all ids with their totals, those above 0 alone, in the order of ranks.
+pub fn first_of_all(
+    alloc: Global,
+    ids: &[u32],
+    totals: &[u64],
+    k: usize,
+) -> Result<Scores, AllocError>
+    requires { length ids.now ≡ length totals.now }
+    ensures { IfOk result (λ scores. scores ≡ take k (ranked (zip ids.now totals.now))) }
+{
+    let mut kept = Vec::with_capacity(alloc, totals.len().min(k).saturating_add(1))?;
+    let mut least = 1;
+    for at in 0..totals.len() {
+        if totals[at] >= least {
+            keep_score(&mut kept, k, (ids[at], totals[at]))?;
+            least = least_total(kept.as_slice(), k);
+        }
+    }
+    Ok(Scores::from_vec(kept))
+}

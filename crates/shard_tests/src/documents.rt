@@ -6,7 +6,7 @@ ghost use Rattle.shard_index.specs.Standing.{AreShort, StandForAll, StandsFor};
 
 use fan_base::{Doc, Docs, Memory, Word, Words};
 use query_expr::{Expr, Token, parse};
-use query_model::limits::MOST_WORDS;
+use query_model::limits::{MOST_DOCUMENTS, MOST_WORDS};
 use shard_index::{Shard, Shards};
 use std::alloc::Global;
 use std::test::Fail;
@@ -57,7 +57,7 @@ pub fn shards_of(alloc: Global, docs: &Docs, shards: u32) -> Result<Shards, Fail
     requires many { shards ≤ 64 }
     ensures { IfOk result (λ shards. StandForAll shards docs.now) }
 {
-    if docs.len() >= 1 << 32 || !are_short(docs.as_slice()) {
+    if docs.len() > MOST_DOCUMENTS || !are_short(docs.as_slice()) {
         return Err(Fail::from(Memory));
     }
     Ok(Shards::build(alloc, docs, shards)?)
@@ -68,7 +68,7 @@ pub fn shards_of(alloc: Global, docs: &Docs, shards: u32) -> Result<Shards, Fail
 pub fn one_shard(alloc: Global, docs: &Docs) -> Result<Shard, Fail>
     ensures { IfOk result (λ shard. StandsFor shard docs.now 1 0) }
 {
-    if docs.len() >= 1 << 32 || !are_short(docs.as_slice()) {
+    if docs.len() > MOST_DOCUMENTS || !are_short(docs.as_slice()) {
         return Err(Fail::from(Memory));
     }
     Ok(Shard::build(alloc, docs, 1, 0)?)

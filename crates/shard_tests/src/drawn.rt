@@ -8,7 +8,7 @@ use std::test::Fail;
 
 const TEXTS: [&str; 7] = ["a b", "a c a", "b c", "c", "d a a a", "b d", "a b c d"];
 
-const ASKED: [&str; 8] = [
+pub const ASKED: [&str; 8] = [
     "a",
     "e",
     "! a",
@@ -19,7 +19,7 @@ const ASKED: [&str; 8] = [
     "a ( b | ! c ) | ! ( a | d )",
 ];
 
-fn drawn_docs(alloc: Global) -> Result<Docs, Fail> {
+pub fn drawn_docs(alloc: Global) -> Result<Docs, Fail> {
     let mut docs = Docs::new(alloc);
     for i in 0..131u32 {
         let words = words_of(alloc, TEXTS[i as usize * 5 % 7])?;

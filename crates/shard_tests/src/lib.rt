@@ -9,3 +9,5 @@ mod drawn;
 mod parts;
 #[cfg(test)]
 mod rows;
+#[cfg(test)]
+mod tables;

@@ -2,6 +2,7 @@
 use crate::documents::{are_short, docs_of, expression, words_of};
 use fan_base::Memory;
 use query_model::Ask;
+use query_model::limits::MOST_DOCUMENTS;
 use query_parts::{answer_by_parts, answer_part, build_shards};
 use query_text::reply_line;
 use std::alloc::Global;
@@ -35,7 +36,7 @@ fn answered(
     ask: &Ask,
 ) -> Result<(Vec<u8>, Vec<u64>), Fail> {
     let docs = docs_of(alloc, table)?;
-    if docs.len() >= 1 << 32 || !are_short(docs.as_slice()) || docs.len() < before as usize {
+    if docs.len() > MOST_DOCUMENTS || !are_short(docs.as_slice()) || docs.len() < before as usize {
         return Err(Fail::from(Memory));
     }
     let shards = build_shards(alloc, &docs, 4)?;

@@ -1,11 +1,11 @@
 use query_gen::{generate, summary_text};
-use query_model::{Ask, Input, Line, Prio, Query};
+use query_model::{Ask, Line, Lines, Prio, Query};
 use std::test::Fail;
 
 #[test]
 fn no_documents_and_no_queries(rt: HostRuntime) -> Result<(), Fail> {
-    let input = generate(rt.alloc(), 5, 0, 0)?;
-    assert!(rt; input.lines.is_empty());
+    let lines = generate(rt.alloc(), 5, 0, 0)?.into_lines(rt.alloc())?;
+    assert!(rt; lines.is_empty());
     let line = summary_text(rt.alloc(), 0, 0, b"")?;
     let wanted = b"documents 0 queries 0 lines 0 bytes 0 sum 0\n".as_slice();
     assert_eq!(rt; line.as_slice(), wanted);
@@ -21,14 +21,14 @@ fn replies_are_summed_up(rt: HostRuntime) -> Result<(), Fail> {
 }
 
 // The numbers of the document, of the query at place 8, which is a `top`, and of the ticks behind ten queries.
-fn some_numbers(input: &Input) -> Option<(u32, usize, u32, u32)> {
-    let Some(Line::Doc(doc)) = input.lines.get(0) else {
+fn some_numbers(lines: &Lines) -> Option<(u32, usize, u32, u32)> {
+    let Some(Line::Doc(doc)) = lines.get(0) else {
         return None;
     };
-    let Some(Line::Query(query)) = input.lines.get(8) else {
+    let Some(Line::Query(query)) = lines.get(8) else {
         return None;
     };
-    let Some(Line::Tick(ticks)) = input.lines.get(11) else {
+    let Some(Line::Tick(ticks)) = lines.get(11) else {
         return None;
     };
     Some((doc.id, doc.words.len(), listed(query)?, *ticks))
@@ -43,8 +43,8 @@ fn listed(query: &Query) -> Option<u32> {
 
 #[test]
 fn a_document_and_queries(rt: HostRuntime) -> Result<(), Fail> {
-    let input = generate(rt.alloc(), 0, 1, 20)?;
-    assert_eq!(rt; input.lines.len(), 23);
-    assert_eq!(rt; some_numbers(&input), Some((1, 48, 6, 286)));
+    let lines = generate(rt.alloc(), 0, 1, 20)?.into_lines(rt.alloc())?;
+    assert_eq!(rt; lines.len(), 23);
+    assert_eq!(rt; some_numbers(&lines), Some((1, 48, 6, 286)));
     Ok(())
 }

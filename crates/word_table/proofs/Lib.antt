@@ -1,3 +1,6 @@
 mod NumberLemmas
 mod PlaceLemmas
-mod NoteLemmas
+mod PairLemmas
+mod RowLemmas
+mod DocLemmas
+pub mod Crossings

@@ -1,5 +1,5 @@
 -- The number of a word, and one word more.
-use Rattle.std.proofs.Common.{◌≡◌, ℕ, zero, suc, ◌<◌, ◌≤◌, List, [], ◌∷◌, ◌++◌, length, Bool, true, false, ◌&&◌, cond, eqb, ltb, Option, Some, None, refl, sym, ap, ◌∙◌, subst, arith, true≢false, inl, inr}
+use Rattle.std.proofs.Common.{◌≡◌, ℕ, zero, suc, ◌+◌, ◌<◌, ◌≤◌, List, [], ◌∷◌, ◌++◌, length, Bool, true, false, ◌&&◌, cond, eqb, ltb, get_or, take, Option, Some, None, refl, sym, ap, ◌∙◌, subst, arith, true≢false, inl, inr}
 use Rattle.std.specs.Ordering.{nat_cmp, is_eq, ordering_then}
 use Rattle.std.specs.declared.cmp.Ordering.{Ordering}
 use Rattle.std.specs.declared.cmp.Ordering.TheVariants.{Less, Equal, Greater}
@@ -7,10 +7,10 @@ use Rattle.std.specs.Cmp.Lexicographic.{pointwise, slice_cmp, bytes_decides}
 use Rattle.std.specs.BTreeMap.{get, is_at}
 use Rattle.std.proofs.lemmas.Bool.{cases_lt}
 use Rattle.std.proofs.lemmas.Bool.Decides.{nat_tests}
-use Rattle.std.proofs.lemmas.List.{get_or_append_left, get_or_push, length_push}
+use Rattle.std.proofs.lemmas.List.{get_or_append_left, get_or_push, length_push, take_more}
 use Rattle.fan_base.specs.declared.word.Word.{Word}
 use Rattle.word_table.specs.declared.dictionary.Dictionary.{Dictionary}
-use Rattle.word_table.specs.Numbers.{IsAt, Knows, found_in, number_in, with_word}
+use Rattle.word_table.specs.Numbers.{IsAt, Knows, found_in, number_in, with_word, with_words}
 
 is_eq-nat_cmp : (x y : ℕ) → is_eq (nat_cmp x y) ≡ eqb x y
 is_eq-nat_cmp x y = grind (arith, nat_tests)
@@ -233,3 +233,13 @@ in-with words w = elim (cases_lt (number_in words w) (length words)) [
   | inl less ↦ subst (λ (ws : List Word). number_in ws w < length ws) (sym (with-old words w less)) less
   | inr more ↦ omega (arith, number-added words w (length words) refl more, ap length (with-new words w more), length_push words w)
 ]
+
+-- several words are known
+
+fold-push : (known words : List Word) (x : Word) → with_words known (words ++ x ∷ []) ≡ with_word (with_words known words) x
+fold-push known [] x = refl
+fold-push known (w ∷ ws) x = fold-push (with_word known w) ws x
+
+pub with-more : (known words : List Word) (i : ℕ) (x : Word) → i < length words → x ≡ get_or words i x → with_words known (take (i + 1) words) ≡ with_word (with_words known (take i words)) x
+with-more known words i x within is =
+    ap (λ (ws : List Word). with_words known ws) (take_more words i x within ∙ ap (λ (v : Word). take i words ++ v ∷ []) (sym is)) ∙ fold-push known (take i words) x

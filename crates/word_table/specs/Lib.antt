@@ -1,3 +1,5 @@
 pub mod Numbers
 pub mod Places
-pub mod Noted
+pub mod Rows
+pub mod Numbered
+pub mod Tables

@@ -1,6 +1,7 @@
-ghost use Rattle.std.specs.Prelude.{◌≡◌, ◌++◌, ◌∷◌, [], List, IfOk, IfSome, OnOk, length, true};
+ghost use Rattle.std.specs.Prelude.{◌≡◌, ◌<◌, ◌++◌, ◌∷◌, [], List, IfOk, IfSome, OnOk, length, true};
 ghost use Rattle.fan_base.specs.declared.word.Word.{Word};
-ghost use Rattle.word_table.specs.Numbers.{IsAt, Knows, number_in, with_word};
+ghost use Rattle.word_table.specs.Numbers.{IsAt, Knows, number_in, with_word, words_in};
+ghost use Rattle.word_table.specs.Numbered.{word_at};
 
 use crate::hints::Hints;
 use fan_base::Word;
@@ -35,6 +36,19 @@ impl Dictionary {
         self.words.len()
     }
 
+    /// The word with a number.
+    pub fn word(&self, number: u32) -> Word
+        requires { number < length (words_in self.now) }
+        ensures { result ≡ word_at (words_in self.now) number }
+    {
+        self.words[number as usize]
+    }
+
+    /// What the words lie in.
+    pub(crate) fn allocator(&self) -> Global {
+        *self.words.allocator()
+    }
+
     /// The word's number, or how many words there are where it isn't one of them.
     pub fn find(&self, word: &Word) -> usize
         ensures { (words : List Word) → Knows self.now words → result ≡ number_in words word.now }
@@ -45,22 +59,13 @@ impl Dictionary {
         }
     }
 
-    /// The word's number. A new word gets the next.
-    pub fn number(&mut self, word: &Word) -> Result<usize, AllocError>
-        ensures number { IfOk result (λ number. (words : List Word) → Knows self.old words → number ≡ number_in (with_word words word.now) word.now) }
-        ensures knows { OnOk result ((words : List Word) → Knows self.old words → Knows self.new (with_word words word.now)) }
-    {
-        let guess = self.guess(word);
-        self.number_by(word, guess)
-    }
-
     /// What is most likely the word's number. Guesses for many words, before any is asked for, are had in less time than one by one.
-    pub fn guess(&self, word: &Word) -> u32 {
+    pub(crate) fn guess(&self, word: &Word) -> u32 {
         self.hints.guess(word)
     }
 
     /// The word's number, whatever the guess. A new word gets the next.
-    pub fn number_by(&mut self, word: &Word, guess: u32) -> Result<usize, AllocError>
+    pub(crate) fn number_by(&mut self, word: &Word, guess: u32) -> Result<usize, AllocError>
         ensures number { IfOk result (λ number. (words : List Word) → Knows self.old words → number ≡ number_in (with_word words word.now) word.now) }
         ensures knows { OnOk result ((words : List Word) → Knows self.old words → Knows self.new (with_word words word.now)) }
     {
@@ -119,7 +124,7 @@ impl Dictionary {
         ensures words { OnOk result (self.new.words.items ≡ self.old.words.items ++ word.now ∷ []) }
         ensures numbers { self.new.numbers ≡ self.old.numbers }
     {
-        let alloc = *self.words.allocator();
+        let alloc = self.allocator();
         self.words.push(*word)?;
         if self.hints.are_full(number) {
             self.hints.grow(alloc, self.words.as_slice())?;

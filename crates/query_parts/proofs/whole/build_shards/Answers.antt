@@ -17,6 +17,6 @@ returns-clause-shards c =
     let many : length all ≡ c.args.shards = omega (arith, c.loop-number.invariant.many, c.loop-number-test.false, c.loop-number.auto.number-end) in
     record {
       some = omega (arith, many, c.requires.some);
-      few = c.requires.few;
+      few = omega (arith, c.requires.few);
       each = λ number shard low. subst (λ (k : ℕ). StandsFor (get_or all number shard) c.args.docs.now k number) (sym many) (c.loop-number.invariant.each number shard low);
     }

@@ -25,4 +25,4 @@ pieces-preserved c =
 pub returns-clause-accepted : goal.returns-clause-accepted
 returns-clause-accepted c =
     let nothing : c.pieces.pieces ≡ [] = search rules in
-    rw c.into_lines.ensures (read_all c.args.bytes.now c.args.shards c.pieces.pieces c.pieces.so_far c.pieces.number c.pieces.invariant nothing)
+    rw c.into_table.ensures (read_all c.args.bytes.now c.args.shards c.pieces.pieces c.pieces.so_far c.pieces.number c.pieces.invariant nothing)

@@ -1,4 +1,4 @@
-use Rattle.std.proofs.Common.{rules, ◌≡◌, ◌<◌, [], length, Ok, arith, subst, ap, sym, ◌∙◌}
+use Rattle.std.proofs.Common.{rules, ◌≡◌, ◌<◌, [], length, arith, subst, sym, ◌∙◌}
 use Rattle.query_text.proofs.WordLemmas.{HasTaken, taken_all, taken_more, too_many, bad_word_fails}
 use Rattle.query_text.proofs.words.words_of.Goals as goal
 
@@ -17,4 +17,4 @@ texts-preserved c =
     (taken_more c.texts.words c.texts.fields c.next.new.self c.args.fields c.in-Some.text.now c.in-Ok.word c.texts.invariant c.in-Some.ensures.steps c.in-Ok.ensures few)
 
 pub returns : goal.returns
-returns c = let nothing : c.texts.fields ≡ [] = search rules in taken_all c.texts.words c.texts.fields c.args.fields c.texts.invariant nothing ∙ ap Ok (sym c.without_spare.ensures)
+returns c = let nothing : c.texts.fields ≡ [] = search rules in taken_all c.texts.words c.texts.fields c.args.fields c.texts.invariant nothing

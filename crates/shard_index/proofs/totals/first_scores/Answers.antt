@@ -1,18 +1,8 @@
-use Rattle.std.proofs.Common.{◌≡◌, ◌+◌, ◌<◌, ◌≤◌, ◌++◌, ◌∷◌, [], ℕ, List, true, false, map, take, zip, ltb, length, ap, sym, ◌∙◌, arith, get_or, inl, inr}
-use Rattle.std.proofs.lemmas.Bool.{cases_lt}
-use Rattle.std.proofs.lemmas.Bool.Decides.{nat_tests}
+use Rattle.std.proofs.Common.{◌≡◌, ◌+◌, ◌<◌, ◌++◌, ◌∷◌, [], ℕ, List, map, take, zip, length, ap, sym, ◌∙◌, arith, get_or}
 use Rattle.std.proofs.lemmas.List.{map_more}
-use Rattle.query_model.specs.Answers.{ranked, ranks_before}
-use Rattle.query_model.specs.Sorting.{sorted_by}
-use Rattle.shard_index.proofs.ScoreLemmas.{positive, positive-none, positive-one, zip-at}
+use Rattle.shard_index.proofs.ScoreLemmas.{one-kept, positive, too-small, zip-at}
 use Rattle.shard_index.proofs.totals.first_scores.Goals as goal
 use Rattle.shard_index.proofs.totals.first_scores.Goals.{then-totals-at+in_ok-keep_score, else-totals-at}
-
-is-positive : (n : ℕ) → 0 < n → ltb 0 n ≡ true
-is-positive n h = grind (arith, nat_tests)
-
-is-none : (n : ℕ) → n ≤ 0 → ltb 0 n ≡ false
-is-none n h = grind (arith, nat_tests)
 
 -- the pairs at the places so far
 abbrev rows : List ℕ → List ℕ → List ℕ → ℕ → List (ℕ × ℕ)
@@ -22,19 +12,6 @@ rows-more : (ids totals places : List ℕ) (i : ℕ) → i < length places → g
     → rows ids totals places (i + 1) ≡ rows ids totals places i ++ (get_or ids (get_or places i 0) 0, get_or totals (get_or places i 0) 0) ∷ []
 rows-more ids totals places i within a b =
     map_more (λ p. get_or (zip ids totals) p (0, 0)) places i 0 within ∙ ap (λ x. rows ids totals places i ++ x ∷ []) (zip-at ids totals (get_or places i 0) a b)
-
--- a total that is kept
-one-kept : (k : ℕ) (some more : List (ℕ × ℕ)) (score : ℕ × ℕ) → more ≡ some ++ score ∷ [] → 0 < score.1 → take k (sorted_by ranks_before (positive some ++ score ∷ [])) ≡ take k (ranked more)
-one-kept k some more score is high = ap (λ ps. take k (sorted_by ranks_before ps)) (positive-one some score (is-positive score.1 high) ∙ ap positive (sym is))
-
--- a total that is too small to be kept
-too-small : (k least : ℕ) (kept some more : List (ℕ × ℕ)) (score : ℕ × ℕ) → more ≡ some ++ score ∷ [] → score.1 < least
-    → ((s : ℕ × ℕ) (scores : List (ℕ × ℕ)) → 0 < s.1 → s.1 < least → kept ≡ take k (sorted_by ranks_before scores) → kept ≡ take k (sorted_by ranks_before (scores ++ s ∷ [])))
-    → kept ≡ take k (ranked some) → kept ≡ take k (ranked more)
-too-small k least kept some more score is low skips keeps = elim (cases_lt 0 score.1) [
-  | inl high ↦ skips score (positive some) high low keeps ∙ one-kept k some more score is high
-  | inr none ↦ keeps ∙ ap (λ ps. take k (sorted_by ranks_before ps)) (positive-none some score (is-none score.1 none) ∙ ap positive (sym is))
-]
 
 pub loop-place-preserved : goal.loop-place-preserved
 loop-place-preserved c =

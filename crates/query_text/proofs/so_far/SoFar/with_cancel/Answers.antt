@@ -3,4 +3,4 @@ use Rattle.query_text.proofs.TrackLemmas.{Tracks-cancel}
 use Rattle.query_text.proofs.so_far.SoFar.with_cancel.Goals as goal
 
 pub invariant_of-result : goal.invariant_of-result
-invariant_of-result c = Tracks-cancel c.self.inside _ c.args.number c.self.invariant c.in_ok-push.ensures.ok refl refl refl refl
+invariant_of-result c = Tracks-cancel c.self.inside _ c.args.number c.self.invariant c.in_ok-lines.ensures refl refl refl refl

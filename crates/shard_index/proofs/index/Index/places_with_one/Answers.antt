@@ -1,7 +1,6 @@
 use Rattle.std.proofs.Common.{◌||◌, List, take, ap, sym, ◌∙◌}
 use Rattle.std.proofs.lemmas.List.{take_all}
 use Rattle.std.proofs.lemmas.List.Folds.{list_any_more}
-use Rattle.fan_base.specs.declared.doc.Doc.{Doc}
 use Rattle.fan_base.specs.declared.word.Word.{Word}
 use Rattle.query_grammar.specs.Truth.{is_among}
 use Rattle.shard_index.specs.Places.{has_one, has_word, places_where}

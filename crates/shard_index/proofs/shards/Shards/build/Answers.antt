@@ -18,6 +18,6 @@ returns-clause-stand c =
     record {
       some = omega (arith, many, c.requires.some);
       docs_are = c.len.ensures;
-      few = c.requires.few;
+      few = omega (arith, c.requires.few);
       each = λ number shard low. subst (λ (k : ℕ). StandsFor (get_or all number shard) c.args.docs.now k number) (sym many) (c.loop-number.invariant.each number shard low);
     }

@@ -1,8 +1,0 @@
-use Rattle.std.proofs.Common.{ap, ◌∙◌, take, map, get_or, ltb}
-use Rattle.std.proofs.lemmas.List.{take_all}
-use Rattle.query_model.specs.Sorting.{sorted_by}
-use Rattle.shard_index.proofs.hits.hits_at.Goals as goal
-
-pub returns-clause-ids : goal.returns-clause-ids
-returns-clause-ids c =
-    c.from_vec.ensures ∙ (c.loop-place.invariant.kept ∙ ap (λ ps. take 100 (sorted_by ltb (map (λ p. get_or c.args.ids.now p 0) ps))) (take_all c.loop-place.place-index c.args.places.now c.loop-place-test.false))
