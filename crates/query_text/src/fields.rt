@@ -29,6 +29,11 @@ impl<'a> Fields<'a> {
         Fields { rest: line }
     }
 
+    /// About how many fields are left, taken for three bytes long.
+    pub fn guess(&self) -> usize {
+        self.rest.len() / 4
+    }
+
     /// Whether no field is left.
     pub fn is_empty(&self) -> bool
         ensures { IsTrue result ↔ (self.now ≡ []) }

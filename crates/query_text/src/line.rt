@@ -77,7 +77,17 @@ fn text_line(
 fn is_printable(text: &[u8]) -> bool
     ensures { result ≡ list_all is_printable text.now }
 {
-    text.iter().all(|byte| 0x20 <= *byte && *byte <= 0x7E)
+    let mut all = true;
+    for byte in text {
+        all &= is_printable_byte(*byte);
+    }
+    all
+}
+
+fn is_printable_byte(byte: u8) -> bool
+    ensures { result ≡ is_printable byte }
+{
+    0x20 <= byte && byte <= 0x7E
 }
 
 fn lowercase(alloc: Global, text: &[u8]) -> Result<Vec<u8>, AllocError>

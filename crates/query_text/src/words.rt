@@ -13,7 +13,8 @@ use std::alloc::Global;
 pub fn words_of(alloc: Global, mut fields: Fields<'_>) -> Result<Words, LineFault>
     ensures { Gives result (words_of fields.entry) }
 {
-    let mut words = Words::new(alloc);
+    let room = fields.guess().min(MOST_WORDS);
+    let mut words = Words::from_vec(Vec::with_capacity(alloc, room)?);
     'texts: while let Some(text) = fields.next() {
         if words.len() == MOST_WORDS {
             return Err(TOO_MANY_WORDS);
