@@ -1,5 +1,5 @@
 -- What one shard gives for a query.
-use Rattle.std.specs.Prelude.{ℕ, ◌≡◌, ◌<◌, ◌≤◌, ◌^◌, List, Option, Some, None, get_or, length}
+use Rattle.std.specs.Prelude.{ℕ, ◌≡◌, ◌+◌, ◌<◌, ◌≤◌, ◌^◌, List, Option, Some, None, get_or, length}
 use Rattle.fan_base.specs.declared.doc.Doc.{Doc}
 use Rattle.query_model.specs.declared.line.Ask.{Ask}
 use Rattle.query_model.specs.declared.line.Ask.TheVariants as ask
@@ -46,6 +46,10 @@ pub record AreShards (shards : List Shard) (docs : List Doc) : Type 0 where
   pub some : 0 < length shards
   pub few : length docs < 2 ^ 32
   pub each : (number : ℕ) (shard : Shard) → number < length shards → StandsFor (get_or shards number shard) docs (length shards) number
+
+-- these are shards of these documents, of so many in all, with the numbers from the first on
+abbrev pub StandFrom : List Shard → List Doc → ℕ → ℕ → Type 0
+StandFrom some docs shards first = (i : ℕ) (shard : Shard) → i < length some → StandsFor (get_or some i shard) docs shards (first + i)
 
 -- these are the parts of all shards of these documents for a query behind the first `before` of them, by number
 pub record AreParts (asks : Ask) (docs : List Doc) (shards before : ℕ) (parts : List PartAnswer) : Type 0 where
