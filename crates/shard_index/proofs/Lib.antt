@@ -3,6 +3,7 @@ mod Keeping
 mod WordLemmas
 mod PlaceLemmas
 mod JoinLemmas
+mod NarrowLemmas
 mod SelectionLemmas
 mod HitLemmas
 mod TotalLemmas

@@ -2,7 +2,6 @@
 use Rattle.std.proofs.Common.{◌≡◌, List, Bool, true, false, not, ◌&&◌, ◌||◌, refl, subst}
 use Rattle.fan_base.specs.declared.doc.Doc.{Doc}
 use Rattle.shard_index.specs.Places.{places_where}
-use Rattle.shard_index.specs.Joins.{keeps}
 use Rattle.shard_index.specs.declared.selection.Selection.{Selection}
 use Rattle.shard_index.specs.Selections.{Selects}
 
@@ -15,24 +14,6 @@ Selects-same selection p q docs same selects = subst (λ (test : Doc → Bool). 
 pub not-not : (b : Bool) → not (not b) ≡ b
 not-not true = refl
 not-not false = refl
-
-pub keeps-common : (b c : Bool) → keeps (record { first_alone = false; both = true; second_alone = false }) b c ≡ (b && c)
-keeps-common true true = refl
-keeps-common true false = refl
-keeps-common false true = refl
-keeps-common false false = refl
-
-pub keeps-without : (b c : Bool) → keeps (record { first_alone = true; both = false; second_alone = false }) b c ≡ (b && not c)
-keeps-without true true = refl
-keeps-without true false = refl
-keeps-without false true = refl
-keeps-without false false = refl
-
-pub keeps-all : (b c : Bool) → keeps (record { first_alone = true; both = true; second_alone = true }) b c ≡ (b || c)
-keeps-all true true = refl
-keeps-all true false = refl
-keeps-all false true = refl
-keeps-all false false = refl
 
 pub and_second : (b c : Bool) → (b && not (not c)) ≡ (b && c)
 and_second true c = not-not c

@@ -1,6 +1,6 @@
 pub mod Places
+pub mod Narrowing
 pub mod Standing
-pub mod Joins
 pub mod Selections
 pub mod Counting
 pub mod Totals

@@ -1,4 +1,4 @@
-ghost use Rattle.std.specs.Prelude.{◌≡◌, ◌+◌, ◌*◌, ◌<◌, ◌≤◌, ◌^◌, ℕ, All, List, IfOk, length, map, take, true, zip};
+ghost use Rattle.std.specs.Prelude.{◌≡◌, ◌+◌, ◌*◌, ◌<◌, ◌≤◌, ◌^◌, ◌&&◌, ℕ, All, List, IfOk, length, map, not, take, true, zip, if◌then◌else◌};
 ghost use Rattle.fan_base.specs.declared.doc.Doc.{Doc};
 ghost use Rattle.std.specs.List.{AllByRecursion};
 ghost use Rattle.std.specs.List.Sorted.{IsNonDecreasing};
@@ -15,8 +15,11 @@ ghost use Rattle.shard_index.specs.Standing.{HasRoom, Indexes};
 use crate::counts::Counts;
 use crate::front::{below, count_distinct, distinct};
 use crate::hits::hits;
+use crate::join::all;
+use crate::leaves::two_words;
 use crate::marks::{mark_at, no_marks};
-use crate::selection::{Selection, all, both};
+use crate::narrow::narrow_once;
+use crate::selection::{Selection, both};
 use crate::totals::{add_at, first_of_all, first_scores, zeros};
 use fan_base::{Numbers, Scores, Word};
 use query_grammar::{Expr, Node};
@@ -109,16 +112,42 @@ impl Index {
         match e.node() {
             Node::Word(word) => Ok(Selection::Those(self.places_with(alloc, front, word)?)),
             Node::Not(e) => Ok(self.select(alloc, front, e)?.complement()),
-            Node::Both(a, b) => both(
-                alloc,
-                &self.select(alloc, front, a)?,
-                &self.select(alloc, front, b)?,
-            ),
+            Node::Both(a, b) => match two_words(a, b) {
+                Some((a, b, wanted)) => self.select_two(alloc, front, a, b, wanted),
+                None => both(
+                    alloc,
+                    &self.select(alloc, front, a)?,
+                    &self.select(alloc, front, b)?,
+                ),
+            },
             Node::Either(a, b) => {
                 let a = self.select(alloc, front, a)?.complement();
                 let b = self.select(alloc, front, b)?.complement();
                 Ok(both(alloc, &a, &b)?.complement())
             }
+        }
+    }
+
+    /// The documents with the first word and, where that is wanted, with the second, or else without it. Of the second, or of that which
+    /// stands more often, no list of places is made.
+    fn select_two(
+        &self,
+        alloc: Global,
+        front: usize,
+        first: &Word,
+        second: &Word,
+        wanted: bool,
+    ) -> Result<Selection, AllocError>
+        requires { (docs : List Doc) × Indexes self.now docs }
+        ensures { (docs : List Doc) → Indexes self.now docs → IfOk result (λ selection. Selects selection
+            (λ doc. has_word first.now doc && (if wanted then has_word second.now doc else not (has_word second.now doc))) (take front docs)) }
+    {
+        let at_first = below(self.standing(first), front);
+        let at_second = below(self.standing(second), front);
+        if wanted && at_second.len() < at_first.len() {
+            Ok(Selection::Those(narrow_once(alloc, at_second, at_first, true)?))
+        } else {
+            Ok(Selection::Those(narrow_once(alloc, at_first, at_second, wanted)?))
         }
     }
 

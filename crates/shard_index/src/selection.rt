@@ -1,9 +1,10 @@
-ghost use Rattle.std.specs.Prelude.{◌≡◌, List, Bool, not, ◌&&◌, ◌||◌, IfOk, filter, length};
+ghost use Rattle.std.specs.Prelude.{◌≡◌, List, Bool, not, ◌&&◌, IfOk, filter, length};
 ghost use Rattle.fan_base.specs.declared.doc.Doc.{Doc};
 ghost use Rattle.shard_index.specs.Places.{places_where};
 ghost use Rattle.shard_index.specs.Selections.{Selects};
 
-use crate::join::{Keep, join};
+use crate::join::all;
+use crate::narrow::narrow;
 use std::alloc::{AllocError, Global};
 
 /// Some of the documents of an index. A complement costs nothing as long as nothing asks for its places.
@@ -71,12 +72,11 @@ fn common(alloc: Global, a: &[u32], b: &[u32]) -> Result<Vec<u32>, AllocError>
     ensures { (p q : Doc → Bool) (docs : List Doc) → a.now ≡ places_where p docs → b.now ≡ places_where q docs
         → IfOk result (λ places. places.items ≡ places_where (λ doc. p doc && q doc) docs) }
 {
-    let keep = Keep {
-        first_alone: false,
-        both: true,
-        second_alone: false,
-    };
-    join(alloc, keep, a, b)
+    if a.len() <= b.len() {
+        narrow(alloc, a, b, true)
+    } else {
+        narrow(alloc, b, a, true)
+    }
 }
 
 /// The places of the first list that the second doesn't have.
@@ -84,23 +84,5 @@ pub fn without(alloc: Global, a: &[u32], b: &[u32]) -> Result<Vec<u32>, AllocErr
     ensures { (p q : Doc → Bool) (docs : List Doc) → a.now ≡ places_where p docs → b.now ≡ places_where q docs
         → IfOk result (λ places. places.items ≡ places_where (λ doc. p doc && not (q doc)) docs) }
 {
-    let keep = Keep {
-        first_alone: true,
-        both: false,
-        second_alone: false,
-    };
-    join(alloc, keep, a, b)
-}
-
-/// The places that one of the lists has, or both.
-pub fn all(alloc: Global, a: &[u32], b: &[u32]) -> Result<Vec<u32>, AllocError>
-    ensures { (p q : Doc → Bool) (docs : List Doc) → a.now ≡ places_where p docs → b.now ≡ places_where q docs
-        → IfOk result (λ places. places.items ≡ places_where (λ doc. p doc || q doc) docs) }
-{
-    let keep = Keep {
-        first_alone: true,
-        both: true,
-        second_alone: true,
-    };
-    join(alloc, keep, a, b)
+    narrow(alloc, a, b, false)
 }

@@ -1,9 +1,5 @@
-use Rattle.std.proofs.Common.{◌∙◌}
-use Rattle.std.proofs.lemmas.Result.{IfOk-weaker}
-use Rattle.shard_index.proofs.SelectionLemmas.{places_where-same, keeps-without}
+use Rattle.shard_index.proofs.NarrowLemmas.{stand-where}
 use Rattle.shard_index.proofs.selection.without.Goals as goal
 
 pub returns : goal.returns
-returns c = λ p q docs first second.
-    IfOk-weaker c.join.result _ _ (λ kept is. is ∙ places_where-same _ _ docs (λ doc. keeps-without (p doc) (q doc)))
-    (c.join.ensures p q docs first second)
+returns c = λ p q docs first second. c.narrow.ensures p q docs first (stand-where q docs c.args.b.now second)

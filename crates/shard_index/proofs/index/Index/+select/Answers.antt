@@ -12,15 +12,23 @@ returns-in_ok-places_with-in-Word t c = λ docs stands.
     c.in_ok-places_with-in-Word.ensures docs stands
     ∙ ap (λ tree. places_where (holds_in tree) (take c.args.front docs)) (ap tree_at (sym c.in-Word.is) ∙ c.node.ensures)
 
-pub returns-in_ok-select-in-Both-2 : goal.returns-in_ok-select-in-Both-2
-returns-in_ok-select-in-Both-2 t c = λ docs stands.
-    let p = holds_in c.deref-in-Both.result.now in
-    let q = holds_in c.deref-in-Both-2.result.now in
+pub returns-in-Some : goal.returns-in-Some
+returns-in-Some t c = λ docs stands.
     let tree : Tree.both c.deref-in-Both.result.now c.deref-in-Both-2.result.now ≡ c.args.e.now =
     (λ i. Tree.both (c.deref-in-Both.ensures i) (c.deref-in-Both-2.ensures i)) ∙ (ap tree_at (sym c.in-Both.is) ∙ c.node.ensures) in
+    IfOk-weaker c.select_two.result _ _
+    (λ selection selects. Selects-same selection _ (holds_in c.args.e.now) (take c.args.front docs) (λ doc. c.in-Some.ensures doc ∙ ap (λ e. holds_in e doc) tree) selects)
+    (c.select_two.ensures docs stands)
+
+pub returns-in_ok-select-in-None-2 : goal.returns-in_ok-select-in-None-2
+returns-in_ok-select-in-None-2 t c = λ docs stands.
+    let p = holds_in c.deref-in-None.result.now in
+    let q = holds_in c.deref-in-None-2.result.now in
+    let tree : Tree.both c.deref-in-None.result.now c.deref-in-None-2.result.now ≡ c.args.e.now =
+    (λ i. Tree.both (c.deref-in-None.ensures i) (c.deref-in-None-2.ensures i)) ∙ (ap tree_at (sym c.in-Both.is) ∙ c.node.ensures) in
     IfOk-weaker c.both.result _ _
     (λ selection selects. Selects-same selection (λ doc. p doc && q doc) (holds_in c.args.e.now) (take c.args.front docs) (λ doc. ap (λ e. holds_in e doc) tree) selects)
-    (c.both.ensures p q (take c.args.front docs) (c.in_ok-select-in-Both.ensures docs stands) (c.in_ok-select-in-Both-2.ensures docs stands))
+    (c.both.ensures p q (take c.args.front docs) (c.in_ok-select-in-None.ensures docs stands) (c.in_ok-select-in-None-2.ensures docs stands))
 
 pub returns-in_ok-both-in-Either : goal.returns-in_ok-both-in-Either
 returns-in_ok-both-in-Either t c = λ docs stands.

@@ -1,0 +1,265 @@
+-- Which places of one list stand in another, in which each may stand several times.
+use Rattle.std.proofs.Common.{◌≡◌, ℕ, zero, suc, ◌+◌, ◌-◌, ◌<◌, ◌≤◌, List, [], ◌∷◌, ◌++◌, length, Bool, true, false, not, ◌&&◌, ◌||◌, All, cond, eqb, ltb, get_or, take, filter, replicate, refl, sym, ap, subst, ◌∙◌, arith, append-nil}
+use Rattle.std.specs.List.{AllByRecursion, list_any}
+use Rattle.std.specs.List.Sorted.{IsPartitionedBy}
+use Rattle.std.proofs.lemmas.Bool.Decides.{nat_tests}
+use Rattle.std.proofs.lemmas.List.{take_all, take_more}
+use Rattle.std.proofs.lemmas.List.Elements.{filter-append}
+use Rattle.std.proofs.lemmas.List.Folds.{list_any-append, list_any_at, list_any_none}
+use Rattle.fan_base.specs.declared.doc.Doc.{Doc}
+use Rattle.fan_base.specs.declared.word.Word.{Word}
+use Rattle.query_model.specs.Answers.{times_in}
+use Rattle.shard_index.specs.Narrowing.{AreParted, StandWhere, has_place, passes}
+use Rattle.shard_index.specs.Places.{has_word, places_from, places_where, standing_from, standing_of}
+use Rattle.shard_index.proofs.FrontLemmas.{standing-parted}
+use Rattle.shard_index.proofs.PlaceLemmas.{places-above, standing-from-above}
+use Rattle.shard_index.proofs.WordLemmas.{none-count, some-count}
+
+lt-ltb : (x y : ℕ) → x < y → ltb x y ≡ true
+lt-ltb x y h = grind (arith, nat_tests)
+
+ltb-lt : (x y : ℕ) → ltb x y ≡ true → x < y
+ltb-lt x y h = grind (arith, nat_tests)
+
+ltb-ge : (x y : ℕ) → ltb x y ≡ false → y ≤ x
+ltb-ge x y h = grind (arith, nat_tests)
+
+ge-ltb : (x y : ℕ) → y ≤ x → ltb x y ≡ false
+ge-ltb x y h = grind (arith, nat_tests)
+
+eqb-same : (x : ℕ) → eqb x x ≡ true
+eqb-same x = grind (arith, nat_tests)
+
+eqb-less : (x y : ℕ) → x < y → eqb x y ≡ false
+eqb-less x y h = grind (arith, nat_tests)
+
+eqb-more : (x y : ℕ) → y < x → eqb x y ≡ false
+eqb-more x y h = grind (arith, nat_tests)
+
+-- of ascending places, those in front of a lower one are lower
+lower : (places : List ℕ) (x k m : ℕ) → AreParted places → k ≤ m → m < length places → get_or places m 0 < x → get_or places k 0 < x
+lower places x k m parted low within less = ltb-lt (get_or places k 0) x (parted x k m 0 low within (lt-ltb (get_or places m 0) x less))
+
+-- a place is one of ascending ones where it stands behind those that are lower
+pub found : (places : List ℕ) (x at : ℕ) → AreParted places → at ≤ length places → (0 < at → get_or places (at - 1) 0 < x) → (at < length places → x ≤ get_or places at 0)
+    → has_place places x ≡ (ltb at (length places) && eqb (get_or places at 0) x)
+found places x at parted within front behind = by (ltb at (length places)) (ltb (get_or places at 0) (suc x)) refl refl
+  where
+    before : (k : ℕ) → k < at → get_or places k 0 < x
+    before k low = lower places x k (at - 1) parted (omega (arith, low)) (omega (arith, low, within)) (front (omega (arith, low)))
+
+    other : (k : ℕ) (b : Bool) → ltb k at ≡ b → (ltb k at ≡ false → x < get_or places k 0) → eqb x (get_or places k 0) ≡ false
+    other k true is past = eqb-more x (get_or places k 0) (before k (ltb-lt k at is))
+    other k false is past = eqb-less x (get_or places k 0) (past is)
+
+    none : ((k : ℕ) → k < length places → at ≤ k → x < get_or places k 0) → has_place places x ≡ false
+    none past = list_any_none (eqb x) places (λ k d low.
+        ap (λ n. eqb x n) (default k d low) ∙ other k (ltb k at) refl (λ is. past k low (ltb-ge k at is)))
+      where
+        default : (k d : ℕ) → k < length places → get_or places k d ≡ get_or places k 0
+        default k d low = get_or_same places k d low
+          where
+            get_or_same : (xs : List ℕ) (k d : ℕ) → k < length xs → get_or xs k d ≡ get_or xs k 0
+            get_or_same [] k d low = absurd (omega (arith, low))
+            get_or_same (x ∷ xs) zero d low = refl
+            get_or_same (x ∷ xs) (suc k) d low = get_or_same xs k d (omega (arith, low))
+
+    by : (b c : Bool) → ltb at (length places) ≡ b → ltb (get_or places at 0) (suc x) ≡ c → has_place places x ≡ (b && eqb (get_or places at 0) x)
+    by false c is less = none (λ k low from. absurd (omega (arith, low, from, ltb-ge at (length places) is)))
+    by true true is less =
+        let same : get_or places at 0 ≡ x = omega (arith, behind (ltb-lt at (length places) is), ltb-lt (get_or places at 0) (suc x) less) in
+        list_any_at (eqb x) places at 0 (ltb-lt at (length places) is) (ap (λ n. eqb x n) same ∙ eqb-same x) ∙ sym (ap (λ n. eqb n x) same ∙ eqb-same x)
+    by true false is less =
+        let more = ltb-ge (get_or places at 0) (suc x) less in
+        none (λ k low from. past k low from (ltb (get_or places k 0) (suc x)) refl more) ∙ sym (eqb-more (get_or places at 0) x (omega (arith, more)))
+      where
+        past : (k : ℕ) → k < length places → at ≤ k → (b : Bool) → ltb (get_or places k 0) (suc x) ≡ b → suc x ≤ get_or places at 0 → x < get_or places k 0
+        past k low from true is more = absurd (omega (arith, more, lower places (suc x) at k parted from low (ltb-lt (get_or places k 0) (suc x) is)))
+        past k low from false is more = omega (arith, ltb-ge (get_or places k 0) (suc x) is)
+
+-- places that ascend, each once
+abbrev pub Ascend : List ℕ → Type 0
+Ascend places = (k m : ℕ) → k < m → m < length places → get_or places k 0 < get_or places m 0
+
+-- what is kept of the first places, and where the search goes on
+pub record HasKept (places by : List ℕ) (wanted : Bool) (index at : ℕ) (kept : List ℕ) : Type 0 where
+  pub are : kept ≡ filter (passes by wanted) (take index places)
+  pub front : 0 < at → (m : ℕ) → index ≤ m → m < length places → get_or by (at - 1) 0 < get_or places m 0
+
+pub kept-more : (places by kept more : List ℕ) (wanted has : Bool) (index at next : ℕ) → Ascend places → AreParted by → HasKept places by wanted index at kept
+    → index < length places → at ≤ next → next ≤ length by → (at < next → get_or by (next - 1) 0 < get_or places index 0)
+    → (next < length by → get_or places index 0 ≤ get_or by next 0) → has ≡ (ltb next (length by) && eqb (get_or by next 0) (get_or places index 0))
+    → more ≡ kept ++ cond (cond wanted has (not has)) (get_or places index 0 ∷ []) [] → HasKept places by wanted (index + 1) next more
+kept-more places by kept more wanted has index at next ascend parted before low further within lower_before behind is more_are = record {
+  are = more_are
+      ∙ (ap (λ (ks : List ℕ). ks ++ cond (cond wanted has (not has)) (x ∷ []) []) before.are
+      ∙ (ap (λ (b : Bool). filter (passes by wanted) (take index places) ++ cond (cond wanted b (not b)) (x ∷ []) []) (is ∙ sym (found by x next parted within fronts behind))
+      ∙ (ap (λ (ks : List ℕ). filter (passes by wanted) (take index places) ++ ks) (one (passes by wanted x))
+      ∙ (sym (filter-append (passes by wanted) (take index places) (x ∷ [])) ∙ ap (λ (ks : List ℕ). filter (passes by wanted) ks) (sym (take_more places index 0 low))))));
+  front = λ some m from to. further_on (ltb at next) refl some m from to;
+}
+  where
+    x : ℕ
+    x = get_or places index 0
+
+    fronts : 0 < next → get_or by (next - 1) 0 < x
+    fronts some = cases (ltb at next) refl
+      where
+        cases : (b : Bool) → ltb at next ≡ b → get_or by (next - 1) 0 < x
+        cases true less = lower_before (ltb-lt at next less)
+        cases false less =
+            let same : at ≡ next = (let past = ltb-ge at next less in omega (arith, past, further)) in
+            subst (λ (n : ℕ). get_or by (n - 1) 0 < x) same (before.front (omega (arith, same, some)) index (omega arith) low)
+
+    further_on : (b : Bool) → ltb at next ≡ b → 0 < next → (m : ℕ) → index + 1 ≤ m → m < length places → get_or by (next - 1) 0 < get_or places m 0
+    further_on b less some m from to = omega (arith, fronts some, ascend index m (omega (arith, from)) to)
+
+    one : (b : Bool) → cond b (x ∷ []) [] ≡ cond b (x ∷ filter (passes by wanted) []) (filter (passes by wanted) [])
+    one true = refl
+    one false = refl
+
+pub kept-none : (places by : List ℕ) (wanted : Bool) → HasKept places by wanted 0 0 []
+kept-none places by wanted = record { are = refl; front = λ some m from to. absurd (omega (arith, some)) }
+
+-- the places of documents ascend
+
+all-at : (P : ℕ → Type 0) (xs : List ℕ) (k : ℕ) → AllByRecursion P xs → k < length xs → P (get_or xs k 0)
+all-at P [] k h within = absurd (omega (arith, within))
+all-at P (x ∷ xs) zero h within = h.0
+all-at P (x ∷ xs) (suc k) h within = all-at P xs k h.1 (omega (arith, within))
+
+ascend-from : (place : ℕ) (test : Doc → Bool) (docs : List Doc) → Ascend (places_from place test docs)
+ascend-from place test [] = λ k m low within. absurd (omega (arith, within))
+ascend-from place test (d ∷ ds) = by (test d) (ascend-from (place + 1) test ds)
+  where
+    rest : List ℕ
+    rest = places_from (place + 1) test ds
+
+    first : Ascend rest → (k m : ℕ) → k < m → m < length (place ∷ rest) → get_or (place ∷ rest) k 0 < get_or (place ∷ rest) m 0
+    first more zero zero low within = absurd (omega (arith, low))
+    first more (suc k) zero low within = absurd (omega (arith, low))
+    first more zero (suc m) low within = all-at (λ x. place < x) rest m (places-above place (place + 1) test ds (omega arith)) (omega (arith, within))
+    first more (suc k) (suc m) low within = more k m (omega (arith, low)) (omega (arith, within))
+
+    by : (b : Bool) → Ascend rest → Ascend (cond b (place ∷ rest) rest)
+    by true more = first more
+    by false more = more
+
+pub ascend-where : (test : Doc → Bool) (docs : List Doc) (places : List ℕ) → places ≡ places_where test docs → Ascend places
+ascend-where test docs places is = subst Ascend (sym is) (ascend-from 0 test docs)
+
+-- those kept of the places of documents that pass a test
+kept-from : (place : ℕ) (p s : Doc → Bool) (t : ℕ → Bool) (docs : List Doc) → ((i : ℕ) (d : Doc) → i < length docs → t (place + i) ≡ s (get_or docs i d))
+    → filter t (places_from place p docs) ≡ places_from place (λ d. p d && s d) docs
+kept-from place p s t [] same = refl
+kept-from place p s t (d ∷ ds) same = by (p d) (s d) here (kept-from (place + 1) p s t ds later)
+  where
+    rest : List ℕ
+    rest = places_from (place + 1) p ds
+
+    both : List ℕ
+    both = places_from (place + 1) (λ d. p d && s d) ds
+
+    here : t place ≡ s d
+    here = ap t (let e : place ≡ place + 0 = omega arith in e) ∙ same 0 d (omega arith)
+
+    later : (i : ℕ) (e : Doc) → i < length ds → t (place + 1 + i) ≡ s (get_or ds i e)
+    later i e low = ap t (let eq : place + 1 + i ≡ place + suc i = omega arith in eq) ∙ same (suc i) e (omega (arith, low))
+
+    by : (b c : Bool) → t place ≡ c → filter t rest ≡ both → filter t (cond b (place ∷ rest) rest) ≡ cond (b && c) (place ∷ both) both
+    by true c is more = ap (λ b. cond b (place ∷ filter t rest) (filter t rest)) is ∙ kept c more
+      where
+        kept : (c : Bool) → filter t rest ≡ both → cond c (place ∷ filter t rest) (filter t rest) ≡ cond c (place ∷ both) both
+        kept true more = ap (λ xs. place ∷ xs) more
+        kept false more = more
+    by false c is more = more
+
+pub kept-where : (places by kept : List ℕ) (wanted : Bool) (index at : ℕ) (p q : Doc → Bool) (docs : List Doc) → length places ≤ index → HasKept places by wanted index at kept
+    → places ≡ places_where p docs → StandWhere by q docs → kept ≡ places_where (λ doc. p doc && cond wanted (q doc) (not (q doc))) docs
+kept-where places by kept wanted index at p q docs past has are stand =
+    has.are ∙ (ap (λ (ps : List ℕ). filter (passes by wanted) ps) (take_all index places past ∙ are)
+    ∙ kept-from 0 p (λ doc. cond wanted (q doc) (not (q doc))) (passes by wanted) docs
+    (λ i d low. ap (λ (b : Bool). cond wanted b (not b)) (ap (λ n. has_place by n) (let e : 0 + i ≡ i = omega arith in e) ∙ stand.are i d low)))
+
+-- the places of documents that pass a test, and those where a word stands, tell of their documents
+
+none-there : (x : ℕ) (xs : List ℕ) → AllByRecursion (λ y. x < y) xs → has_place xs x ≡ false
+none-there x [] h = refl
+none-there x (y ∷ ys) h = (λ i. eqb-less x y h.0 i || has_place ys x) ∙ none-there x ys h.1
+
+none-before : (x place n : ℕ) (xs : List ℕ) → place < x → has_place (replicate n place ++ xs) x ≡ has_place xs x
+none-before x place zero xs low = refl
+none-before x place (suc n) xs low = (λ i. eqb-more x place low i || has_place (replicate n place ++ xs) x) ∙ none-before x place n xs low
+
+has-from : (place : ℕ) (q : Doc → Bool) (docs : List Doc) (i : ℕ) (d : Doc) → i < length docs → has_place (places_from place q docs) (place + i) ≡ q (get_or docs i d)
+has-from place q [] i d low = absurd (omega (arith, low))
+has-from place q (e ∷ es) zero d low = ap (λ x. has_place (cond (q e) (place ∷ rest) rest) x) (let z : place + 0 ≡ place = omega arith in z) ∙ by (q e)
+  where
+    rest : List ℕ
+    rest = places_from (place + 1) q es
+
+    by : (b : Bool) → has_place (cond b (place ∷ rest) rest) place ≡ b
+    by true = λ i. eqb-same place i || has_place rest place
+    by false = none-there place rest (places-above place (place + 1) q es (omega arith))
+has-from place q (e ∷ es) (suc i) d low = by (q e) (has-from (place + 1) q es i d (omega (arith, low)))
+  where
+    rest : List ℕ
+    rest = places_from (place + 1) q es
+
+    further : place + 1 + i ≡ place + suc i
+    further = omega arith
+
+    by : (b : Bool) → has_place rest (place + 1 + i) ≡ q (get_or es i d) → has_place (cond b (place ∷ rest) rest) (place + suc i) ≡ q (get_or es i d)
+    by true more = (λ k. eqb-more (place + suc i) place (omega arith) k || has_place rest (place + suc i)) ∙ (ap (λ x. has_place rest x) (sym further) ∙ more)
+    by false more = ap (λ x. has_place rest x) (sym further) ∙ more
+
+has-standing : (place : ℕ) (word : Word) (docs : List Doc) (i : ℕ) (d : Doc) → i < length docs → has_place (standing_from place word docs) (place + i) ≡ has_word word (get_or docs i d)
+has-standing place word [] i d low = absurd (omega (arith, low))
+has-standing place word (e ∷ es) zero d low = ap (λ x. has_place (replicate (times_in e word) place ++ rest) x) (let z : place + 0 ≡ place = omega arith in z) ∙ by (has_word word e) refl (times_in e word) refl
+  where
+    rest : List ℕ
+    rest = standing_from (place + 1) word es
+
+    above : has_place rest place ≡ false
+    above = none-there place rest (wider rest (standing-from-above (place + 1) (place + 1) word es (omega arith)))
+      where
+        wider : (xs : List ℕ) → AllByRecursion (λ x. place + 1 ≤ x) xs → AllByRecursion (λ x. place < x) xs
+        wider [] h = tt
+        wider (x ∷ xs) h = (omega (arith, h.0), wider xs h.1)
+
+    by : (b : Bool) → has_word word e ≡ b → (n : ℕ) → times_in e word ≡ n → has_place (replicate n place ++ rest) place ≡ has_word word e
+    by true is zero none = absurd (omega (arith, none, some-count word e.words is))
+    by true is (suc n) some = (λ i. eqb-same place i || has_place (replicate n place ++ rest) place) ∙ sym is
+    by false is zero none = above ∙ sym is
+    by false is (suc n) some = absurd (omega (arith, some, none-count word e.words is))
+has-standing place word (e ∷ es) (suc i) d low =
+    none-before (place + suc i) place (times_in e word) (standing_from (place + 1) word es) (omega arith)
+    ∙ (ap (λ x. has_place (standing_from (place + 1) word es) x) (let further : place + suc i ≡ place + 1 + i = omega arith in further) ∙ has-standing (place + 1) word es i d (omega (arith, low)))
+
+ascend-parted : (places : List ℕ) → Ascend places → AreParted places
+ascend-parted places ascend = λ front i j d low within holds. by i j d low within (ltb i j) refl front holds
+  where
+    same-default : (xs : List ℕ) (k d : ℕ) → k < length xs → get_or xs k d ≡ get_or xs k 0
+    same-default [] k d low = absurd (omega (arith, low))
+    same-default (x ∷ xs) zero d low = refl
+    same-default (x ∷ xs) (suc k) d low = same-default xs k d (omega (arith, low))
+
+    by : (i j d : ℕ) → i ≤ j → j < length places → (b : Bool) → ltb i j ≡ b → (front : ℕ) → ltb (get_or places j d) front ≡ true → ltb (get_or places i d) front ≡ true
+    by i j d low within true is front holds =
+        let less = ascend i j (ltb-lt i j is) within in
+        lt-ltb (get_or places i d) front (omega (arith, ltb-lt (get_or places j d) front holds, less, same-default places i d (omega (arith, low, within)), same-default places j d within))
+    by i j d low within false is front holds =
+        let same : i ≡ j = (let past = ltb-ge i j is in omega (arith, low, past)) in
+        ap (λ n. ltb (get_or places n d) front) same ∙ holds
+
+pub stand-where : (q : Doc → Bool) (docs : List Doc) (places : List ℕ) → places ≡ places_where q docs → StandWhere places q docs
+stand-where q docs places is = record {
+  parted = ascend-parted places (ascend-where q docs places is);
+  are = λ i d low. ap (λ (ps : List ℕ). has_place ps i) is ∙ (ap (λ n. has_place (places_where q docs) n) (let e : i ≡ 0 + i = omega arith in e) ∙ has-from 0 q docs i d low);
+}
+
+pub stand-standing : (word : Word) (docs : List Doc) (places : List ℕ) → places ≡ standing_of word docs → StandWhere places (has_word word) docs
+stand-standing word docs places is = record {
+  parted = λ front. standing-parted front word docs places is;
+  are = λ i d low. ap (λ (ps : List ℕ). has_place ps i) is ∙ (ap (λ n. has_place (standing_of word docs) n) (let e : i ≡ 0 + i = omega arith in e) ∙ has-standing 0 word docs i d low);
+}

@@ -1,0 +1,119 @@
+ghost use Rattle.std.specs.Prelude.{◌≡◌, ◌-◌, ◌<◌, ◌≤◌, ◌&&◌, ◌++◌, ◌∷◌, [], List, Bool, IfOk, OnOk, get_or, length, nat_eq, nat_lt, not, if◌then◌else◌};
+ghost use Rattle.fan_base.specs.declared.doc.Doc.{Doc};
+ghost use Rattle.shard_index.specs.Narrowing.{StandWhere};
+ghost use Rattle.shard_index.specs.Places.{distinct, places_where};
+
+use crate::front::distinct;
+use std::alloc::{AllocError, Global};
+
+/// The places of one list that are among others, or, where those aren't wanted, that are not. Both ascend; of the others each may
+/// stand several times.
+pub fn narrow(
+    alloc: Global,
+    places: &[u32],
+    others: &[u32],
+    wanted: bool,
+) -> Result<Vec<u32>, AllocError>
+    ensures { (p q : Doc → Bool) (docs : List Doc) → places.now ≡ places_where p docs → StandWhere others.now q docs
+        → IfOk result (λ kept. kept.items ≡ places_where (λ doc. p doc && (if wanted then q doc else not (q doc))) docs) }
+{
+    let far = places.len() < others.len() / 16;
+    let mut kept = Vec::with_capacity(alloc, places.len())?;
+    let mut at = 0;
+    for place in places {
+        at = first_from(others, at, far, *place);
+        let has = is_at(others, at, *place);
+        push_if(&mut kept, is_kept(wanted, has), *place)?;
+    }
+    Ok(kept)
+}
+
+/// The same, where a place may stand several times in the first list too. It is kept once.
+pub fn narrow_once(
+    alloc: Global,
+    places: &[u32],
+    others: &[u32],
+    wanted: bool,
+) -> Result<Vec<u32>, AllocError>
+    ensures { (p q : Doc → Bool) (docs : List Doc) → distinct places.now ≡ places_where p docs → StandWhere others.now q docs
+        → IfOk result (λ kept. kept.items ≡ places_where (λ doc. p doc && (if wanted then q doc else not (q doc))) docs) }
+{
+    let once = distinct(alloc, places)?;
+    narrow(alloc, once.as_slice(), others, wanted)
+}
+
+/// Where the first place from an index on stands that isn't below this one. It goes by steps that double where it is likely far.
+fn first_from(places: &[u32], from: usize, far: bool, place: u32) -> usize
+    requires { from ≤ length places.now }
+    ensures order { from ≤ result }
+    ensures within { result ≤ length places.now }
+    ensures front { from < result → get_or places.now (result - 1) 0 < place }
+    ensures behind { result < length places.now → place ≤ get_or places.now result 0 }
+{
+    if far {
+        first_far(places, from, place)
+    } else {
+        first_near(places, from, place)
+    }
+}
+
+fn first_near(places: &[u32], from: usize, place: u32) -> usize
+    requires { from ≤ length places.now }
+    ensures order { from ≤ result }
+    ensures within { result ≤ length places.now }
+    ensures front { from < result → get_or places.now (result - 1) 0 < place }
+    ensures behind { result < length places.now → place ≤ get_or places.now result 0 }
+{
+    let mut at = from;
+    'steps: while at < places.len() && places[at] < place {
+        at += 1;
+    }
+    at
+}
+
+fn first_far(places: &[u32], from: usize, place: u32) -> usize
+    requires { from ≤ length places.now }
+    ensures order { from ≤ result }
+    ensures within { result ≤ length places.now }
+    ensures front { from < result → get_or places.now (result - 1) 0 < place }
+    ensures behind { result < length places.now → place ≤ get_or places.now result 0 }
+{
+    let mut low = from;
+    let mut high = from;
+    let mut step = 1;
+    'steps: while high < places.len() && places[high] < place {
+        low = high + 1;
+        high = low.saturating_add(step).min(places.len());
+        step = step.saturating_mul(2);
+    }
+    'halves: while low < high {
+        let middle = low + (high - low) / 2;
+        if places[middle] < place {
+            low = middle + 1;
+        } else {
+            high = middle;
+        }
+    }
+    low
+}
+
+fn is_at(places: &[u32], at: usize, place: u32) -> bool
+    ensures { result ≡ (nat_lt at (length places.now) && nat_eq (get_or places.now at 0) place) }
+{
+    at < places.len() && places[at] == place
+}
+
+fn is_kept(wanted: bool, has: bool) -> bool
+    ensures { result ≡ (if wanted then has else not has) }
+{
+    if wanted { has } else { !has }
+}
+
+fn push_if(kept: &mut Vec<u32>, wanted: bool, place: u32) -> Result<(), AllocError>
+    ensures { OnOk result (kept.new.items ≡ kept.old.items ++ (if wanted then place ∷ [] else [])) }
+{
+    if wanted {
+        kept.push(place)?;
+    }
+    Ok(())
+}
