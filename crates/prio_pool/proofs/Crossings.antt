@@ -11,7 +11,6 @@ use Rattle.crossbeam_utils.proofs.sync.parker.Signals.TheSendSync as signals_cro
 use Rattle.atomic_table.proofs.owned.Table.TheSendSync as table_atomic_table
 use Rattle.atomic_table.proofs.shared.Seat.TheSendSync as seat_atomic_table
 use Rattle.atomic_table.proofs.shared.Shared.TheSendSync as shared_atomic_table
-use Rattle.fan_base.proofs.Crossing as crossing_fan_base
 use Rattle.fan_base.proofs.number.ExecId.TheSendSync as exec_fan_base
 use Rattle.keep_alive.proofs.keep.Joined.TheSendSync as joined_keep_alive
 use Rattle.keep_alive.proofs.keep.KeepAlive.TheSendSync as keep_keep_alive
@@ -56,7 +55,7 @@ use Rattle.prio_pool.specs.contracts.returned.Returned.TheInside as of_returned
 use Rattle.prio_pool.specs.contracts.ending.PoolEnd as pool_end
 use Rattle.prio_pool.specs.contracts.new.PoolParts as pool_parts
 
-ruleset all = (unruled_crossbeam_utils.the_field_send, unruled_crossbeam_utils.the_send, unruled_crossbeam_utils.the_field_sync, unruled_crossbeam_utils.the_sync, parker_crossbeam_utils.the_field_send, ruledunparker_crossbeam_utils.the_field_send, ruledunparker_crossbeam_utils.the_send, ruledunparker_crossbeam_utils.the_field_sync, ruledunparker_crossbeam_utils.the_sync, signals_crossbeam_utils.the_field_send, signals_crossbeam_utils.the_send, signals_crossbeam_utils.the_field_sync, signals_crossbeam_utils.the_sync, table_atomic_table.the_field_send, table_atomic_table.the_send, table_atomic_table.the_field_sync, table_atomic_table.the_sync, seat_atomic_table.the_send, shared_atomic_table.the_send, shared_atomic_table.the_sync, crossing_fan_base.Parcel-send, crossing_fan_base.Parcels-send, exec_fan_base.the_field_send, exec_fan_base.the_send, exec_fan_base.the_field_sync, exec_fan_base.the_sync, joined_keep_alive.the_send, keep_keep_alive.the_send, owner_keep_alive.the_send, nodes_std.the_send, nodes_std.the_sync, global_std.the_field_send, global_std.the_send, global_std.the_field_sync, global_std.the_sync, linkedlist_std.the_send, linkedlist_std.the_sync, phantomdata_std.the_field_send, phantomdata_std.the_send, phantomdata_std.the_field_sync, phantomdata_std.the_sync, manuallydrop_std.the_field_send, manuallydrop_std.the_send, option_std.the_field_send, option_std.the_send, mark_task_queue.the_send, mark_task_queue.the_sync, openseat_task_queue.the_send, watch_task_queue.the_send, place_prio_pool.the_send, record_prio_pool.the_send, runs_prio_pool.the_send, sleepers_prio_pool.the_field_send, sleepers_prio_pool.the_send, sleepers_prio_pool.the_field_sync, sleepers_prio_pool.the_sync, crossing_task_queue.Queued-send, crossing_task_queue.Adder-send, crossing_task_queue.Taker-send, crossing_task_queue.Gathered-send, crossing_task_queue.Looks-send, crosses, sendable)
+ruleset all = (unruled_crossbeam_utils.the_field_send, unruled_crossbeam_utils.the_send, unruled_crossbeam_utils.the_field_sync, unruled_crossbeam_utils.the_sync, parker_crossbeam_utils.the_field_send, ruledunparker_crossbeam_utils.the_field_send, ruledunparker_crossbeam_utils.the_send, ruledunparker_crossbeam_utils.the_field_sync, ruledunparker_crossbeam_utils.the_sync, signals_crossbeam_utils.the_field_send, signals_crossbeam_utils.the_send, signals_crossbeam_utils.the_field_sync, signals_crossbeam_utils.the_sync, table_atomic_table.the_field_send, table_atomic_table.the_send, table_atomic_table.the_field_sync, table_atomic_table.the_sync, seat_atomic_table.the_send, shared_atomic_table.the_send, shared_atomic_table.the_sync, exec_fan_base.the_field_send, exec_fan_base.the_send, exec_fan_base.the_field_sync, exec_fan_base.the_sync, joined_keep_alive.the_send, keep_keep_alive.the_send, owner_keep_alive.the_send, nodes_std.the_send, nodes_std.the_sync, global_std.the_field_send, global_std.the_send, global_std.the_field_sync, global_std.the_sync, linkedlist_std.the_send, linkedlist_std.the_sync, phantomdata_std.the_field_send, phantomdata_std.the_send, phantomdata_std.the_field_sync, phantomdata_std.the_sync, manuallydrop_std.the_field_send, manuallydrop_std.the_send, option_std.the_field_send, option_std.the_send, mark_task_queue.the_send, mark_task_queue.the_sync, openseat_task_queue.the_send, watch_task_queue.the_send, place_prio_pool.the_send, record_prio_pool.the_send, runs_prio_pool.the_send, sleepers_prio_pool.the_field_send, sleepers_prio_pool.the_send, sleepers_prio_pool.the_field_sync, sleepers_prio_pool.the_sync, crossing_task_queue.Queued-send, crossing_task_queue.Packets-send, crossing_task_queue.Adder-send, crossing_task_queue.Taker-send, crossing_task_queue.Gathered-send, crossing_task_queue.Looks-send, crosses, sendable)
 
 Placed-send : (J : RattleType) → IsSend J → IsSend (placed.the_row J)
 Placed-send J s = recorded_send (placed.the_field J).row _ _ (placed.the_type J).to_one (struct_send (shape (placed.the_type J)) (search all depth 60 fits 20000, (search all depth 60 fits 20000, tt)))

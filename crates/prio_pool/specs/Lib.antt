@@ -1,5 +1,6 @@
 pub mod Priority
 pub mod Sleeping
+pub mod Recorded
 pub mod Running
 pub mod Adders
 pub mod Takers

@@ -9,19 +9,19 @@ use crate::gather::{gather_adders, put_adders};
 use crate::make::Queues;
 use crate::placed::Placed;
 use crate::sleepers::Call;
-use fan_base::{Parcels, Refused};
+use fan_base::Refused;
 use job_trait::Headed;
 use pool_model::Ticket;
 use std::marker::Model;
 use std::snapshot::Snapshot;
 use std::sync::Wait;
-use task_queue::{Adder, EndMark, Gathered, Queued, TaskQueue};
+use task_queue::{Adder, EndMark, Gathered, Packets, Queued, TaskQueue};
 
 /// The room for what a pool's end puts together and takes out of the queues, one place a queue.
 #[derive(Drop)]
 pub struct Room<J> {
     pub gathered: Vec<Gathered<Placed<J>>>,
-    pub rests: Vec<Parcels<Queued<Placed<J>>>>,
+    pub rests: Vec<Packets<Queued<Placed<J>>>>,
 }
 
 /// An adder's pass of each queue, from the lowest, and how many adds it made. Contracts see what it pushed on each queue.
@@ -123,7 +123,7 @@ impl<J: Headed> Adders<J> {
     pub fn gather(
         self,
         queues: &Queues<J>,
-    ) -> (Vec<Gathered<Placed<J>>>, Vec<Parcels<Queued<Placed<J>>>>)
+    ) -> (Vec<Gathered<Placed<J>>>, Vec<Packets<Queued<Placed<J>>>>)
         requires queues { self.pool.queues ≡ queues.now.items }
         ensures gathered { result.0.items ≡ gathered_from self.pool.passes (self ∷ []) [] 0 queues.now.items }
         ensures room { (result.1.items ≡ []) × (length queues.now.items ≤ vec_capacity result.1) }

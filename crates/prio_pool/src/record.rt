@@ -8,33 +8,43 @@ use std::collections::LinkedList;
 use std::marker::Model;
 
 /// That a task of the pool was run once, and what came of it. Only a run of the job makes one that can be had.
+// The parts of ticket and mark lie one by one: 40 bytes in place of 48 for each task, which the pool keeps to its end.
 #[derive(Debug, Drop)]
 pub struct RunRecord {
-    ticket: Ticket,
+    index: u64,
+    job: JobId,
+    number: u64,
+    adder: u32,
     queue: u32,
     exec: ExecId,
-    job: JobId,
-    mark: Mark,
+    is_done: bool,
 }
 
 impl Model for RunRecord {
     ghost use Rattle.pool_model.specs.Records.{Record};
+    ghost use Rattle.prio_pool.specs.Recorded.{mark_in};
 
     ghost Value = { Record };
 
-    ghost view = { λ r. record { ticket = r.ticket; queue = r.queue; exec = r.exec; job = r.job; mark = r.mark } };
+    ghost view = { λ r. record { ticket = record { adder = r.adder; index = r.index }; queue = r.queue; exec = r.exec; job = r.job; mark = mark_in r.is_done r.number } };
 }
 
 impl RunRecord {
     pub(crate) fn new(ticket: Ticket, queue: u32, exec: ExecId, job: JobId, mark: Mark) -> RunRecord
         ensures { result ≡ record { ticket = ticket; queue = queue; exec = exec; job = job; mark = mark } }
     {
+        let (is_done, number) = match mark {
+            Mark::Done(number) => (true, number),
+            Mark::Memory => (false, 0),
+        };
         RunRecord {
-            ticket,
+            index: ticket.index,
+            job,
+            number,
+            adder: ticket.adder,
             queue,
             exec,
-            job,
-            mark,
+            is_done,
         }
     }
 
@@ -42,7 +52,10 @@ impl RunRecord {
     pub fn ticket(&self) -> Ticket
         ensures { result ≡ self.now.ticket }
     {
-        self.ticket
+        Ticket {
+            adder: self.adder,
+            index: self.index,
+        }
     }
 
     /// The queue that the task stood in.
@@ -70,7 +83,11 @@ impl RunRecord {
     pub fn mark(&self) -> Mark
         ensures { result ≡ self.now.mark }
     {
-        self.mark
+        if self.is_done {
+            Mark::Done(self.number)
+        } else {
+            Mark::Memory
+        }
     }
 }
 

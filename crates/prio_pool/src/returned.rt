@@ -150,8 +150,8 @@ fn take_first<J>(rests: &mut Vec<Rest<J>>, number: usize) -> Option<Queued<Place
     requires { number < length rests.old.items }
     ensures { FirstTaken rests.old.items number result rests.new.items }
 {
-    let Some(parcel) = rests[number].pop_front() else {
+    let Some(task) = rests[number].pop_front() else {
         return None;
     };
-    Some(parcel.open())
+    Some(task)
 }

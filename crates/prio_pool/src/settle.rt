@@ -4,13 +4,12 @@ ghost use Rattle.prio_pool.specs.Gathering.{AllSettled, IsWhole};
 
 use crate::make::Queues;
 use crate::placed::Placed;
-use fan_base::Parcels;
 use job_trait::Headed;
 use std::sync::Wait;
-use task_queue::{Gathered, Queued};
+use task_queue::{Gathered, Packets, Queued};
 
 /// What waits of one queue.
-pub type Rest<J> = Parcels<Queued<Placed<J>>>;
+pub type Rest<J> = Packets<Queued<Placed<J>>>;
 
 /// Ends each queue, all of whose passes were put together, and gives what is left of each, from the lowest.
 pub fn settle_all<J: Headed, R: Wait>(

@@ -4,7 +4,6 @@ use denote.Param.Send.{IsSend, IsSync, view_send, view_sync, recorded_send, reco
 use denote.Struct.Declared.{shape}
 use Rattle.std.proofs.Crossing.{crosses}
 use Rattle.job_trait.specs.declared.job.Headed.{Ghosts}
-use Rattle.fan_base.proofs.Crossing as crossing_fan_base
 use Rattle.atomic_blocks.proofs.block.Link.TheSendSync as link_atomic_blocks
 use Rattle.atomic_blocks.proofs.web.Seat.TheSendSync as seat_atomic_blocks
 use Rattle.atomic_blocks.proofs.web.Web.TheSendSync as web_atomic_blocks
@@ -12,6 +11,10 @@ use Rattle.atomic_table.proofs.owned.Table.TheSendSync as table_atomic_table
 use Rattle.atomic_table.proofs.send_lease.SendLease.TheSendSync as sendlease_atomic_table
 use Rattle.atomic_table.proofs.shared.Seat.TheSendSync as seat_atomic_table
 use Rattle.atomic_table.proofs.shared.Shared.TheSendSync as shared_atomic_table
+use Rattle.crossbeam_queue.proofs.array_queue.Slotted.TheSendSync as slotted_crossbeam_queue
+use Rattle.crossbeam_queue.proofs.array_queue.Turns.TheSendSync as turns_crossbeam_queue
+use Rattle.crossbeam_queue.proofs.array_queue.plain.ArrayQueue.TheSendSync as array_crossbeam_queue
+use Rattle.crossbeam_queue.proofs.protocol.Free.TheSendSync as free_crossbeam_queue
 use Rattle.crossbeam_queue.proofs.seg_queue.Chained.TheSendSync as chained_crossbeam_queue
 use Rattle.crossbeam_queue.proofs.seg_queue.Ends.TheSendSync as ends_crossbeam_queue
 use Rattle.crossbeam_queue.proofs.seg_queue.Laps.TheSendSync as laps_crossbeam_queue
@@ -25,6 +28,11 @@ use Rattle.std.proofs.marker.PhantomData.TheSendSync as phantomdata_std
 use Rattle.std.proofs.mem.ManuallyDrop.TheSendSync as manuallydrop_std
 use Rattle.std.proofs.option.Option.TheSendSync as option_std
 use Rattle.std.proofs.rt.Memory.TheSendSync as memory_std
+use Rattle.task_queue.proofs.packet.block.Blocks.TheLaws.TheKnot as knot
+use Rattle.task_queue.specs.contracts.packet.Packet as packet
+use Rattle.task_queue.specs.contracts.packet.Packets as packets
+use Rattle.task_queue.specs.contracts.packet.block.Block as block
+use Rattle.task_queue.specs.contracts.packet.block.Blocks as blocks
 use Rattle.task_queue.specs.contracts.passes.Adder as adder
 use Rattle.task_queue.specs.contracts.passes.Adder.TheInside as of_adder
 use Rattle.task_queue.specs.contracts.passes.Taker as taker
@@ -38,19 +46,33 @@ use Rattle.task_queue.proofs.trail.Trail.TheSendSync as trail_task_queue
 use Rattle.task_queue.specs.contracts.queue.TaskQueue as queue
 use Rattle.task_queue.specs.contracts.queue.TaskQueue.TheInside as of_queue
 
-ruleset all = (link_atomic_blocks.the_field_send, link_atomic_blocks.the_send, link_atomic_blocks.the_field_sync, link_atomic_blocks.the_sync, seat_atomic_blocks.the_send, web_atomic_blocks.the_send, web_atomic_blocks.the_sync, table_atomic_table.the_field_send, table_atomic_table.the_send, table_atomic_table.the_field_sync, table_atomic_table.the_sync, sendlease_atomic_table.the_send, sendlease_atomic_table.the_sync, seat_atomic_table.the_send, shared_atomic_table.the_send, shared_atomic_table.the_sync, phantomdata_std.the_field_send, phantomdata_std.the_send, phantomdata_std.the_field_sync, phantomdata_std.the_sync, manuallydrop_std.the_field_send, manuallydrop_std.the_send, manuallydrop_std.the_field_sync, manuallydrop_std.the_sync, option_std.the_field_send, option_std.the_send, option_std.the_field_sync, option_std.the_sync, memory_std.the_field_send, memory_std.the_send, memory_std.the_field_sync, memory_std.the_sync, chained_crossbeam_queue.the_send, chained_crossbeam_queue.the_sync, ends_crossbeam_queue.the_field_send, ends_crossbeam_queue.the_send, ends_crossbeam_queue.the_field_sync, ends_crossbeam_queue.the_sync, laps_crossbeam_queue.the_field_send, laps_crossbeam_queue.the_send, laps_crossbeam_queue.the_field_sync, laps_crossbeam_queue.the_sync, stage_crossbeam_queue.the_field_send, stage_crossbeam_queue.the_send, stage_crossbeam_queue.the_field_sync, stage_crossbeam_queue.the_sync, box_std.the_send, box_std.the_sync, linkedlist_std.the_send, linkedlist_std.the_sync, nodes_std.the_send, nodes_std.the_sync, global_std.the_field_send, global_std.the_send, global_std.the_field_sync, global_std.the_sync, ticket_pool_model.the_field_send, ticket_pool_model.the_send, ticket_pool_model.the_field_sync, ticket_pool_model.the_sync, crossing_fan_base.Parcel-send, crosses, sendable)
+ruleset parts = (manuallydrop_std.the_field_send, manuallydrop_std.the_send, option_std.the_field_send, option_std.the_send, memory_std.the_field_send, memory_std.the_send, global_std.the_field_send, global_std.the_send, box_std.the_send, crosses, knot.crosses, sendable)
+
+Block_send : (X : RattleType) → IsSend X → IsSend (block.the_row X)
+Block_send X item = search parts depth 60 fits 20000
+
+Blocks_send : (X : RattleType) → IsSend X → IsSend (blocks.the_row X)
+Blocks_send X item = search parts depth 60 fits 20000
+
+Packet_send : (X : RattleType) → IsSend X → IsSend (packet.the_row X)
+Packet_send X item = search (Block_send, parts) depth 60 fits 20000
+
+pub Packets-send : (X : RattleType) → IsSend X → IsSend (packets.the_row X)
+Packets-send X item = search (Blocks_send, parts) depth 60 fits 20000
+
+ruleset all = (link_atomic_blocks.the_field_send, link_atomic_blocks.the_send, link_atomic_blocks.the_field_sync, link_atomic_blocks.the_sync, seat_atomic_blocks.the_send, web_atomic_blocks.the_send, web_atomic_blocks.the_sync, table_atomic_table.the_field_send, table_atomic_table.the_send, table_atomic_table.the_field_sync, table_atomic_table.the_sync, sendlease_atomic_table.the_send, sendlease_atomic_table.the_sync, seat_atomic_table.the_send, shared_atomic_table.the_send, shared_atomic_table.the_sync, phantomdata_std.the_field_send, phantomdata_std.the_send, phantomdata_std.the_field_sync, phantomdata_std.the_sync, manuallydrop_std.the_field_send, manuallydrop_std.the_send, manuallydrop_std.the_field_sync, manuallydrop_std.the_sync, option_std.the_field_send, option_std.the_send, option_std.the_field_sync, option_std.the_sync, memory_std.the_field_send, memory_std.the_send, memory_std.the_field_sync, memory_std.the_sync, chained_crossbeam_queue.the_send, chained_crossbeam_queue.the_sync, ends_crossbeam_queue.the_field_send, ends_crossbeam_queue.the_send, ends_crossbeam_queue.the_field_sync, ends_crossbeam_queue.the_sync, laps_crossbeam_queue.the_field_send, laps_crossbeam_queue.the_send, laps_crossbeam_queue.the_field_sync, laps_crossbeam_queue.the_sync, stage_crossbeam_queue.the_field_send, stage_crossbeam_queue.the_send, stage_crossbeam_queue.the_field_sync, stage_crossbeam_queue.the_sync, box_std.the_send, box_std.the_sync, linkedlist_std.the_send, linkedlist_std.the_sync, nodes_std.the_send, nodes_std.the_sync, global_std.the_field_send, global_std.the_send, global_std.the_field_sync, global_std.the_sync, ticket_pool_model.the_field_send, ticket_pool_model.the_send, ticket_pool_model.the_field_sync, ticket_pool_model.the_sync, Block_send, Blocks_send, Packet_send, slotted_crossbeam_queue.the_send, slotted_crossbeam_queue.the_sync, array_crossbeam_queue.the_send, array_crossbeam_queue.the_sync, array_crossbeam_queue.the_field_send, array_crossbeam_queue.the_field_sync, turns_crossbeam_queue.the_send, turns_crossbeam_queue.the_sync, free_crossbeam_queue.the_send, free_crossbeam_queue.the_sync, crosses, sendable)
 
 pub Queued-send : (J : RattleType) → IsSend J → IsSend (queued.the_row J)
 Queued-send J s = recorded_send (queued.the_field J).row _ _ (queued.the_type J).to_one (struct_send (shape (queued.the_type J)) (search all depth 60 fits 20000, (search all depth 60 fits 20000, tt)))
 
 adder_inside : (J : RattleType) → IsSend J → IsSend (of_adder.the_row J)
-adder_inside J s = recorded_send (of_adder.the_field J).row _ _ (of_adder.the_type J).to_one (struct_send (shape (of_adder.the_type J)) (search (Queued-send, all) depth 60 fits 20000, tt))
+adder_inside J s = recorded_send (of_adder.the_field J).row _ _ (of_adder.the_type J).to_one (struct_send (shape (of_adder.the_type J)) (search (Queued-send, all) depth 60 fits 20000, (search (Queued-send, all) depth 60 fits 20000, tt)))
 
 pub Adder-send : (J : RattleType) → IsSend J → IsSend (adder.the_row J)
 Adder-send J s = view_send (of_adder.the_row J) _ _ _ _ (adder_inside J s)
 
 taker_inside : (J : RattleType) → IsSend J → IsSend (of_taker.the_row J)
-taker_inside J s = recorded_send (of_taker.the_field J).row _ _ (of_taker.the_type J).to_one (struct_send (shape (of_taker.the_type J)) (search (Queued-send, all) depth 60 fits 20000, tt))
+taker_inside J s = recorded_send (of_taker.the_field J).row _ _ (of_taker.the_type J).to_one (struct_send (shape (of_taker.the_type J)) (search (Queued-send, all) depth 60 fits 20000, (search (Queued-send, all) depth 60 fits 20000, (search all depth 60 fits 20000, tt))))
 
 pub Taker-send : (J : RattleType) → IsSend J → IsSend (taker.the_row J)
 Taker-send J s = view_send (of_taker.the_row J) _ _ _ _ (taker_inside J s)

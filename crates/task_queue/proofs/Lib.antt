@@ -1,3 +1,4 @@
+pub mod Strings
 pub mod Lists
 pub mod Orders
 pub mod Tickets

@@ -10,10 +10,11 @@
 //!   Adder, Adder, .. Taker, Taker  -- gather, put_adder, put_taker --> Gathered -- settle --> what is left
 //! ```
 //!
-//! - A pass has no bytes. Contracts see what it pushed or popped, which only its own steps on the queue change.
+//! - Contracts see of a pass what it pushed or popped, which only its own steps on the queue change.
 //! - Between any two steps there is one lawful history (`PoolHistory` of `pool_model`): each adder's pushes are what it accepted
 //!   by that adder, each taker's pops what it has taken by that taker, and what waits is what the queue holds.
-//! - `settle` asks for all passes, and hands out what is left, in order, with the one whole history (`Settled`).
+//! - `settle` asks for all passes, and hands out what is left, in order, with the one whole history (`Settled`). It takes no
+//!   memory: a task lies in the queue's own slot, and an empty block for it travels beside it, which the takers give back.
 //! - Each look, at a queue or at the mark, is noted in order (`Looks`), with what it found, and nothing else makes that list
 //!   longer. So contracts above can say that a queue was found empty within a call, or behind another look.
 //! - While no end has begun the adders have all parts of the mark. `begin` needs them all and spends them, so whoever found an
@@ -23,9 +24,11 @@
 
 mod looks;
 mod mark;
+mod packet;
 mod passes;
 mod queue;
 mod rule;
+mod spares;
 mod steps;
 #[cfg(test)]
 mod tests;
@@ -34,6 +37,7 @@ mod view;
 
 pub use looks::Looks;
 pub use mark::{EndMark, KeptMark, OpenSeat, Watch};
+pub use packet::Packets;
 pub use passes::{Adder, Gathered, Maker, Taker};
 pub use queue::TaskQueue;
 pub use rule::Queued;

@@ -5,10 +5,10 @@ ghost use Rattle.task_queue.specs.Looks.{look_of, pop_seen};
 ghost use Rattle.task_queue.specs.Steps.{Popped, MayPop};
 
 use crate::mark::Watch;
+use crate::packet::Packet;
 use crate::rule::{Line, Pass, Queued};
 use crate::steps::Pop;
 use crate::trail::Trail;
-use fan_base::Parcel;
 use job_trait::Headed;
 use std::marker::Model;
 use std::snapshot::Snapshot;
@@ -68,7 +68,7 @@ pub(crate) fn pop<J: Headed, R: Wait>(
     pass: &mut Pass<J>,
     place: u32,
     looks: &mut Looks<J>,
-) -> Option<Parcel<Queued<J>>>
+) -> Option<Packet<Queued<J>>>
     requires pass { IsSegPassOf line.now pass.old }
     requires may { MayPop pass.old.me.view.client }
     ensures pass { IsSegPassOf line.now pass.new }
@@ -78,9 +78,9 @@ pub(crate) fn pop<J: Headed, R: Wait>(
     let popped = line.pop_as::<Pop, R>(rt, pass);
     let after = Snapshot::of(&*pass);
     match popped {
-        Some(parcel) => {
+        Some(packet) => {
             looks.note(Noted::Took(place, after));
-            Some(parcel)
+            Some(packet)
         }
         None => {
             looks.note(Noted::FoundEmpty(place, after));

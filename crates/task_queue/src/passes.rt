@@ -1,5 +1,6 @@
 // The passes of a queue.
-use crate::rule::Pass;
+use crate::packet::Blocks;
+use crate::rule::{Pass, Queued};
 use std::marker::Model;
 
 /// The right to make the other passes of a queue. Contracts see its queue, how many passes there are to be in all, how many of
@@ -24,6 +25,7 @@ impl<J> Model for Maker<J> {
 #[derive(Drop)]
 pub struct Adder<J> {
     pub(crate) pass: Pass<J>,
+    pub(crate) spares: Blocks<Queued<J>>,
 }
 
 impl<J> Model for Adder<J> {
@@ -42,6 +44,8 @@ impl<J> Model for Adder<J> {
 #[derive(Drop)]
 pub struct Taker<J> {
     pub(crate) pass: Pass<J>,
+    pub(crate) spares: Blocks<Queued<J>>,
+    pub(crate) kept: u32,
 }
 
 impl<J> Model for Taker<J> {

@@ -8,10 +8,12 @@ ghost use Rattle.task_queue.specs.Settled.{Settled, Drained, IsAll, TakeTold};
 ghost use Rattle.pool_model.specs.Tickets.{Ascend, tickets_of};
 
 use crate::looks::{Looks, pop};
+use crate::packet::{Blocks, Packet, Packets};
 use crate::passes::{Adder, Gathered, Maker, Taker};
 use crate::rule::{Line, Pass, Queued};
+use crate::spares::Spares;
 use crate::steps::{Count, Gather, MakeAdder, MakeTaker, Push, PutAdder, PutTaker};
-use fan_base::{Memory, Parcel, Parcels, Refused};
+use fan_base::{Memory, Refused};
 use job_trait::Headed;
 use std::alloc::Global;
 use std::marker::Model;
@@ -20,7 +22,7 @@ use std::sync::Wait;
 /// One queue of a pool. Contracts see which queue it is.
 pub struct TaskQueue<J: Headed> {
     line: Line<J>,
-    alloc: Global,
+    spares: Spares<Queued<J>>,
 }
 
 impl<J: Headed> Model for TaskQueue<J> {
@@ -34,7 +36,7 @@ impl<J: Headed> Model for TaskQueue<J> {
 
 impl<J: Headed> Drop for TaskQueue<J> {
     fn drop(self) {
-        let TaskQueue { line, alloc: _ } = self;
+        let TaskQueue { line, spares: _ } = self;
         line.destroy();
     }
 }
@@ -44,11 +46,12 @@ impl<J: Headed> TaskQueue<J> {
     pub fn new(alloc: Global, passes: u32) -> Result<(TaskQueue<J>, Maker<J>), Memory>
         ensures { IfOk result (λ r. r.1 ≡ record { queue = r.0; passes = passes; left = passes; adders = 0; takers = 0 }) }
     {
+        let spares = Spares::new(alloc)?;
         let (line, mut pass) = Line::with_rule(alloc)?;
         for _ in 0..passes {
             let _ = line.another::<Count>(&mut pass);
         }
-        Ok((TaskQueue { line, alloc }, Maker { pass }))
+        Ok((TaskQueue { line, spares }, Maker { pass }))
     }
 
     /// The pass of the next adder, which has pushed nothing.
@@ -61,6 +64,7 @@ impl<J: Headed> TaskQueue<J> {
     {
         Adder {
             pass: self.line.another::<MakeAdder>(&mut maker.pass),
+            spares: Blocks::new(),
         }
     }
 
@@ -73,6 +77,8 @@ impl<J: Headed> TaskQueue<J> {
     {
         Taker {
             pass: self.line.another::<MakeTaker>(&mut maker.pass),
+            spares: Blocks::new(),
+            kept: 0,
         }
     }
 
@@ -91,10 +97,13 @@ impl<J: Headed> TaskQueue<J> {
         ensures ok { OnOk result (adder.new ≡ record adder.old { pushed = adder.old.pushed ++ entry_of J.head task ∷ [] }) }
         ensures refused { IfErr result (λ back. (back ≡ Refused.Memory task) × (adder.new ≡ adder.old)) }
     {
-        let parcel = Parcel::new(self.alloc, task)?;
-        match self.line.push_as::<Push, R>(rt, &mut adder.pass, parcel) {
+        let Some(block) = self.spares.next(rt, &mut adder.spares) else {
+            return Err(Refused::Memory(task));
+        };
+        let packet = Packet::new(task, block);
+        match self.line.push_as::<Push, R>(rt, &mut adder.pass, packet) {
             Ok(()) => Ok(()),
-            Err(parcel) => Err(Refused::Memory(parcel.open())),
+            Err(packet) => Err(Refused::Memory(packet.open().0)),
         }
     }
 
@@ -113,10 +122,11 @@ impl<J: Headed> TaskQueue<J> {
         ensures ascend { Ascend (tickets_of taker.new.popped) }
         ensures short { length taker.new.popped ≤ 274877906944 }
     {
-        match pop(&self.line, rt, &mut taker.pass, place, looks) {
-            Some(parcel) => Some(parcel.open()),
-            None => None,
-        }
+        let packet = pop(&self.line, rt, &mut taker.pass, place, looks)?;
+        let (task, block) = packet.open();
+        self.spares
+            .keep(rt, &mut taker.spares, &mut taker.kept, block);
+        Some(task)
     }
 
     /// Begins to put the passes of the queue together, with an adder.
@@ -124,7 +134,10 @@ impl<J: Headed> TaskQueue<J> {
         requires queue { adder.queue ≡ self.now }
         ensures { result ≡ record { queue = self.now; passes = adder.passes; here = 1; added = share adder.number adder.pushed ∷ []; taken = [] } }
     {
-        let Adder { mut pass } = adder;
+        let Adder {
+            mut pass,
+            spares: _,
+        } = adder;
         let _ = self.line.another::<Gather>(&mut pass);
         Gathered { pass }
     }
@@ -134,7 +147,7 @@ impl<J: Headed> TaskQueue<J> {
         requires queue { (gathered.old.queue ≡ self.now) × (adder.queue ≡ self.now) }
         ensures { gathered.new ≡ and_adder gathered.old adder }
     {
-        let Adder { pass } = adder;
+        let Adder { pass, spares: _ } = adder;
         self.line.absorb::<PutAdder>(&mut gathered.pass, pass);
     }
 
@@ -143,12 +156,16 @@ impl<J: Headed> TaskQueue<J> {
         requires queue { (gathered.old.queue ≡ self.now) × (taker.queue ≡ self.now) }
         ensures { gathered.new ≡ and_taker gathered.old taker }
     {
-        let Taker { pass } = taker;
+        let Taker {
+            pass,
+            spares: _,
+            kept: _,
+        } = taker;
         self.line.absorb::<PutTaker>(&mut gathered.pass, pass);
     }
 
     /// Ends the queue, all of whose passes were put together: takes out what is left, in order.
-    pub fn settle<R: Wait>(self, rt: &R, gathered: Gathered<J>) -> Parcels<Queued<J>>
+    pub fn settle<R: Wait>(self, rt: &R, gathered: Gathered<J>) -> Packets<Queued<J>>
         requires queue { gathered.queue ≡ self }
         requires all { gathered.here ≡ gathered.passes }
         ensures { Settled gathered (map (entry_of J.head) result) }
@@ -159,17 +176,17 @@ impl<J: Headed> TaskQueue<J> {
 }
 
 // Pops all that is left, in order.
-fn drain<J: Headed, R: Wait>(line: &Line<J>, rt: &R, pass: &mut Pass<J>) -> Parcels<Queued<J>>
+fn drain<J: Headed, R: Wait>(line: &Line<J>, rt: &R, pass: &mut Pass<J>) -> Packets<Queued<J>>
     requires pass { IsSegPassOf line.now pass.old }
     requires whole { IsAll pass.old.me.view.client }
     ensures { Drained pass.old.me.view.client (map (entry_of J.head) result) }
 {
-    let mut parcels = Parcels::new();
+    let mut packets = Packets::new();
     let mut looks = Looks::new();
     for _ in rt.forever() {
         match pop(line, rt, pass, 0, &mut looks) {
-            Some(parcel) => parcels.push_front(parcel),
-            None => return parcels.reversed(),
+            Some(packet) => packets.push_front(packet),
+            None => return packets.reversed(),
         }
     }
     unreachable!()

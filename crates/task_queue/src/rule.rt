@@ -1,8 +1,8 @@
 // The rule of the queue.
+use crate::packet::Packet;
 use crate::view::View;
 use crossbeam_queue::protocol::Protocol;
 use crossbeam_queue::{RuledSegQueue, SegPass};
-use fan_base::Parcel;
 use job_trait::Headed;
 use pool_model::Ticket;
 use std::marker::PhantomData;
@@ -19,7 +19,7 @@ pub struct QueueRule<J> {
     jobs: PhantomData<J>,
 }
 
-impl<J: Headed> Protocol<Parcel<Queued<J>>, View> for QueueRule<J> {
+impl<J: Headed> Protocol<Packet<Queued<J>>, View> for QueueRule<J> {
     ghost use Rattle.task_queue.specs.Rule.{QueueHolds};
     ghost use Rattle.task_queue.specs.Views.{making};
 
@@ -28,6 +28,6 @@ impl<J: Headed> Protocol<Parcel<Queued<J>>, View> for QueueRule<J> {
     ghost first = { making 0 0 0 0 };
 }
 
-pub type Line<J> = RuledSegQueue<Parcel<Queued<J>>, View, QueueRule<J>>;
+pub type Line<J> = RuledSegQueue<Packet<Queued<J>>, View, QueueRule<J>>;
 
-pub type Pass<J> = SegPass<Parcel<Queued<J>>, View>;
+pub type Pass<J> = SegPass<Packet<Queued<J>>, View>;

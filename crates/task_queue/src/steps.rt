@@ -1,8 +1,8 @@
 // The kinds of step on the queue, and what each tells.
+use crate::packet::Packet;
 use crate::rule::Queued;
 use crate::view::View;
 use crossbeam_queue::protocol::{Join, Lesson, Outcome, Split};
-use fan_base::Parcel;
 use job_trait::Headed;
 
 /// The maker counts one pass more.
@@ -44,7 +44,7 @@ impl Split<View> for MakeTaker {
 /// An adder pushes a task.
 pub struct Push;
 
-impl<J: Headed> Outcome<Parcel<Queued<J>>, View> for Push {
+impl<J: Headed> Outcome<Packet<Queued<J>>, View> for Push {
     ghost use Rattle.std.specs.Prelude.{◌≡◌, ◌++◌, ◌∷◌, []};
     ghost use Rattle.task_queue.specs.Views.{adding, entry_of};
 
@@ -54,13 +54,13 @@ impl<J: Headed> Outcome<Parcel<Queued<J>>, View> for Push {
 /// A taker, or the gathered pass that is whole, pops a task or finds none.
 pub struct Pop;
 
-impl<J: Headed> Outcome<Parcel<Queued<J>>, View> for Pop {
+impl<J: Headed> Outcome<Packet<Queued<J>>, View> for Pop {
     ghost use Rattle.task_queue.specs.Steps.{Took};
 
     ghost then = { Took J.head };
 }
 
-impl<J: Headed> Lesson<Parcel<Queued<J>>, View> for Pop {
+impl<J: Headed> Lesson<Packet<Queued<J>>, View> for Pop {
     ghost use Rattle.task_queue.specs.Steps.{Shows};
 
     ghost fact = { Shows J.head };

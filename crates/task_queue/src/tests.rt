@@ -2,7 +2,7 @@
 ghost use Rattle.std.specs.Prelude.{◌≡◌};
 
 use super::*;
-use fan_base::{ExecId, JobId, Parcels};
+use fan_base::{ExecId, JobId};
 use job_trait::{Head, Headed};
 use keep_alive::KeepOwner;
 use pool_model::{Ending, Ticket};
@@ -45,9 +45,9 @@ fn found(task: Option<Queued<Note>>) -> u64 {
     }
 }
 
-fn next(left: &mut Parcels<Queued<Note>>) -> u64 {
+fn next(left: &mut Packets<Queued<Note>>) -> u64 {
     match left.pop_front() {
-        Some(parcel) => parcel.open().job.0.id.0,
+        Some(task) => task.job.0.id.0,
         None => 0,
     }
 }

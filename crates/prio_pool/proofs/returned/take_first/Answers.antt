@@ -1,4 +1,4 @@
-use Rattle.std.proofs.Common.{List, ◌∷◌, set, Some, refl, ap, sym, ◌∙◌}
+use Rattle.std.proofs.Common.{List, set, Some, refl, ap, sym, ◌∙◌}
 use Rattle.prio_pool.proofs.Mixing.{at_index}
 use Rattle.prio_pool.proofs.Taking.{set_same}
 use Rattle.prio_pool.proofs.returned.take_first.Goals as goal
@@ -19,4 +19,4 @@ returns g c =
     let r = c.index_mut.result.now in
     let at = at_index old k r c.requires ∙ ap (λ (x : List _). Some x) (sym c.index_mut.ensures.value) in
     let more = c.pop_front.new.self in
-    (more, at ∙ (ap (λ (x : List _). Some x) c.in-Some.ensures ∙ ap (λ (x : _). Some (x ∷ more)) (sym c.open.ensures)), refl)
+    (more, at ∙ ap (λ (x : List _). Some x) c.in-Some.ensures, refl)
