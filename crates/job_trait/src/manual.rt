@@ -14,15 +14,18 @@ use std::sync::Wait;
 #[derive(Drop)]
 pub struct ManualExecutor<J> {
     exec: ExecId,
+    // The oldest job, where it came while no other was held: it takes no memory.
+    first: Option<J>,
     jobs: VecDeque<J>,
 }
 
 impl<J> Model for ManualExecutor<J> {
+    ghost use Rattle.std.specs.Prelude.{◌++◌, option_to_list};
     ghost use Rattle.job_trait.specs.Manual.{Held};
 
     ghost Value = { Held J };
 
-    ghost view = { λ e. record { exec = e.exec; jobs = e.jobs.items } };
+    ghost view = { λ e. record { exec = e.exec; jobs = option_to_list e.first ++ e.jobs.items } };
 }
 
 impl<J> ManualExecutor<J> {
@@ -32,6 +35,7 @@ impl<J> ManualExecutor<J> {
     {
         ManualExecutor {
             exec,
+            first: None,
             jobs: VecDeque::new(alloc),
         }
     }
@@ -41,14 +45,32 @@ impl<J> ManualExecutor<J> {
         ensures oldest { MatchOption result (self.old.jobs ≡ []) (λ job. self.old.jobs ≡ job ∷ self.new.jobs) }
         ensures none { MatchOption result (self.new ≡ self.old) (λ _. self.new.exec ≡ self.old.exec) }
     {
-        self.jobs.pop_front()
+        match self.first.take() {
+            Some(job) => Some(job),
+            None => self.jobs.pop_front(),
+        }
+    }
+
+    // How many jobs it holds.
+    fn count(&self) -> usize
+        ensures { result ≡ length self.now.jobs }
+    {
+        match &self.first {
+            Some(_) => 1 + self.jobs.len(),
+            None => self.jobs.len(),
+        }
     }
 
     /// Ends an executor that holds no job. It is for jobs that may not be dropped.
     pub fn close(self)
         requires { self.jobs ≡ [] }
     {
-        let ManualExecutor { exec: _, jobs } = self;
+        let ManualExecutor {
+            exec: _,
+            first,
+            jobs,
+        } = self;
+        let None = first else { unreachable!() };
         jobs.destroy_empty();
     }
 
@@ -62,7 +84,7 @@ impl<J> ManualExecutor<J> {
     {
         let mut count = 0;
         while count < n {
-            let Some(job) = self.jobs.pop_front() else {
+            let Some(job) = self.take_back() else {
                 break;
             };
             let _mark = job.run(rt, world);
@@ -79,7 +101,7 @@ impl<J> ManualExecutor<J> {
         ensures ran { RunsAll J.runs (map J.head self.old.jobs) world.old world.new }
         ensures left { self.new ≡ record { exec = self.old.exec; jobs = [] } }
     {
-        let all = self.jobs.len();
+        let all = self.count();
         self.run(rt, all, world)
     }
 }
@@ -94,6 +116,11 @@ impl<J: Headed> Executor<J> for ManualExecutor<J> {
     }
 
     fn add<R: Wait>(&mut self, _rt: &R, job: J) -> Result<(), Refused<J>> {
+        if self.count() == 0 {
+            let before = self.first.replace(job);
+            let None = before else { unreachable!() };
+            return Ok(());
+        }
         self.jobs.push_back(job)?;
         Ok(())
     }
