@@ -1,6 +1,7 @@
 //! Promises and futures by hand, each row with what must come of it.
 
-use crate::seen::{Counts, End, Followed, Plain, Seen, World, closed, let_go};
+use crate::dispatched;
+use crate::seen::{Counts, End, Plain, Seen, World, closed, let_go};
 use crate::steps::{Count, Mend, Name, Note};
 use core_proxy::{NoProxy, settle};
 use core_word::{Consumer, Fire, Home, Key, Landed, Tally};
@@ -105,7 +106,7 @@ fn here<'b, R: Wait>(
             true
         }
         Here::Not(fire) => {
-            Followed::follow(fire, rt, alloc, seen);
+            dispatched::noted(rt, alloc, fire, seen);
             false
         }
     }
@@ -144,7 +145,7 @@ fn continued<'a, 'b, 'c, R: Wait>(
             shown.chain = fire.callback().exec();
             match row {
                 Row::Here(on) => shown.ran_here = here(rt, alloc, fire, on, seen),
-                _ => Followed::follow(fire, rt, alloc, seen),
+                Row::Cancelled | Row::Elsewhere(_) => dispatched::noted(rt, alloc, fire, seen),
             }
         }
     }
@@ -256,7 +257,7 @@ fn ensured<'a, 'b, 'c, R: Wait>(
     let after = next.on(7, &mut seen.tally);
     seen.after(rt, alloc, after);
     let after = to.fulfil(Try::Value(2));
-    seen.after(rt, alloc, after);
+    dispatched::counted(rt, alloc, after, seen);
 }
 
 // The same in these homes.
@@ -317,7 +318,7 @@ fn named<'a, 'b, 'i, R: Wait>(
         }
     }
     let after = to.fulfil(Try::Value(1));
-    seen.after(rt, alloc, after);
+    dispatched::named(rt, alloc, after, seen);
     let after = later.fulfil(Try::Value(6));
     seen.after(rt, alloc, after);
 }

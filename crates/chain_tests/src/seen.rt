@@ -210,6 +210,21 @@ where
         Ok(()) => {}
         Err(Refused::Memory(job)) => let_go(job, seen),
     }
+    drained(rt, alloc, executor, seen);
+}
+
+// Runs what an executor has, and follows what fires then.
+pub(crate) fn drained<'d, K, D, Q, R: Wait>(
+    rt: &R,
+    alloc: Global,
+    mut executor: ManualExecutor<ChainJob<'d, u64, K, u64, D, Q>>,
+    seen: &mut Seen,
+)
+where
+    K: Cont<u64, Out = u64, Later = Q> + Drop,
+    Q: Proxy<u64, D>,
+    D: Followed,
+{
     let mut world = World::empty();
     executor.drain(rt, &mut world);
     executor.close();
