@@ -1,8 +1,12 @@
 //! Each caller once, with what must come of it.
 
-use crate::{Deferral, ask_another, double_later, double_value, hand_over, keep};
+use crate::{
+    Deferral, Heard, ask_another, double_later, double_value, gather_two, hand_over, hear_both,
+    interrupt, keep, post_and_tick, run_two,
+};
 use core_word::Tally;
-use fan_base::{ExecId, Try};
+use fan_base::{ExecId, JobId, Try};
+use notify_queue::{Stamp, Stamped};
 use std::test::Fail;
 
 #[test]
@@ -68,5 +72,53 @@ fn deferred_work_without_an_executor_never_runs(rt: HostRuntime) -> Result<(), F
     };
     assert_eq!(rt; given_up, wanted);
     assert_eq!(rt; (tally.made(), tally.handed(), tally.freed()), (2, 1, 2));
+    Ok(())
+}
+
+#[test]
+fn each_senders_messages_come_in_its_order(rt: HostRuntime) -> Result<(), Fail> {
+    let Heard { taken, mut end } = hear_both(&rt, rt.alloc(), (1, 2), (7, 8))?;
+    let message = |sender, index, message| Stamped {
+        stamp: Stamp { sender, index },
+        message,
+    };
+    let expected = [message(0, 0, 1), message(0, 1, 2), message(1, 0, 7)];
+    assert_eq!(rt; taken.as_slice(), expected.as_slice());
+    assert_eq!(rt; (end.put, end.taken), (4, 3));
+    assert_eq!(rt; end.rest.pop(), Some(message(1, 1, 8)));
+    Ok(())
+}
+
+#[test]
+fn a_pool_runs_each_task_once(rt: HostRuntime) -> Result<(), Fail> {
+    let mut count = 0;
+    let mut end = run_two(&rt, rt.alloc(), (-1, 1), &mut count)?;
+    assert_eq!(rt; (end.accepted, count, end.returned.len()), (2, 2, 0));
+    for id in [2, 1] {
+        let record = end.ran.pop().map(|record| record.job());
+        assert_eq!(rt; record, Some(JobId(id)));
+    }
+    Ok(())
+}
+
+#[test]
+fn a_message_runs_before_a_timer(rt: HostRuntime) -> Result<(), Fail> {
+    let looped = post_and_tick(&rt, rt.alloc(), 5, 6)?;
+    assert_eq!(rt; (looped.ran, looped.left), ((5, 6), 0));
+    Ok(())
+}
+
+#[test]
+fn two_outcomes_are_gathered_by_index(rt: HostRuntime) -> Result<(), Fail> {
+    let got = gather_two(rt.alloc(), (Try::Value(1), Try::Broken), 9)?;
+    let outcomes = got.map(|(mut list, end)| (list.pop(), list.pop(), list.pop(), end));
+    let expected = (Some(Try::Value(1)), Some(Try::Broken), None, 9);
+    assert_eq!(rt; outcomes, Some(expected));
+    Ok(())
+}
+
+#[test]
+fn a_raise_calls_the_handler(rt: HostRuntime) -> Result<(), Fail> {
+    assert_eq!(rt; interrupt(rt.alloc(), 3, 4)?, (3, 4));
     Ok(())
 }

@@ -1,0 +1,5 @@
+mod Desks
+mod Ends
+mod Lists
+mod Passes
+mod Rounds
