@@ -9,6 +9,7 @@ use std::test::Fail;
 use std::thread::Threads;
 
 mod gates;
+mod given;
 mod lines;
 mod reports;
 
