@@ -173,6 +173,47 @@ fn joined_runs() -> [ReportRow; 6] {
     ]
 }
 
+/// Delays, a `top` alone, and cancels.
+fn delayed_runs() -> [ReportRow; 5] {
+    [
+        usual_row(
+            "doc 1 a\nafter 2 count a\ncount b\ntick 1\ntick 1\n",
+            "2 count 0\n1 count 1\n",
+            &[(128, 1, &[0, 0, 0, 0]), (64, 1, &[1, 0, 0, 0])],
+            &[4, 4, 2],
+            [10, 10, 0, 10, 8],
+        ),
+        usual_row(
+            "doc 1 a\nafter 256 count a\ntick 255\nafter 1 count a\ntick 1\n",
+            "1 count 1\n2 count 1\n",
+            &[(64, 1, &[1, 0, 0, 0]), (128, 1, &[1, 0, 0, 0])],
+            &[4, 4, 2],
+            [10, 10, 0, 10, 8],
+        ),
+        usual_row(
+            "doc 1 a a\ndoc 2 a\ntop 9 a a\n",
+            "1 top 2: 1=2 2=1\n",
+            &[(64, 1, &[1, 1, 0, 0])],
+            &[4, 0, 1],
+            [6, 5, 1, 6, 4],
+        ),
+        usual_row(
+            "doc 1 a\nafter 2 count a\nafter 2 exists a\ncancel 1\ntick 2\ncancel 2\n",
+            "1 cancelled\n2 exists yes\n",
+            &[(128, 1, &[1, 0, 0, 0])],
+            &[0, 4, 2],
+            [5, 5, 0, 5, 4],
+        ),
+        usual_row(
+            CANCELLED,
+            "1 cancelled\n2 count 0\n",
+            &[(128, 1, &[0, 0, 0, 0])],
+            &[0, 4, 2],
+            [5, 5, 0, 5, 4],
+        ),
+    ]
+}
+
 fn stopped_runs() -> [ReportRow; 6] {
     [
         ReportRow {
@@ -386,6 +427,11 @@ fn check_reports<R: AllocGlobal + Abort + Threads + Wait + Sync>(
 #[test]
 fn joined_runs_report(rt: HostRuntime) -> Result<(), Fail> {
     check_reports(&rt, &joined_runs())
+}
+
+#[test]
+fn delayed_runs_report(rt: HostRuntime) -> Result<(), Fail> {
+    check_reports(&rt, &delayed_runs())
 }
 
 #[test]
