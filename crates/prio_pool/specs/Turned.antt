@@ -22,8 +22,8 @@ pub record WorkedSoFar (queues : ℕ) (steps : List Step) : Type 0 where
   pub list : steps ≡ flat_map (steps_of queues) turns
   pub each : All (GoesOn queues) turns
 
-module _ {W : Type 0} (runs : JobId → W → Mark → W → Type 0) (heeds : Bool) where
-  -- one task ran, and its record stands behind the others; where a stop is heeded, the look found none
+module _ {W : Type 0} (runs : JobId → W → Mark → W → Type 0) (ends_at_stop : Bool) where
+  -- one task ran, and its record stands behind the others; where it is to end at a stop, the look found none
   pub record DidRun (old : TakersSeen) (records : List Record) (w : W) (new : TakersSeen) (more : List Record) (v : W) : Type 0 where
     pub entry : Record
     pub list : more ≡ records ++ entry ∷ []
@@ -33,7 +33,7 @@ module _ {W : Type 0} (runs : JobId → W → Mark → W → Type 0) (heeds : Bo
     pub task : Entry
     pub within : queue < length old.pool.queues
     pub turn : DidTurn old new (ran found queue task)
-    pub heeded : heeds ≡ true → found ≢ Some Stops
+    pub not_stopped : ends_at_stop ≡ true → found ≢ Some Stops
 
   -- nothing ran, and each queue was found empty behind the look
   pub record DidIdle (found : Option Ending) (old : TakersSeen) (records : List Record) (w : W) (new : TakersSeen) (more : List Record) (v : W) : Type 0 where
@@ -42,7 +42,7 @@ module _ {W : Type 0} (runs : JobId → W → Mark → W → Type 0) (heeds : Bo
     pub popped : new.popped ≡ old.popped
     pub found_is : new.found ≡ found
     pub turn : DidTurn old new (idle found)
-    pub heeded : heeds ≡ true → found ≢ Some Stops
+    pub not_stopped : ends_at_stop ≡ true → found ≢ Some Stops
 
   -- nothing ran, since the look found a stop
   pub record DidStop (old : TakersSeen) (records : List Record) (w : W) (new : TakersSeen) (more : List Record) (v : W) : Type 0 where
@@ -51,7 +51,7 @@ module _ {W : Type 0} (runs : JobId → W → Mark → W → Type 0) (heeds : Bo
     pub popped : new.popped ≡ old.popped
     pub found_is : new.found ≡ Some Stops
     pub turn : DidTurn old new stopped
-    pub heeds_it : heeds ≡ true
+    pub may_end : ends_at_stop ≡ true
 
   abbrev pub TurnDid : Turned → TakersSeen → List Record → W → TakersSeen → List Record → W → Type 0
   TurnDid Ran old records w new more v = DidRun old records w new more v

@@ -31,7 +31,7 @@ pub fn turn<J: Job<W>, W, G: Gate, R: Wait>(
     pool: (&Vec<TaskQueue<Placed<J>>>, &EndMark, &Sleepers),
     takers: &mut Takers<J>,
     records: &mut LinkedList<RunRecord>,
-    heeds_stop: bool,
+    ends_at_stop: bool,
     rest: &mut Rest,
     world: &mut W,
     gate: &G,
@@ -44,11 +44,11 @@ pub fn turn<J: Job<W>, W, G: Gate, R: Wait>(
     ensures looked { takers.new.looked_so_often ≡ takers.old.looked_so_often + 1 }
     ensures taken { HasTaken takers.new }
     ensures records { RanTaken takers.new records.new }
-    ensures turned { TurnDid J.runs heeds_stop result takers.old records.old world.old takers.new records.new world.new }
+    ensures turned { TurnDid J.runs ends_at_stop result takers.old records.old world.old takers.new records.new world.new }
 {
     let (queues, mark, sleepers) = pool;
     let found = takers.look(mark);
-    if heeds_stop && found == Some(Ending::Stops) {
+    if ends_at_stop && found == Some(Ending::Stops) {
         takers.told();
         return Turned::Stopped;
     }

@@ -28,7 +28,7 @@ loop-preserved-in-Ran g c =
       records = t.records;
       ran = subst (λ (l : List Ran). Leads g.J.Job.runs c.args.world.now l c.turn.new.world) (sym list) (leads_more g.J.Job.runs c.args.world.now c.loop.world c.turn.new.world (ran_of c.loop.records) d.entry.job d.entry.mark i.ran d.led);
       worked = so_far_more n (steps_in old.looks) (steps_in new.looks) turn i.worked
-          (subst (λ (m : ℕ). d.queue < m) as_many d.within, d.heeded refl)
+          (subst (λ (m : ℕ). d.queue < m) as_many d.within, d.not_stopped refl)
           (subst (λ (m : ℕ). steps_in new.looks ≡ steps_in old.looks ++ steps_of m turn) as_many d.turn);
     }
 
