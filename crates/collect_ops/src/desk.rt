@@ -2,6 +2,7 @@
 ghost use Rattle.std.specs.Prelude.{◌≡◌, ◌≢◌, ◌↔◌, ◌+◌, ◌≤◌, true, false, None, [], length, IfOk, IfErr, IsErr};
 
 use crate::arrival::Arrivals;
+use crate::boxed::Boxed;
 use crate::kept::{self, Kept};
 use crate::rule::{DeskRule, Place};
 use crate::steps;
@@ -71,13 +72,14 @@ impl<X, E, K> Desk<X, E, K> {
         let Ok(room) = made else {
             return Err(Refused::Memory(end));
         };
+        let ending = match Boxed::new(alloc, Ending { end, room }) {
+            Ok(ending) => ending,
+            Err(Refused::Memory(ending)) => return Err(Refused::Memory(end_alone(ending))),
+        };
         let words = [size as u64, 0];
         match Table::vacant(alloc, &words, size + 1, &()) {
-            Ok((table, seat)) => Ok(Desk::open(table, seat, size, Ending { end, room })),
-            Err(_) => {
-                room.destroy_empty();
-                Err(Refused::Memory(end))
-            }
+            Ok((table, seat)) => Ok(Desk::open(table, seat, size, ending)),
+            Err(_) => Err(Refused::Memory(end_alone(ending.open()))),
         }
     }
 
@@ -86,7 +88,7 @@ impl<X, E, K> Desk<X, E, K> {
         table: Memories<X, E>,
         mut seat: Place<X, E>,
         size: usize,
-        ending: Ending<X, E>,
+        ending: Boxed<Ending<X, E>>,
     ) -> Desk<X, E, K>
         requires some { 1 ≤ size }
         requires desk { IsDesk size table.shared.table_id }
@@ -138,4 +140,14 @@ impl<X, E, K> Desk<X, E, K> {
         } = self;
         Kept::of(kept::closed(table, owner, dealer, size), size)
     }
+}
+
+// The end, where the room for the list is empty.
+fn end_alone<X, E>(ending: Ending<X, E>) -> E
+    requires { ending.room.items ≡ [] }
+    ensures { result ≡ ending.end }
+{
+    let Ending { end, room } = ending;
+    room.destroy_empty();
+    end
 }

@@ -88,7 +88,7 @@ fn end_of<X, E>(item: Option<Item<X, E>>) -> Option<E>
 {
     match item {
         Some(Item::End(ending)) => {
-            let Ending { end, room } = ending;
+            let Ending { end, room } = ending.open();
             leak_room(room);
             Some(end)
         }

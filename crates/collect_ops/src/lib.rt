@@ -28,6 +28,7 @@ mod answer;
 mod any;
 mod any_value;
 mod arrival;
+mod boxed;
 mod desk;
 mod kept;
 mod listed;

@@ -11,6 +11,7 @@ ghost use Rattle.collect_ops.specs.declared.view.View.{View};
 ghost use Rattle.collect_ops.specs.Views.{index_in, phase_in, kept_in, list_in};
 ghost use Rattle.collect_ops.specs.Steps.{IsDesk, HasRoom, IsDone, IsLast, IsKeeper, Sits, at, claiming, emptying, full_slots, empty_slots};
 
+use crate::boxed::Boxed;
 use crate::listed::Listed;
 use crate::rule::{
     Claims, Deals, DeskTable, GivesEnd, Keeps, Meets, Never, Place, ReadsTold, ReturnsAll,
@@ -38,7 +39,7 @@ pub(crate) fn open<X, E>(
     table: &DeskTable<X, E>,
     seat: &mut Place<X, E>,
     size: usize,
-    ending: Ending<X, E>,
+    ending: Boxed<Ending<X, E>>,
 )
     requires desk { IsDesk size table.now.table_id }
     requires making { Sits table.now.table_id seat.old (View.Making, []) }
@@ -122,7 +123,7 @@ fn take_ending<X, E>(table: &DeskTable<X, E>, seat: &mut Place<X, E>, size: usiz
     let Some(Item::End(ending)) = item else {
         unreachable!()
     };
-    ending
+    ending.open()
 }
 
 // Takes the outcome out of the slot that the seat took last.

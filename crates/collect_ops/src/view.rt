@@ -1,11 +1,13 @@
 //! What a seat of a desk's table knows and holds. But for `Item` and `Ending` no value of these types is made.
+use crate::boxed::Boxed;
 use std::collections::LinkedList;
 
 /// What lies in a slot of a desk, if anything does.
 #[derive(Drop)]
 pub enum Item<X, E> {
     Outcome(X),
-    End(Ending<X, E>),
+    /// In a box, so that a slot has room for an outcome alone.
+    End(Boxed<Ending<X, E>>),
 }
 
 /// What the completion hands out, and the room for the list of outcomes.
