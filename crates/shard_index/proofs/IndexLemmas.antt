@@ -1,6 +1,8 @@
 -- What an index tells of its first documents.
-use Rattle.std.proofs.Common.{◌≡◌, ℕ, ◌+◌, ◌*◌, ◌<◌, ◌≤◌, ◌^◌, List, [], ◌∷◌, length, get_or, replicate, refl, sym, ap, ◌∙◌, subst, arith, take, map, zip}
+use Rattle.std.proofs.Common.{◌≡◌, ℕ, zero, suc, ◌+◌, ◌*◌, ◌<◌, ◌≤◌, ◌^◌, List, [], ◌∷◌, ◌++◌, Bool, true, false, cond, ltb, length, get_or, replicate, refl, sym, ap, ◌∙◌, subst, arith, take, map, zip}
 use Rattle.std.specs.List.{All, AllByRecursion}
+use Rattle.std.specs.List.Sorted.{IsPartitionedBy}
+use Rattle.std.proofs.lemmas.Bool.Decides.{nat_tests}
 use Rattle.std.proofs.lemmas.List.{length-map, take-map, length-take-le}
 use Rattle.fan_base.specs.declared.doc.Doc.{Doc}
 use Rattle.fan_base.specs.declared.word.Word.{Word}
@@ -10,10 +12,13 @@ use Rattle.query_model.specs.Sorting.{sorted_by}
 use Rattle.query_model.specs.Parts.{weighted_score, weighted_top}
 use Rattle.shard_index.specs.declared.index.Index.{Index}
 use Rattle.shard_index.specs.Counting.{DifferentWords}
-use Rattle.shard_index.specs.Places.{distinct, front_of, has_word, holds_in, places_where, standing_of}
+use Rattle.word_table.specs.Told.{Tell, repeated}
+use Rattle.word_table.proofs.ToldLemmas.{each-above-0}
+use Rattle.shard_index.specs.Places.{front_of, has_word, holds_in, places_where, standing_of}
 use Rattle.shard_index.specs.Selections.{ScoresAt, hits_where}
 use Rattle.shard_index.specs.Standing.{Indexes}
-use Rattle.shard_index.proofs.PlaceLemmas.{below-standing, distinct-standing, length-places, pairs-at}
+use Rattle.shard_index.proofs.NarrowLemmas.{stand-where}
+use Rattle.shard_index.proofs.PlaceLemmas.{below-standing, below-where, distinct-standing, front-replicate, length-places, pairs-at}
 use Rattle.shard_index.proofs.ScoreLemmas.{all-take, differ-take, score-fits, score-more, scores-of-some, zip-maps}
 use Rattle.shard_index.proofs.TotalLemmas.{all-rec}
 
@@ -21,11 +26,49 @@ pub many-ids : (index : Index) (docs : List Doc) → Indexes index docs → leng
 many-ids index docs stands = ap length stands.ids ∙ length-map docs (λ d. d.id)
 
 -- where a word stands among the first documents
-pub standing-front : (docs : List Doc) (front : ℕ) (w : Word) (places : List ℕ) → places ≡ standing_of w docs → front_of front places ≡ standing_of w (take front docs)
-standing-front docs front w places is = ap (λ (ps : List ℕ). front_of front ps) is ∙ below-standing front w docs
 
-pub places-front : (docs : List Doc) (front : ℕ) (w : Word) (places below : List ℕ) → places ≡ standing_of w docs → below ≡ front_of front places → distinct below ≡ places_where (has_word w) (take front docs)
-places-front docs front w places below is cut = ap distinct (cut ∙ standing-front docs front w places is) ∙ distinct-standing w (take front docs)
+pub told-parted : (docs : List Doc) (front : ℕ) (w : Word) (places times : List ℕ) → Tell places times (standing_of w docs) → IsPartitionedBy (λ p. ltb p front) places
+told-parted docs front w places times tell = (stand-where (has_word w) docs places (tell.once ∙ distinct-standing w docs)).parted front
+
+pub places-front : (docs : List Doc) (front : ℕ) (w : Word) (places times below : List ℕ) → Tell places times (standing_of w docs) → below ≡ front_of front places → below ≡ places_where (has_word w) (take front docs)
+places-front docs front w places times below tell cut =
+    cut ∙ (ap (λ (ps : List ℕ). front_of front ps) (tell.once ∙ distinct-standing w docs) ∙ below-where front (has_word w) docs)
+
+front-no-longer : (front : ℕ) (places : List ℕ) → length (front_of front places) ≤ length places
+front-no-longer front [] = omega arith
+front-no-longer front (p ∷ ps) = by (ltb p front) (front-no-longer front ps)
+  where
+    by : (b : Bool) → length (front_of front ps) ≤ length ps → length (cond b (p ∷ front_of front ps) []) ≤ suc (length ps)
+    by true h = omega (arith, h)
+    by false h = omega arith
+
+pub times-enough : (standing : List ℕ) (front : ℕ) (places times below : List ℕ) → Tell places times standing → below ≡ front_of front places → length below ≤ length times
+times-enough standing front places times below tell cut = omega (arith, ap length cut, front-no-longer front places, tell.many)
+
+lower-of : (x y : ℕ) → ltb x y ≡ true → x < y
+lower-of x y h = grind (arith, nat_tests)
+
+-- the front of places with their times
+repeated-front : (front : ℕ) (places times : List ℕ) → length times ≡ length places → AllByRecursion (λ n. 0 < n) times
+    → repeated (front_of front places) (take (length (front_of front places)) times) ≡ front_of front (repeated places times)
+repeated-front front [] [] many some = refl
+repeated-front front [] (t ∷ ts) many some = absurd (omega (arith, many))
+repeated-front front (p ∷ ps) [] many some = absurd (omega (arith, many))
+repeated-front front (p ∷ ps) (zero ∷ ts) many some = absurd (omega (arith, some.0))
+repeated-front front (p ∷ ps) (suc n ∷ ts) many some = by (ltb p front) refl (repeated-front front ps ts (omega (arith, many)) some.1)
+  where
+    by : (b : Bool) → ltb p front ≡ b → repeated (front_of front ps) (take (length (front_of front ps)) ts) ≡ front_of front (repeated ps ts)
+        → repeated (cond b (p ∷ front_of front ps) []) (take (length (cond b (p ∷ front_of front ps) [])) (suc n ∷ ts)) ≡ front_of front (replicate (suc n) p ++ repeated ps ts)
+    by true is more =
+        ap (λ (rs : List ℕ). replicate (suc n) p ++ rs) more
+        ∙ sym (front-replicate front p (suc n) (repeated ps ts) (lower-of p front is))
+    by false is more = sym (ap (λ (b : Bool). cond b (p ∷ front_of front (replicate n p ++ repeated ps ts)) []) is)
+
+pub told-front : (docs : List Doc) (front : ℕ) (w : Word) (places times below beside : List ℕ) → Tell places times (standing_of w docs) → below ≡ front_of front places → beside ≡ take (length below) times
+    → repeated below beside ≡ standing_of w (take front docs)
+told-front docs front w places times below beside tell cut is =
+    (λ i. repeated (cut i) ((is ∙ ap (λ (ps : List ℕ). take (length ps) times) cut) i))
+    ∙ (repeated-front front places times tell.many (each-above-0 times tell.some) ∙ (ap (λ (ps : List ℕ). front_of front ps) tell.are ∙ below-standing front w docs))
 
 pub ids-front : (index : Index) (docs : List Doc) (front : ℕ) (ids : List ℕ) → Indexes index docs → ids ≡ take front index.ids.items → ids ≡ map (λ d. d.id) (take front docs)
 ids-front index docs front ids stands is = is ∙ (ap (λ xs. take front xs) stands.ids ∙ take-map (λ d. d.id) front docs)

@@ -1,19 +1,14 @@
--- Which places of one list stand in another, in which each may stand several times.
-use Rattle.std.proofs.Common.{◌≡◌, ℕ, zero, suc, ◌+◌, ◌-◌, ◌<◌, ◌≤◌, List, [], ◌∷◌, ◌++◌, length, Bool, true, false, not, ◌&&◌, ◌||◌, All, cond, eqb, ltb, get_or, take, filter, replicate, refl, sym, ap, subst, ◌∙◌, arith, append-nil}
-use Rattle.std.specs.List.{AllByRecursion, list_any}
-use Rattle.std.specs.List.Sorted.{IsPartitionedBy}
+-- Which places of one list stand in another.
+use Rattle.std.proofs.Common.{◌≡◌, ℕ, zero, suc, ◌+◌, ◌-◌, ◌<◌, ◌≤◌, List, [], ◌∷◌, ◌++◌, length, Bool, true, false, not, ◌&&◌, ◌||◌, cond, eqb, ltb, get_or, take, filter, refl, sym, ap, subst, ◌∙◌, arith}
+use Rattle.std.specs.List.{AllByRecursion}
 use Rattle.std.proofs.lemmas.Bool.Decides.{nat_tests}
 use Rattle.std.proofs.lemmas.List.{take_all, take_more}
 use Rattle.std.proofs.lemmas.List.Elements.{filter-append}
-use Rattle.std.proofs.lemmas.List.Folds.{list_any-append, list_any_at, list_any_none}
+use Rattle.std.proofs.lemmas.List.Folds.{list_any_at, list_any_none}
 use Rattle.fan_base.specs.declared.doc.Doc.{Doc}
-use Rattle.fan_base.specs.declared.word.Word.{Word}
-use Rattle.query_model.specs.Answers.{times_in}
 use Rattle.shard_index.specs.Narrowing.{AreParted, StandWhere, has_place, passes}
-use Rattle.shard_index.specs.Places.{has_word, places_from, places_where, standing_from, standing_of}
-use Rattle.shard_index.proofs.FrontLemmas.{standing-parted}
-use Rattle.shard_index.proofs.PlaceLemmas.{places-above, standing-from-above}
-use Rattle.shard_index.proofs.WordLemmas.{none-count, some-count}
+use Rattle.shard_index.specs.Places.{places_from, places_where}
+use Rattle.shard_index.proofs.PlaceLemmas.{places-above}
 
 lt-ltb : (x y : ℕ) → x < y → ltb x y ≡ true
 lt-ltb x y h = grind (arith, nat_tests)
@@ -181,15 +176,11 @@ kept-where places by kept wanted index at p q docs past has are stand =
     ∙ kept-from 0 p (λ doc. cond wanted (q doc) (not (q doc))) (passes by wanted) docs
     (λ i d low. ap (λ (b : Bool). cond wanted b (not b)) (ap (λ n. has_place by n) (let e : 0 + i ≡ i = omega arith in e) ∙ stand.are i d low)))
 
--- the places of documents that pass a test, and those where a word stands, tell of their documents
+-- the places of documents that pass a test tell of their documents
 
 none-there : (x : ℕ) (xs : List ℕ) → AllByRecursion (λ y. x < y) xs → has_place xs x ≡ false
 none-there x [] h = refl
 none-there x (y ∷ ys) h = (λ i. eqb-less x y h.0 i || has_place ys x) ∙ none-there x ys h.1
-
-none-before : (x place n : ℕ) (xs : List ℕ) → place < x → has_place (replicate n place ++ xs) x ≡ has_place xs x
-none-before x place zero xs low = refl
-none-before x place (suc n) xs low = (λ i. eqb-more x place low i || has_place (replicate n place ++ xs) x) ∙ none-before x place n xs low
 
 has-from : (place : ℕ) (q : Doc → Bool) (docs : List Doc) (i : ℕ) (d : Doc) → i < length docs → has_place (places_from place q docs) (place + i) ≡ q (get_or docs i d)
 has-from place q [] i d low = absurd (omega (arith, low))
@@ -213,29 +204,6 @@ has-from place q (e ∷ es) (suc i) d low = by (q e) (has-from (place + 1) q es 
     by true more = (λ k. eqb-more (place + suc i) place (omega arith) k || has_place rest (place + suc i)) ∙ (ap (λ x. has_place rest x) (sym further) ∙ more)
     by false more = ap (λ x. has_place rest x) (sym further) ∙ more
 
-has-standing : (place : ℕ) (word : Word) (docs : List Doc) (i : ℕ) (d : Doc) → i < length docs → has_place (standing_from place word docs) (place + i) ≡ has_word word (get_or docs i d)
-has-standing place word [] i d low = absurd (omega (arith, low))
-has-standing place word (e ∷ es) zero d low = ap (λ x. has_place (replicate (times_in e word) place ++ rest) x) (let z : place + 0 ≡ place = omega arith in z) ∙ by (has_word word e) refl (times_in e word) refl
-  where
-    rest : List ℕ
-    rest = standing_from (place + 1) word es
-
-    above : has_place rest place ≡ false
-    above = none-there place rest (wider rest (standing-from-above (place + 1) (place + 1) word es (omega arith)))
-      where
-        wider : (xs : List ℕ) → AllByRecursion (λ x. place + 1 ≤ x) xs → AllByRecursion (λ x. place < x) xs
-        wider [] h = tt
-        wider (x ∷ xs) h = (omega (arith, h.0), wider xs h.1)
-
-    by : (b : Bool) → has_word word e ≡ b → (n : ℕ) → times_in e word ≡ n → has_place (replicate n place ++ rest) place ≡ has_word word e
-    by true is zero none = absurd (omega (arith, none, some-count word e.words is))
-    by true is (suc n) some = (λ i. eqb-same place i || has_place (replicate n place ++ rest) place) ∙ sym is
-    by false is zero none = above ∙ sym is
-    by false is (suc n) some = absurd (omega (arith, some, none-count word e.words is))
-has-standing place word (e ∷ es) (suc i) d low =
-    none-before (place + suc i) place (times_in e word) (standing_from (place + 1) word es) (omega arith)
-    ∙ (ap (λ x. has_place (standing_from (place + 1) word es) x) (let further : place + suc i ≡ place + 1 + i = omega arith in further) ∙ has-standing (place + 1) word es i d (omega (arith, low)))
-
 ascend-parted : (places : List ℕ) → Ascend places → AreParted places
 ascend-parted places ascend = λ front i j d low within holds. by i j d low within (ltb i j) refl front holds
   where
@@ -256,10 +224,4 @@ pub stand-where : (q : Doc → Bool) (docs : List Doc) (places : List ℕ) → p
 stand-where q docs places is = record {
   parted = ascend-parted places (ascend-where q docs places is);
   are = λ i d low. ap (λ (ps : List ℕ). has_place ps i) is ∙ (ap (λ n. has_place (places_where q docs) n) (let e : i ≡ 0 + i = omega arith in e) ∙ has-from 0 q docs i d low);
-}
-
-pub stand-standing : (word : Word) (docs : List Doc) (places : List ℕ) → places ≡ standing_of word docs → StandWhere places (has_word word) docs
-stand-standing word docs places is = record {
-  parted = λ front. standing-parted front word docs places is;
-  are = λ i d low. ap (λ (ps : List ℕ). has_place ps i) is ∙ (ap (λ n. has_place (standing_of word docs) n) (let e : i ≡ 0 + i = omega arith in e) ∙ has-standing 0 word docs i d low);
 }

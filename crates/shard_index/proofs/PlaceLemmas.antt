@@ -1,14 +1,13 @@
 -- Places of documents: bounds, fronts, one document more, and what stands at them.
-use Rattle.std.proofs.Common.{◌≡◌, ℕ, zero, suc, ◌+◌, ◌-◌, ◌<◌, ◌≤◌, List, [], ◌∷◌, ◌++◌, length, Bool, true, false, not, cond, eqb, ltb, get_or, replicate, Option, None, Some, refl, sym, ap, ◌∙◌, arith, take, map, filter, zero-add, add-zero, append_assoc, append-nil}
+use Rattle.std.proofs.Common.{◌≡◌, ℕ, zero, suc, ◌+◌, ◌-◌, ◌<◌, ◌≤◌, List, [], ◌∷◌, ◌++◌, length, Bool, true, false, cond, eqb, ltb, get_or, replicate, Some, refl, sym, ap, ◌∙◌, arith, take, map, filter, zero-add, add-zero, append_assoc, append-nil}
 use Rattle.std.specs.List.{AllByRecursion, fold, slice_get}
 use Rattle.std.specs.Option.{option_eq}
-use Rattle.std.proofs.lemmas.Bool.{false≢true}
 use Rattle.std.proofs.lemmas.Bool.Decides.{nat_tests}
-use Rattle.std.proofs.lemmas.List.{take_more}
 use Rattle.fan_base.specs.declared.doc.Doc.{Doc}
 use Rattle.fan_base.specs.declared.word.Word.{Word}
 use Rattle.query_model.specs.Answers.{times_in}
-use Rattle.shard_index.specs.Places.{distinct, front_of, has_word, is_last, places_from, places_where, standing_from, standing_of, with_place}
+use Rattle.word_table.specs.Told.{distinct, is_last, with_place}
+use Rattle.shard_index.specs.Places.{front_of, has_word, places_from, places_where, standing_from, standing_of}
 use Rattle.query_grammar.specs.Truth.{is_among}
 use Rattle.shard_index.proofs.WordLemmas.{none-count, some-count}
 
@@ -40,16 +39,6 @@ all-append P (x ∷ xs) ys h i = (h.0, all-append P xs ys h.1 i)
 all-replicate : {A : Type 0} (P : A → Type 0) (n : ℕ) (x : A) → P x → AllByRecursion P (replicate n x)
 all-replicate P zero x h = tt
 all-replicate P (suc n) x h = (h, all-replicate P n x h)
-
-pub standing-below : (place : ℕ) (word : Word) (docs : List Doc) → AllByRecursion (λ x. x < place + length docs) (standing_from place word docs)
-standing-below place word [] = tt
-standing-below place word (d ∷ ds) =
-    all-append (λ x. x < place + suc (length ds)) (replicate (times_in d word) place) (standing_from (place + 1) word ds)
-    (all-replicate (λ x. x < place + suc (length ds)) (times_in d word) place (omega arith)) (wider (standing_from (place + 1) word ds) (standing-below (place + 1) word ds))
-  where
-    wider : (xs : List ℕ) → AllByRecursion (λ x. x < place + 1 + length ds) xs → AllByRecursion (λ x. x < place + suc (length ds)) xs
-    wider [] h = tt
-    wider (x ∷ xs) h = (omega (arith, h.0), wider xs h.1)
 
 -- the front of a list of places
 
@@ -101,7 +90,7 @@ places-front place (suc n) front test (d ∷ ds) is = by (test d) (places-front 
 pub below-where : (front : ℕ) (test : Doc → Bool) (docs : List Doc) → front_of front (places_where test docs) ≡ places_where test (take front docs)
 below-where front test docs = places-front 0 front front test docs (sym (zero-add front))
 
-front-replicate : (front place n : ℕ) (xs : List ℕ) → place < front → front_of front (replicate n place ++ xs) ≡ replicate n place ++ front_of front xs
+pub front-replicate : (front place n : ℕ) (xs : List ℕ) → place < front → front_of front (replicate n place ++ xs) ≡ replicate n place ++ front_of front xs
 front-replicate front place zero xs low = refl
 front-replicate front place (suc n) xs low =
     ap (λ b. cond b (place ∷ front_of front (replicate n place ++ xs)) []) (lt-ltb place front low) ∙ ap (λ ys. place ∷ ys) (front-replicate front place n xs low)
@@ -259,55 +248,6 @@ distinct-from : (word : Word) (place : ℕ) (acc : List ℕ) (docs : List Doc) �
 distinct-from word place acc [] all = sym (append-nil acc)
 distinct-from word place acc (d ∷ ds) all =
     distinct-step word place acc d ds all (distinct-from word (place + 1) (acc ++ place ∷ []) ds (wider-push place acc all)) (distinct-from word (place + 1) acc ds (wider-one place acc all))
-
-fold-more : (acc xs : List ℕ) (x : ℕ) → fold with_place acc (xs ++ x ∷ []) ≡ with_place (fold with_place acc xs) x
-fold-more acc [] x = refl
-fold-more acc (y ∷ ys) x = fold-more (with_place acc y) ys x
-
-pub distinct-more : (places : List ℕ) (i : ℕ) → i < length places → distinct (take (i + 1) places) ≡ with_place (distinct (take i places)) (get_or places i 0)
-distinct-more places i within = ap distinct (take_more places i 0 within) ∙ fold-more [] (take i places) (get_or places i 0)
-
--- the place put last is the last
-got : (ps : List ℕ) (p x : ℕ) → option_eq eqb (slice_get (ps ++ p ∷ []) (length ps)) (Some x) ≡ option_eq eqb (Some p) (Some x)
-got [] p x = refl
-got (q ∷ qs) p x = got qs p x
-
-last-pushed : (ps : List ℕ) (p x : ℕ) → is_last (ps ++ p ∷ []) x ≡ option_eq eqb (Some p) (Some x)
-last-pushed ps p x =
-    let at : length (ps ++ p ∷ []) - 1 ≡ length ps = shorter ps in
-    ap (λ k. option_eq eqb (slice_get (ps ++ p ∷ []) k) (Some x)) at ∙ got ps p x
-  where
-    many : (xs : List ℕ) → length (xs ++ p ∷ []) ≡ suc (length xs)
-    many [] = refl
-    many (y ∷ ys) = ap suc (many ys)
-
-    shorter : (xs : List ℕ) → length (xs ++ p ∷ []) - 1 ≡ length xs
-    shorter xs = omega (arith, many xs)
-
-same-last : (o : Option ℕ) (p x : ℕ) → option_eq eqb o (Some p) ≡ true → option_eq eqb o (Some x) ≡ option_eq eqb (Some p) (Some x)
-same-last None p x is = absurd (false≢true is)
-same-last (Some q) p x is = let e : q ≡ p = grind (is, arith, nat_tests) in ap (λ (k : ℕ). eqb k x) e
-
-pub last-is : (ps : List ℕ) (p x : ℕ) → is_last (with_place ps p) x ≡ option_eq eqb (Some p) (Some x)
-last-is ps p x = by (is_last ps p) (same-last (slice_get ps (length ps - 1)) p x)
-  where
-    by : (b : Bool) → (b ≡ true → is_last ps x ≡ option_eq eqb (Some p) (Some x)) → is_last (cond b ps (ps ++ p ∷ [])) x ≡ option_eq eqb (Some p) (Some x)
-    by true same = same refl
-    by false same = last-pushed ps p x
-
--- a place is put behind where it isn't the last
-pub put-behind : (ps : List ℕ) (p : ℕ) (b : Bool) → is_last ps p ≡ b → ps ++ cond (not b) (p ∷ []) [] ≡ with_place ps p
-put-behind ps p true is = append-nil ps ∙ sym (ap (λ (c : Bool). cond c ps (ps ++ p ∷ [])) is)
-put-behind ps p false is = sym (ap (λ (c : Bool). cond c ps (ps ++ p ∷ [])) is)
-
--- how many there are then
-pub count-behind : (ps : List ℕ) (p : ℕ) (b : Bool) → is_last ps p ≡ b → length ps + cond (not b) 1 0 ≡ length (with_place ps p)
-count-behind ps p true is = add-zero (length ps) ∙ sym (ap (λ (c : Bool). length (cond c ps (ps ++ p ∷ []))) is)
-count-behind ps p false is = one-more ps ∙ sym (ap (λ (c : Bool). length (cond c ps (ps ++ p ∷ []))) is)
-  where
-    one-more : (qs : List ℕ) → length qs + 1 ≡ length (qs ++ p ∷ [])
-    one-more [] = refl
-    one-more (q ∷ qs) = (let e : suc (length qs) + 1 ≡ suc (length qs + 1) = omega arith in e) ∙ ap suc (one-more qs)
 
 pub distinct-standing : (word : Word) (docs : List Doc) → distinct (standing_of word docs) ≡ places_where (has_word word) docs
 distinct-standing word docs = distinct-from word 0 [] docs tt

@@ -1,13 +1,15 @@
 -- Totals by place: what a weight adds at the places of documents.
-use Rattle.std.proofs.Common.{◌≡◌, ℕ, zero, suc, ◌+◌, ◌*◌, ◌<◌, ◌≤◌, List, [], ◌∷◌, ◌++◌, length, Bool, get_or, replicate, refl, sym, ap, ◌∙◌, subst, arith, take, map, set, append_assoc, zero-add}
+use Rattle.std.proofs.Common.{◌≡◌, ℕ, zero, suc, ◌+◌, ◌*◌, ◌<◌, ◌≤◌, List, [], ◌∷◌, ◌++◌, length, Bool, get_or, replicate, refl, sym, ap, ◌∙◌, subst, arith, take, drop, map, set, append_assoc, zero-add}
 use Rattle.std.specs.List.{All, AllByRecursion, fold}
-use Rattle.std.proofs.lemmas.List.{set_at, take_more}
+use Rattle.std.proofs.lemmas.List.{length-take-le, set_at, take_more}
 use Rattle.fan_base.specs.declared.doc.Doc.{Doc}
 use Rattle.fan_base.specs.declared.word.Word.{Word}
 use Rattle.query_model.specs.Answers.{times_in}
 use Rattle.shard_index.specs.Places.{places_where, standing_from, standing_of}
 use Rattle.shard_index.specs.Totals.{added_at, raised}
-use Rattle.shard_index.proofs.PlaceLemmas.{places-below, standing-below}
+use Rattle.word_table.specs.Told.{repeated}
+use Rattle.word_table.proofs.ToldLemmas.{repeated-push}
+use Rattle.shard_index.proofs.PlaceLemmas.{places-below}
 
 length-set : (xs : List ℕ) (i v : ℕ) → length (set xs i v) ≡ length xs
 length-set [] i v = refl
@@ -22,11 +24,9 @@ fold-push : {A B : Type 0} (f : B → A → B) (start : B) (xs : List A) (x : A)
 fold-push f start [] x = refl
 fold-push f start (y ∷ ys) x = fold-push f (f start y) ys x
 
--- one place more
-pub added-more : (weight : ℕ) (totals places : List ℕ) (i place : ℕ) → i < length places → place ≡ get_or places i place → added_at weight totals (take (i + 1) places) ≡ raised weight (added_at weight totals (take i places)) place
-added-more weight totals places i place within is =
-    let longer : take (i + 1) places ≡ take i places ++ place ∷ [] = take_more places i place within ∙ ap (λ n. take i places ++ n ∷ []) (sym is) in
-    ap (λ ps. added_at weight totals ps) longer ∙ fold-push (raised weight) totals (take i places) place
+added-append : (weight : ℕ) (totals xs ys : List ℕ) → added_at weight totals (xs ++ ys) ≡ added_at weight (added_at weight totals xs) ys
+added-append weight totals [] ys = refl
+added-append weight totals (x ∷ xs) ys = added-append weight (raised weight totals x) xs ys
 
 -- no total falls
 
@@ -51,22 +51,67 @@ all-got n [] k h within = absurd (omega arith)
 all-got n (x ∷ xs) zero h within = h.0
 all-got n (x ∷ xs) (suc k) h within = all-got n xs k h.1 (omega arith)
 
+set-same : (xs : List ℕ) (i : ℕ) → xs ≡ set xs i (get_or xs i 0)
+set-same [] i = refl
+set-same (x ∷ xs) zero = refl
+set-same (x ∷ xs) (suc i) = ap (λ (ys : List ℕ). x ∷ ys) (set-same xs i)
+
+set-set : (xs : List ℕ) (i v w : ℕ) → set (set xs i v) i w ≡ set xs i w
+set-set [] i v w = refl
+set-set (x ∷ xs) zero v w = refl
+set-set (x ∷ xs) (suc i) v w = ap (λ (ys : List ℕ). x ∷ ys) (set-set xs i v w)
+
+-- a weight several times at one place
+added-replicate : (weight n p : ℕ) (totals : List ℕ) → p < length totals → added_at weight totals (replicate n p) ≡ set totals p (get_or totals p 0 + n * weight)
+added-replicate weight zero p totals within =
+    set-same totals p ∙ ap (λ (v : ℕ). set totals p v) (let e : get_or totals p 0 ≡ get_or totals p 0 + 0 * weight = omega arith in e)
+added-replicate weight (suc n) p totals within =
+    added-replicate weight n p (raised weight totals p) (omega (arith, within, length-set totals p (get_or totals p 0 + weight)))
+    ∙ (ap (λ (v : ℕ). set (raised weight totals p) p (v + n * weight)) (get-set totals p (get_or totals p 0 + weight) within)
+    ∙ (set-set totals p (get_or totals p 0 + weight) (get_or totals p 0 + weight + n * weight)
+    ∙ ap (λ (v : ℕ). set totals p v) (let e : get_or totals p 0 + weight + n * weight ≡ get_or totals p 0 + suc n * weight = omega arith in e)))
+
+-- of places with their times one place more
+repeated-more : (places times : List ℕ) (i : ℕ) → i < length places → length times ≡ length places
+    → repeated (take (i + 1) places) (take (i + 1) times) ≡ repeated (take i places) (take i times) ++ replicate (get_or times i 0) (get_or places i 0)
+repeated-more places times i within many =
+    (λ k. repeated (take_more places i 0 within k) (take_more times i 0 (omega (arith, within, many)) k))
+    ∙ repeated-push (take i places) (take i times) (get_or places i 0) (get_or times i 0)
+    (omega (arith, length-take-le i places (omega (arith, within)), length-take-le i times (omega (arith, within, many))))
+
+pub added-more : (weight : ℕ) (totals places times : List ℕ) (i : ℕ) → i < length places → length times ≡ length places → get_or places i 0 < length totals
+    → let before = added_at weight totals (repeated (take i places) (take i times)) in
+    added_at weight totals (repeated (take (i + 1) places) (take (i + 1) times)) ≡ set before (get_or places i 0) (get_or before (get_or places i 0) 0 + get_or times i 0 * weight)
+added-more weight totals places times i within many low =
+    let done = repeated (take i places) (take i times) in
+    ap (λ (ps : List ℕ). added_at weight totals ps) (repeated-more places times i within many)
+    ∙ (added-append weight totals done (replicate (get_or times i 0) (get_or places i 0))
+    ∙ added-replicate weight (get_or times i 0) (get_or places i 0) (added_at weight totals done) (omega (arith, low, length-added weight totals done)))
+
+repeated-split : (k : ℕ) (places times : List ℕ) → length times ≡ length places → repeated (take k places) (take k times) ++ repeated (drop k places) (drop k times) ≡ repeated places times
+repeated-split zero places times many = refl
+repeated-split (suc k) [] [] many = refl
+repeated-split (suc k) [] (t ∷ ts) many = absurd (omega (arith, many))
+repeated-split (suc k) (p ∷ ps) [] many = absurd (omega (arith, many))
+repeated-split (suc k) (p ∷ ps) (t ∷ ts) many =
+    append_assoc (replicate t p) (repeated (take k ps) (take k ts)) (repeated (drop k ps) (drop k ts))
+    ∙ ap (λ (rs : List ℕ). replicate t p ++ rs) (repeated-split k ps ts (omega (arith, many)))
+
 -- where all totals fit in the end, the one that is raised next fits
-pub next-fits : (n weight : ℕ) (totals places : List ℕ) (i : ℕ) → AllByRecursion (λ x. x < n) (added_at weight totals places) → AllByRecursion (λ p. p < length totals) places → i < length places
-    → get_or (added_at weight totals (take i places)) (get_or places i 0) 0 + weight < n
-next-fits n weight totals [] i fits below within = absurd (omega arith)
-next-fits n weight totals (p ∷ ps) zero fits below within =
-    let here = get-set totals p (get_or totals p 0 + weight) below.0 in
-    let up = grows weight (raised weight totals p) ps p in
-    let many = length-added weight totals (p ∷ ps) in
-    let last = all-got n (added_at weight totals (p ∷ ps)) p fits (omega (arith, below.0, many)) in
-    omega (arith, here, up, last)
-next-fits n weight totals (p ∷ ps) (suc i) fits below within =
-    next-fits n weight (raised weight totals p) ps i fits (wide ps below.1) (omega arith)
-  where
-    wide : (xs : List ℕ) → AllByRecursion (λ q. q < length totals) xs → AllByRecursion (λ q. q < length (raised weight totals p)) xs
-    wide [] h = tt
-    wide (x ∷ xs) h = (omega (arith, h.0, length-set totals p (get_or totals p 0 + weight)), wide xs h.1)
+pub next-fits : (n weight : ℕ) (totals places times : List ℕ) (i : ℕ) → AllByRecursion (λ x. x < n) (added_at weight totals (repeated places times)) → i < length places → length times ≡ length places
+    → get_or places i 0 < length totals → get_or (added_at weight totals (repeated (take i places) (take i times))) (get_or places i 0) 0 + get_or times i 0 * weight < n
+next-fits n weight totals places times i fits within many low =
+    let p = get_or places i 0 in
+    let before = added_at weight totals (repeated (take i places) (take i times)) in
+    let v = get_or before p 0 + get_or times i 0 * weight in
+    let done = repeated (take (i + 1) places) (take (i + 1) times) in
+    let rest = repeated (drop (i + 1) places) (drop (i + 1) times) in
+    let whole : added_at weight totals (repeated places times) ≡ added_at weight (set before p v) rest =
+    ap (λ (ps : List ℕ). added_at weight totals ps) (sym (repeated-split (i + 1) places times many))
+    ∙ (added-append weight totals done rest ∙ ap (λ (ts : List ℕ). added_at weight ts rest) (added-more weight totals places times i within many low)) in
+    let long : p < length before = omega (arith, low, length-added weight totals (repeated (take i places) (take i times))) in
+    let last = all-got n (added_at weight totals (repeated places times)) p fits (omega (arith, low, length-added weight totals (repeated places times))) in
+    omega (arith, get-set before p v long, grows weight (set before p v) rest p, ap (λ (ts : List ℕ). get_or ts p 0) whole, last)
 
 -- totals of documents
 
@@ -129,8 +174,3 @@ pub places-within : (test : Doc → Bool) (docs : List Doc) (places : List ℕ) 
 places-within test docs places n at many =
     subst (λ (ps : List ℕ). All (λ p. p < n) ps) (sym at) (all-places (λ p. p < n) (places_where test docs)
     (subst (λ (m : ℕ). AllByRecursion (λ p. p < m) (places_where test docs)) (zero-add (length docs) ∙ sym many) (places-below 0 test docs)))
-
-pub standing-within : (word : Word) (docs : List Doc) (places : List ℕ) (n : ℕ) → places ≡ standing_of word docs → n ≡ length docs → All (λ p. p < n) places
-standing-within word docs places n at many =
-    subst (λ (ps : List ℕ). All (λ p. p < n) ps) (sym at) (all-places (λ p. p < n) (standing_of word docs)
-    (subst (λ (m : ℕ). AllByRecursion (λ p. p < m) (standing_of word docs)) (zero-add (length docs) ∙ sym many) (standing-below 0 word docs)))

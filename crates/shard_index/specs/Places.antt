@@ -1,7 +1,6 @@
 -- At which places documents stand that pass a test, and where a word stands.
-use Rattle.std.specs.Prelude.{ℕ, ◌+◌, ◌-◌, List, [], ◌∷◌, ◌++◌, length, Bool, replicate, nat_eq, nat_lt, slice_get, Some, if◌then◌else◌}
-use Rattle.std.specs.List.{fold, list_any}
-use Rattle.std.specs.Option.{option_eq}
+use Rattle.std.specs.Prelude.{ℕ, ◌+◌, List, [], ◌∷◌, ◌++◌, Bool, replicate, nat_lt, if◌then◌else◌}
+use Rattle.std.specs.List.{list_any}
 use Rattle.fan_base.specs.declared.doc.Doc.{Doc}
 use Rattle.fan_base.specs.declared.word.Word.{Word}
 use Rattle.query_grammar.specs.Tree.{Tree}
@@ -39,15 +38,3 @@ standing_of word docs = standing_from 0 word docs
 abbrev pub front_of : ℕ → List ℕ → List ℕ
 front_of front [] = []
 front_of front (place ∷ places) = if nat_lt place front then place ∷ front_of front places else []
-
--- whether a place is the last of the list
-abbrev pub is_last : List ℕ → ℕ → Bool
-is_last places place = option_eq nat_eq (slice_get places (length places - 1)) (Some place)
-
--- the list with one place more, where that isn't the last already
-abbrev pub with_place : List ℕ → ℕ → List ℕ
-with_place places place = if is_last places place then places else places ++ place ∷ []
-
--- the places, each but once where it follows itself
-abbrev pub distinct : List ℕ → List ℕ
-distinct places = fold with_place [] places

@@ -5,14 +5,21 @@ use Rattle.fan_base.specs.declared.word.Word.{Word}
 use Rattle.query_model.specs.declared.reply.Hits.{Hits}
 use Rattle.query_model.specs.Answers.{ids_of}
 use Rattle.query_model.specs.Limits.{most_listed}
+use Rattle.shard_index.specs.declared.selection.Places.{Places}
+use Rattle.shard_index.specs.declared.selection.Places.TheVariants.{Lent, Made}
 use Rattle.shard_index.specs.declared.selection.Selection.{Selection}
 use Rattle.shard_index.specs.declared.selection.Selection.TheVariants.{Those, AllBut}
 use Rattle.shard_index.specs.Places.{has_one, places_where}
 
+-- the places that are lent or made
+abbrev pub places_in : Places → List ℕ
+places_in (Lent places) = places.now
+places_in (Made places) = places.items
+
 -- of these documents the selection is of those that pass the test
 abbrev pub Selects : Selection → (Doc → Bool) → List Doc → Type 0
-Selects (Those places) test docs = places.items ≡ places_where test docs
-Selects (AllBut places) test docs = places.items ≡ places_where (λ doc. not (test doc)) docs
+Selects (Those places) test docs = places_in places ≡ places_where test docs
+Selects (AllBut places) test docs = places_in places ≡ places_where (λ doc. not (test doc)) docs
 
 -- the first 100 ids of the documents that pass a test, and how many pass
 abbrev pub hits_where : (Doc → Bool) → List Doc → Hits

@@ -12,7 +12,7 @@ use Rattle.shard_index.specs.declared.shard.Shard.{Shard}
 use Rattle.shard_index.specs.declared.shards.Shards.{Shards}
 use Rattle.shard_index.specs.Places.{standing_of}
 use Rattle.word_table.specs.Numbers.{Knows, words_in}
-use Rattle.word_table.specs.Rows.{HasPlaces}
+use Rattle.word_table.specs.Told.{HasPlaces}
 
 -- the words of each document are at most 1,000
 abbrev pub AreShort : List Doc → Type 0

@@ -18,7 +18,7 @@ pub fn hits(
     alloc: Global,
     ids: &[u32],
     ascending: bool,
-    selection: &Selection,
+    selection: &Selection<'_>,
 ) -> Result<Hits, AllocError>
     requires selected { AreSelected ids.now selection.now }
     requires ascends { ascending ≡ true → IsInOrder nat_lt ids.now }

@@ -7,19 +7,20 @@ ghost use Rattle.query_model.specs.Parts.{weighted_score, weighted_top};
 ghost use Rattle.word_table.specs.Numbered.{AreNumbers, doc_by};
 ghost use Rattle.word_table.specs.Numbers.{Knows, words_in};
 ghost use Rattle.word_table.specs.Rows.{AreFewAndShort, lent};
+ghost use Rattle.word_table.specs.Told.{Tell};
 ghost use Rattle.shard_index.specs.Counting.{counts_of, DifferentWords};
 ghost use Rattle.shard_index.specs.Places.{has_one, has_word, holds_in, places_where, standing_of};
 ghost use Rattle.shard_index.specs.Selections.{Selects};
 ghost use Rattle.shard_index.specs.Standing.{HasRoom, Indexes};
 
 use crate::counts::Counts;
-use crate::front::{below, count_distinct, distinct};
+use crate::front::below;
 use crate::hits::hits;
 use crate::join::all;
 use crate::leaves::two_words;
 use crate::marks::{mark_at, no_marks};
-use crate::narrow::narrow_once;
-use crate::selection::{Selection, both};
+use crate::narrow::narrow;
+use crate::selection::{Places, Selection, both};
 use crate::totals::{add_at, first_of_all, first_scores, zeros};
 use fan_base::{Numbers, Scores, Word};
 use query_grammar::{Expr, Node};
@@ -101,16 +102,21 @@ impl Index {
         requires { (docs : List Doc) × Indexes self.now docs }
         ensures { (docs : List Doc) → Indexes self.now docs → result ≡ length (having word.now (take front docs)) }
     {
-        count_distinct(below(self.standing(word), front)) as u64
+        self.places_with(front, word).len() as u64
     }
 
     /// The documents for which the expression holds. It calls itself once for each level of the tree.
-    fn select(&self, alloc: Global, front: usize, e: &Expr) -> Result<Selection, AllocError>
+    fn select<'s>(
+        &'s self,
+        alloc: Global,
+        front: usize,
+        e: &Expr,
+    ) -> Result<Selection<'s>, AllocError>
         requires { (docs : List Doc) × Indexes self.now docs }
         ensures { (docs : List Doc) → Indexes self.now docs → IfOk result (λ selection. Selects selection (holds_in e.now) (take front docs)) }
     {
         match e.node() {
-            Node::Word(word) => Ok(Selection::Those(self.places_with(alloc, front, word)?)),
+            Node::Word(word) => Ok(Selection::Those(Places::Lent(self.places_with(front, word)))),
             Node::Not(e) => Ok(self.select(alloc, front, e)?.complement()),
             Node::Both(a, b) => match two_words(a, b) {
                 Some((a, b, wanted)) => self.select_two(alloc, front, a, b, wanted),
@@ -128,26 +134,28 @@ impl Index {
         }
     }
 
-    /// The documents with the first word and, where that is wanted, with the second, or else without it. Of the second, or of that which
-    /// stands more often, no list of places is made.
-    fn select_two(
-        &self,
+    /// The documents with the first word and, where that is wanted, with the second, or else without it. The shorter list is gone over
+    /// where both are wanted.
+    fn select_two<'s>(
+        &'s self,
         alloc: Global,
         front: usize,
         first: &Word,
         second: &Word,
         wanted: bool,
-    ) -> Result<Selection, AllocError>
+    ) -> Result<Selection<'s>, AllocError>
         requires { (docs : List Doc) × Indexes self.now docs }
         ensures { (docs : List Doc) → Indexes self.now docs → IfOk result (λ selection. Selects selection
             (λ doc. has_word first.now doc && (if wanted then has_word second.now doc else not (has_word second.now doc))) (take front docs)) }
     {
-        let at_first = below(self.standing(first), front);
-        let at_second = below(self.standing(second), front);
+        let at_first = self.places_with(front, first);
+        let at_second = self.places_with(front, second);
         if wanted && at_second.len() < at_first.len() {
-            Ok(Selection::Those(narrow_once(alloc, at_second, at_first, true)?))
+            let kept = narrow(alloc, at_second, at_first, true)?;
+            Ok(Selection::Those(Places::Made(kept)))
         } else {
-            Ok(Selection::Those(narrow_once(alloc, at_first, at_second, wanted)?))
+            let kept = narrow(alloc, at_first, at_second, wanted)?;
+            Ok(Selection::Those(Places::Made(kept)))
         }
     }
 
@@ -161,9 +169,9 @@ impl Index {
         let mut marks = no_marks(alloc, front)?;
         let mut any = 0;
         for word in words {
-            let places = self.places_with(alloc, front, word)?;
+            let places = self.places_with(front, word);
             with.push(places.len() as u64)?;
-            any += mark_at(&mut marks, places.as_slice());
+            any += mark_at(&mut marks, places);
         }
         Ok(Counts {
             with: Numbers::from_vec(with),
@@ -245,13 +253,13 @@ impl Index {
         first_of_all(alloc, &self.ids[..front], totals.as_slice(), k)
     }
 
-    /// How often these words stand in the first documents.
+    /// In how many of the first documents each of these words stands, all together.
     fn times(&self, front: usize, words: &[Word]) -> usize
         requires { (docs : List Doc) × Indexes self.now docs }
     {
         let mut times: usize = 0;
         for word in words {
-            times = times.saturating_add(below(self.standing(word), front).len());
+            times = times.saturating_add(self.places_with(front, word).len());
         }
         times
     }
@@ -268,8 +276,7 @@ impl Index {
     {
         let mut places = Vec::new(alloc);
         for word in words {
-            let more = self.places_with(alloc, front, word)?;
-            places = all(alloc, places.as_slice(), more.as_slice())?;
+            places = all(alloc, places.as_slice(), self.places_with(front, word))?;
         }
         Ok(places)
     }
@@ -303,21 +310,23 @@ impl Index {
         ensures { (docs : List Doc) (score : Doc → ℕ) → Indexes self.now docs → totals.old.items ≡ map score (take front docs)
             → totals.new.items ≡ map (λ doc. score doc + times_in doc word.now * weight) (take front docs) }
     {
-        add_at(totals, below(self.standing(word), front), weight);
+        let (places, times) = self.standing(word);
+        let places = below(places, front);
+        add_at(totals, places, &times[..places.len()], weight);
     }
 
     /// The places of the documents with a word, among the first.
-    fn places_with(&self, alloc: Global, front: usize, word: &Word) -> Result<Vec<u32>, AllocError>
+    fn places_with(&self, front: usize, word: &Word) -> &[u32]
         requires { (docs : List Doc) × Indexes self.now docs }
-        ensures { (docs : List Doc) → Indexes self.now docs → IfOk result (λ places. places.items ≡ places_where (has_word word.now) (take front docs)) }
+        ensures { (docs : List Doc) → Indexes self.now docs → result.now ≡ places_where (has_word word.now) (take front docs) }
     {
-        distinct(alloc, below(self.standing(word), front))
+        below(self.standing(word).0, front)
     }
 
-    /// The places where a word stands, each once for each time.
-    fn standing(&self, word: &Word) -> &[u32]
+    /// The places where a word stands, and beside each how often it stands there.
+    fn standing(&self, word: &Word) -> (&[u32], &[u16])
         requires { (docs : List Doc) × Indexes self.now docs }
-        ensures { (docs : List Doc) → Indexes self.now docs → result.now ≡ standing_of word.now docs }
+        ensures { (docs : List Doc) → Indexes self.now docs → Tell result.0.now result.1.now (standing_of word.now docs) }
     {
         self.places.places(&self.dictionary, word)
     }

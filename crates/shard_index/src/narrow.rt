@@ -1,13 +1,11 @@
 ghost use Rattle.std.specs.Prelude.{◌≡◌, ◌-◌, ◌<◌, ◌≤◌, ◌&&◌, ◌++◌, ◌∷◌, [], List, Bool, IfOk, OnOk, get_or, length, nat_eq, nat_lt, not, if◌then◌else◌};
 ghost use Rattle.fan_base.specs.declared.doc.Doc.{Doc};
 ghost use Rattle.shard_index.specs.Narrowing.{StandWhere};
-ghost use Rattle.shard_index.specs.Places.{distinct, places_where};
+ghost use Rattle.shard_index.specs.Places.{places_where};
 
-use crate::front::distinct;
 use std::alloc::{AllocError, Global};
 
-/// The places of one list that are among others, or, where those aren't wanted, that are not. Both ascend; of the others each may
-/// stand several times.
+/// The places of one list that are among others, or, where those aren't wanted, that are not. Both ascend.
 pub fn narrow(
     alloc: Global,
     places: &[u32],
@@ -26,20 +24,6 @@ pub fn narrow(
         push_if(&mut kept, is_kept(wanted, has), *place)?;
     }
     Ok(kept)
-}
-
-/// The same, where a place may stand several times in the first list too. It is kept once.
-pub fn narrow_once(
-    alloc: Global,
-    places: &[u32],
-    others: &[u32],
-    wanted: bool,
-) -> Result<Vec<u32>, AllocError>
-    ensures { (p q : Doc → Bool) (docs : List Doc) → distinct places.now ≡ places_where p docs → StandWhere others.now q docs
-        → IfOk result (λ kept. kept.items ≡ places_where (λ doc. p doc && (if wanted then q doc else not (q doc))) docs) }
-{
-    let once = distinct(alloc, places)?;
-    narrow(alloc, once.as_slice(), others, wanted)
 }
 
 /// Where the first place from an index on stands that isn't below this one. It goes by steps that double where it is likely far.

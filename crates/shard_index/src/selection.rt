@@ -1,7 +1,7 @@
 ghost use Rattle.std.specs.Prelude.{◌≡◌, List, Bool, not, ◌&&◌, IfOk, filter, length};
 ghost use Rattle.fan_base.specs.declared.doc.Doc.{Doc};
 ghost use Rattle.shard_index.specs.Places.{places_where};
-ghost use Rattle.shard_index.specs.Selections.{Selects};
+ghost use Rattle.shard_index.specs.Selections.{Selects, places_in};
 
 use crate::join::all;
 use crate::narrow::narrow;
@@ -9,17 +9,36 @@ use std::alloc::{AllocError, Global};
 
 /// Some of the documents of an index. A complement costs nothing as long as nothing asks for its places.
 #[derive(Drop)]
-pub enum Selection {
+pub enum Selection<'s> {
     /// Those with these places, which ascend.
-    Those(Vec<u32>),
+    Those(Places<'s>),
     /// All but those.
-    AllBut(Vec<u32>),
+    AllBut(Places<'s>),
 }
 
-impl Selection {
+/// Places in a list that an index lends, or in one that was made.
+#[derive(Drop)]
+pub enum Places<'s> {
+    Lent(&'s [u32]),
+    Made(Vec<u32>),
+}
+
+impl<'s> Places<'s> {
+    /// The places.
+    pub fn as_slice(&self) -> &[u32]
+        ensures { result.now ≡ places_in self.now }
+    {
+        match self {
+            Places::Lent(places) => places,
+            Places::Made(places) => places.as_slice(),
+        }
+    }
+}
+
+impl<'s> Selection<'s> {
     /// The documents that aren't selected.
-    pub fn complement(self) -> Selection
-        ensures { (test : Doc → Bool) (docs : List Doc) → Selects self test docs → Selects result (λ doc. not (test doc)) docs }
+    pub fn complement(self) -> Selection<'s>
+        ensures { (test : Doc → Bool) (docs : List Doc) → Selects self.entry test docs → Selects result (λ doc. not (test doc)) docs }
     {
         match self {
             Selection::Those(places) => Selection::AllBut(places),
@@ -32,38 +51,38 @@ impl Selection {
         ensures { (test : Doc → Bool) (docs : List Doc) → length docs ≡ all → Selects self.now test docs → result ≡ length (filter test docs) }
     {
         match self {
-            Selection::Those(places) => places.len() as u64,
-            Selection::AllBut(places) => all.saturating_sub(places.len()) as u64,
+            Selection::Those(places) => places.as_slice().len() as u64,
+            Selection::AllBut(places) => all.saturating_sub(places.as_slice().len()) as u64,
         }
     }
 }
 
 /// The documents that both select.
-pub fn both(alloc: Global, a: &Selection, b: &Selection) -> Result<Selection, AllocError>
+pub fn both<'s>(
+    alloc: Global,
+    a: &Selection<'s>,
+    b: &Selection<'s>,
+) -> Result<Selection<'s>, AllocError>
     ensures { (p q : Doc → Bool) (docs : List Doc) → Selects a.now p docs → Selects b.now q docs
         → IfOk result (λ selection. Selects selection (λ doc. p doc && q doc) docs) }
 {
     match (a, b) {
-        (Selection::Those(a), Selection::Those(b)) => Ok(Selection::Those(common(
-            alloc,
-            a.as_slice(),
-            b.as_slice(),
-        )?)),
-        (Selection::Those(a), Selection::AllBut(b)) => Ok(Selection::Those(without(
-            alloc,
-            a.as_slice(),
-            b.as_slice(),
-        )?)),
-        (Selection::AllBut(a), Selection::Those(b)) => Ok(Selection::Those(without(
-            alloc,
-            b.as_slice(),
-            a.as_slice(),
-        )?)),
-        (Selection::AllBut(a), Selection::AllBut(b)) => Ok(Selection::AllBut(all(
-            alloc,
-            a.as_slice(),
-            b.as_slice(),
-        )?)),
+        (Selection::Those(a), Selection::Those(b)) => {
+            let kept = common(alloc, a.as_slice(), b.as_slice())?;
+            Ok(Selection::Those(Places::Made(kept)))
+        }
+        (Selection::Those(a), Selection::AllBut(b)) => {
+            let kept = without(alloc, a.as_slice(), b.as_slice())?;
+            Ok(Selection::Those(Places::Made(kept)))
+        }
+        (Selection::AllBut(a), Selection::Those(b)) => {
+            let kept = without(alloc, b.as_slice(), a.as_slice())?;
+            Ok(Selection::Those(Places::Made(kept)))
+        }
+        (Selection::AllBut(a), Selection::AllBut(b)) => {
+            let left_out = all(alloc, a.as_slice(), b.as_slice())?;
+            Ok(Selection::AllBut(Places::Made(left_out)))
+        }
     }
 }
 

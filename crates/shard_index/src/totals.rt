@@ -1,5 +1,6 @@
 ghost use Rattle.std.specs.Prelude.{◌≡◌, ◌<◌, ◌^◌, All, IfOk, get_or, length, map, replicate, take, zip};
 ghost use Rattle.query_model.specs.Answers.{ranked};
+ghost use Rattle.word_table.specs.Told.{repeated};
 ghost use Rattle.shard_index.specs.Totals.{added_at};
 
 use crate::best::{keep_score, least_total};
@@ -13,14 +14,15 @@ pub fn zeros(alloc: Global, count: usize) -> Result<Vec<u64>, AllocError>
     vec![in alloc; 0; count]
 }
 
-/// Adds a weight to the totals at these places, once for each time that a place stands among them.
-pub fn add_at(totals: &mut Vec<u64>, places: &[u32], weight: u64)
+/// Adds a weight to the totals at these places, at each as often as is told beside it.
+pub fn add_at(totals: &mut Vec<u64>, places: &[u32], times: &[u16], weight: u64)
+    requires many { length times.now ≡ length places.now }
     requires places { All (λ place. place < length totals.old.items) places.now }
-    requires fits { All (λ total. total < 2 ^ 64) (added_at weight totals.old.items places.now) }
-    ensures { totals.new.items ≡ added_at weight totals.old.items places.now }
+    requires fits { All (λ total. total < 2 ^ 64) (added_at weight totals.old.items (repeated places.now times.now)) }
+    ensures { totals.new.items ≡ added_at weight totals.old.items (repeated places.now times.now) }
 {
-    for place in places {
-        totals[*place as usize] += weight;
+    for i in 0..places.len() {
+        totals[places[i] as usize] += u64::from(times[i]) * weight;
     }
 }
 

@@ -3,3 +3,4 @@ pub mod Places
 pub mod Rows
 pub mod Numbered
 pub mod Tables
+pub mod Told

@@ -1,5 +1,17 @@
 //! Words as numbers: a dictionary that numbers words as they come, documents by such numbers, and places sorted by the number of the word
 //! that stands there.
+//!
+//! The first word that comes has number 0, and each new one the next. A document is then its id and 4 bytes a word, and the places of a
+//! part of the documents are sorted by counting over these numbers, with no comparison of words.
+//!
+//! - `Dictionary::number_doc`, `doc_by`: a document by numbers, and back again. Contracts see a dictionary as the list of its words
+//!   (`Knows`).
+//! - `DocTable`: documents by numbers, and the dictionary that several indexes may share (`IsTableOf`).
+//! - `Sorted::of`, `places`: for each word the places where it stands, each once, and beside each how often (`Tell`).
+//! - `numbers_stay`: the law that numbers stay right where words are added.
+//!
+//! A word is found by a hint of its hash, which is compared with the word; where the hint fails, an ordered map has it. So no contract
+//! speaks of a hint, and words chosen so that their hashes agree cost a search each and no more.
 #![tactic(auto)]
 
 pub use dictionary::Dictionary;
@@ -11,4 +23,5 @@ mod dictionary;
 mod doc_table;
 mod hints;
 mod numbered;
+mod repeated;
 mod sorted;

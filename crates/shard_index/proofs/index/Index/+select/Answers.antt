@@ -7,9 +7,9 @@ use Rattle.shard_index.specs.Places.{holds_in, places_where}
 use Rattle.shard_index.proofs.SelectionLemmas.{Selects-same, or_by_and}
 use Rattle.shard_index.proofs.index.Index.+select.Goals as goal
 
-pub returns-in_ok-places_with-in-Word : goal.returns-in_ok-places_with-in-Word
-returns-in_ok-places_with-in-Word t c = λ docs stands.
-    c.in_ok-places_with-in-Word.ensures docs stands
+pub returns-in-Word : goal.returns-in-Word
+returns-in-Word t c = λ docs stands.
+    c.places_with.ensures docs stands
     ∙ ap (λ tree. places_where (holds_in tree) (take c.args.front docs)) (ap tree_at (sym c.in-Word.is) ∙ c.node.ensures)
 
 pub returns-in-Some : goal.returns-in-Some

@@ -1,4 +1,4 @@
-use Rattle.std.proofs.Common.{◌≡◌, arith, ◌++◌, ◌∷◌, [], ◌||◌, Bool, ℕ, length, map, take, ap, sym, ◌∙◌}
+use Rattle.std.proofs.Common.{arith, ◌++◌, ◌∷◌, [], ◌||◌, Bool, ℕ, length, map, take, ap, sym, ◌∙◌}
 use Rattle.std.specs.List.{count_by, list_any}
 use Rattle.std.proofs.lemmas.List.{length-map, map_more, take_all}
 use Rattle.std.proofs.lemmas.List.Folds.{list_any_more}
@@ -26,8 +26,8 @@ mark_at-any-requires c =
     let stands = c.requires.docs.1 in
     let first = take c.args.front docs in
     let mark : Doc → Bool = λ doc. list_any (λ w. is_among w doc.words) (take c.loop-word.word-index c.args.words.now) in
-    places-within (has_word c.word-item.result) first c.as_slice.result.now (length c.loop-word.marks.items)
-    (c.as_slice.ensures.value ∙ c.in_ok-places.ensures docs stands)
+    places-within (has_word c.word-item.result) first c.places_with-places.result.now (length c.loop-word.marks.items)
+    (c.places_with-places.ensures docs stands)
     (ap length (c.loop-word.invariant.marks docs stands) ∙ length-map first mark)
 
 pub loop-word-preserved : goal.loop-word-preserved
@@ -38,15 +38,14 @@ loop-word-preserved c =
     record {
       with = λ docs stands.
           let f : Word → ℕ = λ w. length (having w (take c.args.front docs)) in
-          let counted = count-having word (take c.args.front docs) c.in_ok-places.places.items (c.in_ok-places.ensures docs stands) in
-          let many : c.len.result ≡ length c.in_ok-places.places.items = omega (arith, c.len.ensures, c.in_ok-places.places.ok) in
+          let counted = count-having word (take c.args.front docs) c.places_with-places.result.now (c.places_with-places.ensures docs stands) in
           c.in_ok-push.ensures.items
-          ∙ ((λ k. c.loop-word.invariant.with docs stands k ++ (many ∙ counted) k ∷ [])
+          ∙ ((λ k. c.loop-word.invariant.with docs stands k ++ counted k ∷ [])
           ∙ sym (map_more f words i word c.loop-word-test.true ∙ ap (λ w. map f (take i words) ++ f w ∷ []) (sym c.word-item.is)));
       marks = λ docs stands.
           let first = take c.args.front docs in
           let mark : Doc → Bool = λ doc. list_any (λ w. is_among w doc.words) (take i words) in
-          let at = c.as_slice.ensures.value ∙ c.in_ok-places.ensures docs stands in
+          let at = c.places_with-places.ensures docs stands in
           c.mark_at-any.ensures.marks
           ∙ ((λ k. marked_at (c.loop-word.invariant.marks docs stands k) (at k))
           ∙ (marked-word (has_word word) mark first

@@ -4,7 +4,8 @@ use Rattle.std.specs.List.Sorted.{IsNonDecreasing}
 use Rattle.word_table.specs.declared.dictionary.Dictionary.{Dictionary}
 use Rattle.word_table.specs.Numbered.{doc_by}
 use Rattle.word_table.specs.Numbers.{Knows, words_in}
-use Rattle.word_table.specs.Rows.{HasPlaces, lent, standing_in}
+use Rattle.word_table.specs.Rows.{lent, standing_in}
+use Rattle.word_table.specs.Told.{HasPlaces}
 use Rattle.shard_index.specs.Places.{standing_of}
 use Rattle.shard_index.proofs.TableLemmas.{are-few, are-short, ids-by, same-standing}
 use Rattle.shard_index.proofs.index.Index.of.Goals as goal

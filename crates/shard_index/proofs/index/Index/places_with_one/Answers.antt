@@ -16,7 +16,7 @@ loop-word-preserved c = λ docs stands.
     let i = c.loop-word.word-index in
     let word = c.word-item.result in
     let first = take c.args.front docs in
-    c.in_ok-places.ensures (has_one (take i words)) (has_word word) first (c.as_slice.ensures.value ∙ c.loop-word.invariant docs stands) (c.as_slice-in-loop-word.ensures.value ∙ c.in_ok-more.ensures docs stands)
+    c.in_ok-places.ensures (has_one (take i words)) (has_word word) first (c.as_slice.ensures.value ∙ c.loop-word.invariant docs stands) (c.places_with.ensures docs stands)
     ∙ (λ k. places_where (λ doc. sym (list_any_more (λ w. is_among w doc.words) words i word c.loop-word-test.true
     ∙ ap (λ w. has_one (take i words) doc || is_among w doc.words) (sym c.word-item.is)) k) first)
 

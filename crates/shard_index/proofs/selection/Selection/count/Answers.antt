@@ -18,10 +18,10 @@ pub returns-in-Those : goal.returns-in-Those
 returns-in-Those c = λ test docs many selects.
     let at = subst (λ (s : Selection). Selects s test docs) c.in-Those.is selects in
     let counted = ap length at ∙ length-places 0 test docs in
-    omega (arith, counted, c.len.ensures, c.in-Those.places.ok)
+    omega (arith, counted, ap length c.as_slice.ensures)
 
 pub returns-in-AllBut : goal.returns-in-AllBut
 returns-in-AllBut c = λ test docs many selects.
     let at = subst (λ (s : Selection). Selects s test docs) c.in-AllBut.is selects in
     let counted = ap length at ∙ length-places 0 (λ doc. not (test doc)) docs in
-    omega (arith, counted, parted test docs, many, c.saturating_sub.ensures, c.len-in-AllBut.ensures, c.in-AllBut.places.ok)
+    omega (arith, counted, parted test docs, many, c.saturating_sub.ensures, ap length c.as_slice-in-AllBut.ensures)
