@@ -1,1 +1,4 @@
 mod Short
+mod Looks
+mod Ranks
+mod Scores

@@ -1,10 +1,23 @@
-// Drawn documents, whose ids don't come in order, with repeats, one of 1,000 words and one of none, beside a look at every document.
+// Drawn documents, of which shards have to say what a plain shard says that looks at each of them.
+ghost use Rattle.std.specs.Prelude.{◌≤◌};
+ghost use Rattle.shard_index.specs.Standing.{StandForAll, StandForSome};
+
 use crate::documents::{expression, shards_of, words_of};
-use fan_base::{Doc, Docs, Word, Words};
-use query_expr::{Expr, holds};
+use crate::plain::PlainShard;
+use fan_base::{Doc, Docs, Numbers, Word, Words};
+use query_expr::Expr;
 use query_model::{Ask, Reply};
+use shard_index::{Counts, Shards};
 use std::alloc::Global;
 use std::test::Fail;
+
+/// What is asked of documents: of the first n of them for every n below `end`.
+struct Questions {
+    finds: &'static [&'static str],
+    tops: &'static [(u32, &'static str)],
+    counts: &'static [&'static str],
+    end: u32,
+}
 
 const TEXTS: [&str; 7] = ["a b", "a c a", "b c", "c", "d a a a", "b d", "a b c d"];
 
@@ -19,6 +32,14 @@ pub const ASKED: [&str; 8] = [
     "a ( b | ! c ) | ! ( a | d )",
 ];
 
+const OF_DRAWN: Questions = Questions {
+    finds: &ASKED,
+    tops: &[(3, "a"), (100, "c a"), (7, "d e b"), (200, "d")],
+    counts: &["a b c d e a", "d", "e"],
+    end: 135,
+};
+
+// 133 documents whose ids don't come in order, some with a word several times, one of 1,000 words and one of none.
 pub fn drawn_docs(alloc: Global) -> Result<Docs, Fail> {
     let mut docs = Docs::new(alloc);
     for i in 0..131u32 {
@@ -41,108 +62,200 @@ pub fn drawn_docs(alloc: Global) -> Result<Docs, Fail> {
     Ok(docs)
 }
 
-// The ids of the documents that hold, ascending.
-fn ids_holding(alloc: Global, docs: &[Doc], e: &Expr) -> Result<Vec<u32>, Fail> {
-    let mut ids = Vec::new(alloc);
-    for doc in docs {
-        if holds(e, doc) {
-            ids.push(doc.id)?;
+const FREQUENT: [&str; 7] = ["f", "f g", "f f", "g", "f g f", "f", "h"];
+
+const OF_ASCENDING: Questions = Questions {
+    finds: &[
+        "f",
+        "r",
+        "! r",
+        "! f",
+        "r f",
+        "f r",
+        "r ! f",
+        "f ! r",
+        "r | f",
+        "! r ! f",
+        "r ( f | ! g ) | h g",
+    ],
+    tops: &[(150, "f"), (5, "r"), (100, "r f"), (7, "g r h")],
+    counts: &["f r", "h g r e"],
+    end: 302,
+};
+
+// 300 documents whose ids ascend. The word f stands in more than 16 times as many as r, but not in the last ones.
+fn ascending_docs(alloc: Global) -> Result<Docs, Fail> {
+    let mut docs = Docs::new(alloc);
+    for i in 0..300u32 {
+        let text = match i % 100 {
+            41 => "r",
+            53 => "r f r",
+            99 => "g r",
+            _ if i > 280 => "g",
+            _ => FREQUENT[i as usize % 7],
+        };
+        docs.push(Doc {
+            id: i * 3 + 5,
+            words: words_of(alloc, text)?,
+        })?;
+    }
+    Ok(docs)
+}
+
+/// The first n with the first n documents of which the shards don't find what the plain shard does.
+fn finds_differ(
+    shards: &Shards,
+    plain: &PlainShard,
+    text: &str,
+    end: u32,
+) -> Result<Option<u32>, Fail>
+    requires { StandForAll shards.now plain.now.docs }
+{
+    let e = expression(plain.alloc, text)?;
+    let ask = Ask::Find(expression(plain.alloc, text)?);
+    for before in 0..end {
+        let wanted = plain.find(&e, before)?;
+        let same = match shards.answer(&ask, before)? {
+            Reply::Find(hits) => {
+                hits.total == wanted.total && hits.ids.as_slice() == wanted.ids.as_slice()
+            }
+            _ => false,
+        };
+        if !same || count_together(shards, plain, &e, before)? != wanted.total {
+            return Ok(Some(before));
         }
     }
-    ids.sort()?;
-    Ok(ids)
+    Ok(None)
+}
+
+/// The same for what ranks first.
+fn tops_differ(
+    shards: &Shards,
+    plain: &PlainShard,
+    k: u32,
+    text: &str,
+    end: u32,
+) -> Result<Option<u32>, Fail>
+    requires { StandForSome shards.now }
+{
+    let words = words_of(plain.alloc, text)?;
+    let ask = Ask::Top(k, words_of(plain.alloc, text)?);
+    for before in 0..end {
+        let wanted = plain.top(&words, k, before)?;
+        let same = match shards.answer(&ask, before)? {
+            Reply::Top(scores) => scores.as_slice() == wanted.as_slice(),
+            _ => false,
+        };
+        if !same {
+            return Ok(Some(before));
+        }
+    }
+    Ok(None)
+}
+
+/// The same for what all shards count together.
+fn counts_differ(
+    shards: &Shards,
+    plain: &PlainShard,
+    text: &str,
+    end: u32,
+) -> Result<Option<u32>, Fail>
+    requires { StandForAll shards.now plain.now.docs }
+{
+    let words = words_of(plain.alloc, text)?;
+    for before in 0..end {
+        let wanted = plain.counts(&words, before)?;
+        let counts = counts_together(shards, plain, &words, before)?;
+        if counts.any != wanted.any || counts.with.as_slice() != wanted.with.as_slice() {
+            return Ok(Some(before));
+        }
+    }
+    Ok(None)
+}
+
+/// For how many documents of all shards the expression holds.
+fn count_together(shards: &Shards, plain: &PlainShard, e: &Expr, before: u32) -> Result<u64, Fail>
+    requires { StandForAll shards.now plain.now.docs }
+{
+    let mut total = 0u64;
+    for shard in shards.as_slice() {
+        total = total.saturating_add(shard.count(e, before)?);
+    }
+    Ok(total)
+}
+
+/// What the shards of the plain shard's documents count, added up.
+fn counts_together(
+    shards: &Shards,
+    plain: &PlainShard,
+    words: &Words,
+    before: u32,
+) -> Result<Counts, Fail>
+    requires { StandForAll shards.now plain.now.docs }
+{
+    let mut with = vec![in plain.alloc; 0u64; words.len()]?;
+    let mut any = 0u64;
+    for shard in shards.as_slice() {
+        let counts = shard.counts(words, before)?;
+        for (total, more) in with.iter_mut().zip(counts.with.as_slice()) {
+            *total = total.saturating_add(*more);
+        }
+        any = any.saturating_add(counts.any);
+    }
+    Ok(Counts {
+        with: Numbers::from_vec(with),
+        any,
+    })
+}
+
+/// The first question, and the first n, where so many shards don't answer as the plain shard does.
+fn first_difference(
+    plain: &PlainShard,
+    count: u32,
+    asked: &Questions,
+) -> Result<Option<(&'static str, u32)>, Fail>
+    requires some { 1 ≤ count }
+    requires many { count ≤ 64 }
+{
+    let shards = shards_of(plain.alloc, &plain.docs, count)?;
+    for text in asked.finds {
+        if let Some(before) = finds_differ(&shards, plain, text, asked.end)? {
+            return Ok(Some((*text, before)));
+        }
+    }
+    for (k, text) in asked.tops {
+        if let Some(before) = tops_differ(&shards, plain, *k, text, asked.end)? {
+            return Ok(Some((*text, before)));
+        }
+    }
+    for text in asked.counts {
+        if let Some(before) = counts_differ(&shards, plain, text, asked.end)? {
+            return Ok(Some((*text, before)));
+        }
+    }
+    Ok(None)
 }
 
 #[test]
-fn shards_find_what_a_look_at_every_document_finds(rt: HostRuntime) -> Result<(), Fail> {
+fn shards_answer_as_a_plain_shard_does(rt: HostRuntime) -> Result<(), Fail> {
     let alloc = rt.alloc();
     let docs = drawn_docs(alloc)?;
+    let plain = PlainShard::new(alloc, docs)?;
     for count in [1, 3, 64] {
-        let shards = shards_of(alloc, &docs, count)?;
-        for asked in ASKED {
-            let e = expression(alloc, asked)?;
-            let ask = Ask::Find(expression(alloc, asked)?);
-            for before in 0..135u32 {
-                let front = docs.len().min(before as usize);
-                let mut ids = ids_holding(alloc, &docs.as_slice()[..front], &e)?;
-                let total = ids.len() as u64;
-                ids.truncate(100);
-                if let Reply::Find(hits) = shards.answer(&ask, before)? {
-                    assert_eq!(rt; hits.total, total, "{asked}");
-                    assert_eq!(rt; hits.ids.as_slice(), ids.as_slice(), "{asked}");
-                }
-            }
-        }
+        let differ = first_difference(&plain, count, &OF_DRAWN)?;
+        assert_eq!(rt; differ, None, "{count} shards");
     }
     Ok(())
 }
 
-// How often a word stands in a document.
-fn times_in(doc: &Doc, word: &Word) -> u64 {
-    doc.words.iter().filter(|other| *other == word).count() as u64
-}
-
-// How many of the documents have the word.
-fn count_with(docs: &[Doc], word: &Word) -> u64 {
-    docs.iter().filter(|doc| times_in(doc, word) > 0).count() as u64
-}
-
-fn score_of(docs: &[Doc], words: &[Word], doc: &Doc) -> u64 {
-    let mut score = 0u64;
-    for word in words {
-        let with = count_with(docs, word);
-        if with > 0 {
-            let weight = docs.len() as u64 / with;
-            score = score.saturating_add(times_in(doc, word).saturating_mul(weight));
-        }
-    }
-    score
-}
-
-// The first scores of the documents, each as a number that is smaller where it comes earlier.
-fn best_keys(alloc: Global, docs: &[Doc], words: &[Word], k: usize) -> Result<Vec<u128>, Fail> {
-    let mut keys = Vec::new(alloc);
-    for doc in docs {
-        let score = score_of(docs, words, doc);
-        if score > 0 {
-            keys.push(key_of(doc.id, score))?;
-        }
-    }
-    keys.sort()?;
-    keys.truncate(k);
-    Ok(keys)
-}
-
-fn key_of(id: u32, score: u64) -> u128 {
-    u128::from(u64::MAX - score) << 32 | u128::from(id)
-}
-
 #[test]
-fn shards_rank_as_a_look_at_every_document_does(rt: HostRuntime) -> Result<(), Fail> {
+fn shards_of_ascending_ids_answer_as_a_plain_shard_does(rt: HostRuntime) -> Result<(), Fail> {
     let alloc = rt.alloc();
-    let docs = drawn_docs(alloc)?;
+    let docs = ascending_docs(alloc)?;
+    let plain = PlainShard::new(alloc, docs)?;
     for count in [1, 3, 64] {
-        let shards = shards_of(alloc, &docs, count)?;
-        for (asked, k) in [("a", 3), ("c a", 100), ("d e b", 7), ("d", 200)] {
-            let words = words_of(alloc, asked)?;
-            let ask = Ask::Top(k, words_of(alloc, asked)?);
-            for before in [0, 1, 2, 30, 64, 131, 132, 133] {
-                let front = docs.len().min(before as usize);
-                let wanted = best_keys(
-                    alloc,
-                    &docs.as_slice()[..front],
-                    words.as_slice(),
-                    k as usize,
-                )?;
-                if let Reply::Top(scores) = shards.answer(&ask, before)? {
-                    let mut keys = Vec::new(alloc);
-                    for (id, score) in scores.as_slice() {
-                        keys.push(key_of(*id, *score))?;
-                    }
-                    assert_eq!(rt; keys.as_slice(), wanted.as_slice(), "{asked}");
-                }
-            }
-        }
+        let differ = first_difference(&plain, count, &OF_ASCENDING)?;
+        assert_eq!(rt; differ, None, "{count} shards");
     }
     Ok(())
 }

@@ -8,6 +8,10 @@ mod drawn;
 #[cfg(test)]
 mod parts;
 #[cfg(test)]
+mod plain;
+#[cfg(test)]
+mod ranking;
+#[cfg(test)]
 mod rows;
 #[cfg(test)]
 mod tables;
