@@ -173,6 +173,3 @@ impl<X> Drop for Parcels<X> {
         }
     }
 }
-
-#[cfg(test)]
-mod tests;

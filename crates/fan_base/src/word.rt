@@ -71,7 +71,8 @@ impl Word {
 
     /// Its bytes, and zeros behind them: so words can be told apart, and read as numbers, with no look at their lengths.
     pub fn as_array(&self) -> &[u8; 32]
-        ensures { result.now ≡ padded self.now }
+        ensures bytes { result.now ≡ padded self.now }
+        ensures word { IsWord self.now }
     {
         &self.bytes
     }

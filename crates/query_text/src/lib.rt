@@ -1,4 +1,12 @@
-//! The text of inputs, replies and error lines.
+//! The text of inputs, replies and error lines: between bytes and what they mean.
+//!
+//! - `read_input`, `read_lines`: an input, or its lines alone with their documents as numbers; or the first bad line with its number and
+//!   kind, and where an expression is at fault, the place (`BadInput`). A line ends with a line feed; empty lines count and say nothing.
+//! - `write_input`: the text of an input. `input_law`: what is written is read back as it was.
+//! - `reply_line`, `error_line`: the line of a reply, and that of a bad input.
+//!
+//! A line is cut at its spaces into fields (`Fields`), and its first one tells its kind. Each reader answers what a definition over the
+//! bytes gives (`query_model`, `query_expr`), and want of memory is its only other answer.
 #![tactic(auto)]
 
 pub use law::input_law;

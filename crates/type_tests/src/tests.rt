@@ -1,4 +1,7 @@
-use super::*;
+use fan_base::{
+    Failed, Fault, Gate, HoldGate, Ids, JobId, LineGate, LineSink, MemSink, MemSource, Memory,
+    NullSink, Sink, Source, StdSink, StdSource, Try, Word, WordFault,
+};
 use std::alloc::{AllocError, Global};
 use std::collections::HashMap;
 use std::io::Cursor;

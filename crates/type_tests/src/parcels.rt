@@ -1,7 +1,7 @@
-use super::*;
+use fan_base::{Parcel, Parcels, Refused};
 use std::alloc::Global;
 use std::test::Fail;
-use std::thread::{Threads, join};
+use std::thread::join;
 
 // A value that must be spent.
 struct Pledge {
