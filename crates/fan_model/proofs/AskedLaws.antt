@@ -2,6 +2,7 @@
 use Rattle.std.proofs.Common.{◌≡◌, ℕ, suc, ◌+◌, ◌-◌, ◌≤◌, List, [], ◌∷◌, ◌++◌, length, cond, Option, Some, None, refl, sym, ap, ◌∙◌, arith, append_assoc, length-append, take, ◌<◌}
 use Rattle.std.specs.Prelude.{slice_get, map}
 use Rattle.std.specs.List.{AllByRecursion, count_by, range_with_len, sum_by}
+use Rattle.std.proofs.Math.Seq.{take-append_seam}
 use Rattle.std.proofs.lemmas.List.{take-append-le}
 use Rattle.std.proofs.lemmas.List.Sums.{sum_by-cons}
 use Rattle.std.proofs.lemmas.Option.{slice_get_within}
@@ -12,8 +13,9 @@ use Rattle.query_model.specs.Documents.{docs_of}
 use Rattle.query_model.specs.Lines.{is_query, ticks_of}
 use Rattle.query_model.specs.Order.{Asked, asked_from, asked_in, docs_before, due_of, due_with, now_at}
 use Rattle.query_model.specs.LineByLine.{next_asked}
+use Rattle.query_model.proofs.ListFacts.{slice_get-append_seam, slice_get-append_some}
+use Rattle.query_model.proofs.ListLaws.{all-implies}
 use Rattle.fan_model.specs.Comings.{IsAsked}
-use Rattle.fan_model.proofs.Lists.{at_left, at_seam, all-same}
 
 -- the same among any list of queries
 abbrev Stands : List Line → List Asked → Asked → Type 0
@@ -36,9 +38,9 @@ all_stand lines done (line.Query query ∷ rest) all front number place whole is
     let a : Asked = record { number = number; place = place; query = query } in
     let back : List Asked = asked_from (number + 1) (place + 1) rest in
     let at : slice_get all (number - 1) ≡ Some a =
-    ap (λ (l : List Asked). slice_get l (number - 1)) is ∙ at_seam front a back (number - 1) (omega arith) in
+    ap (λ (l : List Asked). slice_get l (number - 1)) is ∙ slice_get-append_seam front a back (number - 1) (omega arith) in
     let from_line : slice_get lines place ≡ Some (line.Query query) =
-    ap (λ (l : List Line). slice_get l place) whole ∙ at_seam done (line.Query query) rest place (sym far) in
+    ap (λ (l : List Line). slice_get l place) whole ∙ slice_get-append_seam done (line.Query query) rest place (sym far) in
     let from_one : 1 ≤ number = omega arith in (
       (at, from_one, from_line),
       all_stand lines (done ++ line.Query query ∷ []) rest all (front ++ a ∷ []) (number + 1) (place + 1) (whole ∙ sym (append_assoc done (line.Query query ∷ []) rest))
@@ -47,7 +49,7 @@ all_stand lines done (line.Query query ∷ rest) all front number place whole is
 
 pub all_asked : (lines : List Line) → AllByRecursion (IsAsked lines) (asked_in lines)
 all_asked lines =
-    all-same (Stands lines (asked_in lines)) (IsAsked lines) (λ a h. record { at = h.0; from_one = h.1; line = h.2 }) (asked_in lines)
+    all-implies (Stands lines (asked_in lines)) (IsAsked lines) (λ a h. record { at = h.0; from_one = h.1; line = h.2 }) (asked_in lines)
     (all_stand lines [] lines (asked_in lines) [] 1 0 refl refl refl refl)
 
 -- of each number there is one query
@@ -91,9 +93,9 @@ asked-append number place (line.Query query ∷ xs) ys =
 pub asked_more : (xs ys : List Line) (a : Asked) → IsAsked xs a → IsAsked (xs ++ ys) a
 asked_more xs ys a is = record {
   at = ap (λ (l : List Asked). slice_get l (a.number - 1)) (asked-append 1 0 xs ys)
-      ∙ at_left (asked_in xs) (asked_from (1 + count_by is_query xs) (0 + length xs) ys) (a.number - 1) a is.at;
+      ∙ slice_get-append_some (asked_in xs) (asked_from (1 + count_by is_query xs) (0 + length xs) ys) (a.number - 1) a is.at;
   from_one = is.from_one;
-  line = at_left xs ys a.place (line.Query a.query) is.line;
+  line = slice_get-append_some xs ys a.place (line.Query a.query) is.line;
 }
 
 asked_many : (number place : ℕ) (xs : List Line) → length (asked_from number place xs) ≡ count_by is_query xs
@@ -112,9 +114,9 @@ next_is_asked xs query =
     (asked_at (1 + count_by is_query xs) (0 + length xs) (1 + count_by is_query xs) (length xs) (line.Query query ∷ []) refl (omega arith)) in
     record {
       at = ap (λ (l : List Asked). slice_get l (1 + count_by is_query xs - 1)) all
-          ∙ at_seam (asked_in xs) (next_asked xs query) [] (1 + count_by is_query xs - 1) (omega (arith, asked_many 1 0 xs));
+          ∙ slice_get-append_seam (asked_in xs) (next_asked xs query) [] (1 + count_by is_query xs - 1) (omega (arith, asked_many 1 0 xs));
       from_one = omega arith;
-      line = at_seam xs (line.Query query) [] (length xs) refl;
+      line = slice_get-append_seam xs (line.Query query) [] (length xs) refl;
     }
 
 pub numbers_are : (number place : ℕ) (xs : List Line) → map (λ (a : Asked). a.number) (asked_from number place xs) ≡ range_with_len number (count_by is_query xs)
@@ -143,16 +145,11 @@ same_due xs ys a is = by a.query.delay (ap (λ (l : List Line). sum_by ticks_of 
 pub same_docs : (xs ys : List Line) (a : Asked) → IsAsked xs a → docs_before (xs ++ ys) a ≡ docs_before xs a
 same_docs xs ys a is = ap docs_of (lines_before xs ys a is)
 
-take_all : {A : Type 0} (xs ys : List A) → take (length xs) (xs ++ ys) ≡ xs
-take_all [] [] = refl
-take_all [] (y ∷ ys) = refl
-take_all {A = A} (x ∷ xs) ys = ap (λ (l : List A). x ∷ l) (take_all xs ys)
-
 pub next_due : (xs : List Line) (query : Query) (delay : ℕ) → query.delay ≡ Some delay
     → due_of (xs ++ line.Query query ∷ []) (next_asked xs query) ≡ sum_by ticks_of xs + delay
 next_due xs query delay is =
     ap (λ (d : Option ℕ). due_with (xs ++ line.Query query ∷ []) (length xs) d) is
-    ∙ ap (λ (l : List Line). sum_by ticks_of l + delay) (take_all xs (line.Query query ∷ []))
+    ∙ ap (λ (l : List Line). sum_by ticks_of l + delay) (take-append_seam xs (line.Query query ∷ []))
 
 pub next_docs : (xs : List Line) (query : Query) → docs_before (xs ++ line.Query query ∷ []) (next_asked xs query) ≡ docs_of xs
-next_docs xs query = ap docs_of (take_all xs (line.Query query ∷ []))
+next_docs xs query = ap docs_of (take-append_seam xs (line.Query query ∷ []))

@@ -1,20 +1,23 @@
 -- What comes, and the replies and the answered queries.
 use Rattle.std.proofs.Common.{◌≡◌, ℕ, List, [], ◌∷◌, ◌++◌, true, cond, Some, refl, sym, ap, ◌∙◌, map, filter, append-nil}
-use Rattle.std.specs.Prelude.{slice_get}
+use Rattle.std.specs.Prelude.{option_map, slice_get}
 use Rattle.std.specs.List.{AllByRecursion, cons_option, filter_map}
 use Rattle.std.proofs.lemmas.List.{map-append}
 use Rattle.std.proofs.lemmas.List.Elements.{filter_map-append}
+use Rattle.std.proofs.lemmas.Option.{slice_get-map}
 use Rattle.query_model.specs.declared.line.Line.{Line}
 use Rattle.query_model.specs.declared.reply.Reply.{Reply}
 use Rattle.query_model.specs.declared.reply.Reply.TheVariants as reply
 use Rattle.query_model.specs.Order.{Asked, Outcome, Turn, asked_in, comes_before, due_of, left_in, outcome_of, replies_of, turn_by, turn_of, turns_of}
 use Rattle.query_model.specs.Sorting.{sorted_by, IsOrder}
+use Rattle.query_model.proofs.ListLaws.{all-filter, all-map, filter-filter}
+use Rattle.query_model.proofs.SortedLists.{all-sorted_by, map-sorted_by}
+use Rattle.query_model.proofs.SortingLaws.{turns_order}
 use Rattle.fan_model.specs.Answered.{answered_before, answered_in, is_answered, is_answered_by, line_of, standing}
 use Rattle.fan_model.specs.Comings.{Coming, ComesAt, IsAsked, begun_by, come_in, comes, comes_by, coming_by, coming_of, comings_of, query_of, reply_to}
 use Rattle.fan_model.specs.Places.{IsReplyAt}
 use Rattle.fan_model.proofs.AskedLaws.{all_asked}
-use Rattle.fan_model.proofs.Lists.{all-filter, all-map, all-sorted_by, at-map, filter-filter, map-map}
-use Rattle.fan_model.proofs.Sorts.{filter-sorted_by, map-sorted_by, turns_order}
+use Rattle.fan_model.proofs.Sorts.{filter-sorted_by, map-map}
 
 -- the turn of a query that comes at a line
 abbrev pub turn_as : List Line → Asked → Turn
@@ -77,7 +80,7 @@ all_replied lines =
 pub reply_at : (lines : List Line) (place : ℕ) (coming : Coming) → ComesAt lines place coming
     → IsReplyAt lines place (reply_to lines coming).0 (reply_to lines coming).1
 reply_at lines place coming is =
-    let both : slice_get (map (reply_to lines) (comings_of lines)) place ≡ Some (reply_to lines coming) = at-map (reply_to lines) (comings_of lines) place coming is.at in
+    let both : slice_get (map (reply_to lines) (comings_of lines)) place ≡ Some (reply_to lines coming) = slice_get-map (reply_to lines) (comings_of lines) place ∙ ap (option_map (reply_to lines)) is.at in
     record { at = ap (λ (l : List (ℕ × Reply)). slice_get l place) (sym (all_replied lines)) ∙ both }
 
 -- the queries that are begun are the answered ones
@@ -115,7 +118,7 @@ begun_in_order lines =
     ∙ ap (sorted_by (answered_before lines))
     (filter-filter (is_answered lines) (comes lines) (λ a h. answered_come (outcome_of lines a) h) (asked_in lines)))
 
-none_begun : (queries : List Asked) → filter_map begun_by (map Coming.cancels queries) ≡ []
+pub none_begun : (queries : List Asked) → filter_map begun_by (map Coming.cancels queries) ≡ []
 none_begun [] = refl
 none_begun (a ∷ queries) = none_begun queries
 

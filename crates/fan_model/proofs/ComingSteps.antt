@@ -1,5 +1,5 @@
 -- What comes at one line more.
-use Rattle.std.proofs.Common.{◌≡◌, ℕ, ◌≤◌, List, [], ◌∷◌, ◌++◌, length, Bool, true, false, ◌&&◌, ◌||◌, not, cond, nat_lt, nat_eq, Option, Some, None, refl, sym, ap, ◌∙◌, arith, map, filter, append-nil, append_assoc}
+use Rattle.std.proofs.Common.{◌≡◌, ℕ, ◌≤◌, List, [], ◌∷◌, ◌++◌, length, Bool, true, false, ◌&&◌, ◌||◌, not, nat_lt, nat_eq, Option, Some, None, refl, sym, ap, ◌∙◌, arith, map, filter, append-nil, append_assoc}
 use Rattle.std.specs.Prelude.{IfSome}
 use Rattle.std.specs.List.{AllByRecursion, filter_map}
 use Rattle.std.proofs.lemmas.Bool.{eqb-true}
@@ -8,23 +8,22 @@ use Rattle.std.proofs.lemmas.List.{map-append}
 use Rattle.std.proofs.lemmas.List.Elements.{filter_map-append}
 use mathlib.Core.List.{IsPrefix}
 use Rattle.fan_base.specs.declared.doc.Doc.{Doc}
-use Rattle.query_model.specs.declared.line.Ask.{Ask}
-use Rattle.query_model.specs.declared.line.Ask.TheVariants as ask
 use Rattle.query_model.specs.declared.line.Line.{Line}
 use Rattle.query_model.specs.declared.line.Line.TheVariants as line
 use Rattle.query_model.specs.declared.line.Query.{Query}
-use Rattle.query_model.specs.Answers.{answer}
 use Rattle.query_model.specs.Documents.{IsLine, docs_of}
 use Rattle.query_model.specs.LineByLine.{Adds, answered_at, answered_now, cancelled_at, is_due, is_numbered, next_asked}
 use Rattle.query_model.specs.Order.{Asked, Outcome, Turn, comes_before, docs_before, left_in, outcome_of, turns_of}
 use Rattle.query_model.specs.Sorting.{sorted_by}
+use Rattle.query_model.proofs.ListLaws.{all-append, all-filter, all-implies, all-map, all-passed, heads_same, tails_same}
+use Rattle.query_model.proofs.SortedLists.{all-sorted_by, map-sorted_by, sorted-const, sorted-same}
 use Rattle.fan_model.specs.Answered.{answered_in}
 use Rattle.fan_model.specs.Comings.{Coming, IsAsked, answered_at_line, answered_with, begun_by, cancelled_at_line, come_at_line, come_in, comings_of, coming_by, coming_of, due_first, left_at_line, query_of, reply_to, waits_with}
 use Rattle.fan_model.specs.Laws.{tells}
 use Rattle.fan_model.proofs.AskedLaws.{asked_more, next_is_asked, one_of_number}
-use Rattle.fan_model.proofs.ComingLaws.{all_come_asked, all_left_asked, begun_in_order, coming_queries, turn_as, turns_sorted}
-use Rattle.fan_model.proofs.Lists.{all-append, all-filter, all-map, all-same, all-sorted_by, map-map, sorted-const, sorted-same}
-use Rattle.fan_model.proofs.Sorts.{map-sorted_by}
+use Rattle.fan_model.proofs.ComingLaws.{all_come_asked, all_left_asked, begun_in_order, coming_queries, none_begun, turn_as, turns_sorted}
+use Rattle.fan_model.proofs.Sorts.{map-map}
+use Rattle.fan_model.proofs.TaskLaws.{tell_all}
 
 -- what tells one coming from another: the number of the query, and whether its work is begun
 abbrev mark_of : Coming → ℕ × Bool
@@ -33,12 +32,6 @@ mark_of (Coming.cancels a) = (a.number, false)
 
 abbrev mark_of_turn : Turn → ℕ × Bool
 mark_of_turn t = (t.number, tells t.reply)
-
-tell_all : (asks : Ask) (docs : List Doc) → tells (answer asks docs) ≡ true
-tell_all (ask.Find e) docs = refl
-tell_all (ask.Count e) docs = refl
-tell_all (ask.Present e) docs = refl
-tell_all (ask.Top k words) docs = refl
 
 answers_tell : (lines : List Line) (a : Asked) → tells (reply_to lines (Coming.begins a)).1 ≡ true
 answers_tell lines a = tell_all a.query.ask (docs_before lines a)
@@ -52,19 +45,13 @@ one_coming lines (Coming.cancels a) (Coming.begins b) is also same = let no : fa
 abbrev AreAsked : List Line → List Coming → Type 0
 AreAsked lines comings = AllByRecursion (λ (c : Coming). IsAsked lines (query_of c)) comings
 
-head_same : {A : Type 0} (x y : A) (xs ys : List A) → x ∷ xs ≡ y ∷ ys → x ≡ y
-head_same x y xs ys e = cc
-
-tail_same : {A : Type 0} (x y : A) (xs ys : List A) → x ∷ xs ≡ y ∷ ys → xs ≡ ys
-tail_same x y xs ys e = cc
-
 same_comings : (lines : List Line) (xs ys : List Coming) → AreAsked lines xs → AreAsked lines ys → map mark_of xs ≡ map mark_of ys → xs ≡ ys
 same_comings lines [] [] are also same = refl
 same_comings lines [] (y ∷ ys) are also same = absurd cc
 same_comings lines (x ∷ xs) [] are also same = absurd cc
 same_comings lines (x ∷ xs) (y ∷ ys) are also same =
-    ap (λ (c : Coming). c ∷ xs) (one_coming lines x y are.0 also.0 (head_same (mark_of x) (mark_of y) (map mark_of xs) (map mark_of ys) same))
-    ∙ ap (λ (l : List Coming). y ∷ l) (same_comings lines xs ys are.1 also.1 (tail_same (mark_of x) (mark_of y) (map mark_of xs) (map mark_of ys) same))
+    ap (λ (c : Coming). c ∷ xs) (one_coming lines x y are.0 also.0 (heads_same (mark_of x) (mark_of y) (map mark_of xs) (map mark_of ys) same))
+    ∙ ap (λ (l : List Coming). y ∷ l) (same_comings lines xs ys are.1 also.1 (tails_same (mark_of x) (mark_of y) (map mark_of xs) (map mark_of ys) same))
 
 -- what comes is marked as the turns are
 mark_by : (lines : List Line) (a : Asked) (o : Outcome) → mark_of (coming_by a o) ≡ (a.number, tells (reply_to lines (coming_by a o)).1)
@@ -87,7 +74,7 @@ one_line_more : (lines : List Line) (l : Line) (turns : List Turn) (waiting : Li
 one_line_more lines l turns waiting more adds are same =
     same_comings (lines ++ l ∷ []) (come_in (lines ++ l ∷ [])) (come_in lines ++ more) (all_come_asked (lines ++ l ∷ []))
     (all-append (λ (c : Coming). IsAsked (lines ++ l ∷ []) (query_of c)) (come_in lines) more
-    (all-same (λ (c : Coming). IsAsked lines (query_of c)) (λ (c : Coming). IsAsked (lines ++ l ∷ []) (query_of c)) (λ c is. asked_more lines (l ∷ []) (query_of c) is) (come_in lines) (all_come_asked lines)) are)
+    (all-implies (λ (c : Coming). IsAsked lines (query_of c)) (λ (c : Coming). IsAsked (lines ++ l ∷ []) (query_of c)) (λ c is. asked_more lines (l ∷ []) (query_of c) is) (come_in lines) (all_come_asked lines)) are)
     (marks_of_turns (lines ++ l ∷ [])
     ∙ (ap (map mark_of_turn) adds.turns_are
     ∙ (map-append mark_of_turn (turns_of lines) (sorted_by comes_before turns)
@@ -109,14 +96,6 @@ due_marks lines due =
     ∙ (ap (map both) (sorted-same (due_first lines) (λ a b. comes_before (answered_at lines a) (answered_at lines b)) (λ a b. sym (same_place (length lines) (due_first lines a b))) due)
     ∙ (sym (map-map (answered_at lines) mark_of_turn both (λ a. ap (λ (b : Bool). (a.number, b)) (answers_tell lines a)) (sorted_by (λ a b. comes_before (answered_at lines a) (answered_at lines b)) due))
     ∙ ap (map mark_of_turn) (sym (map-sorted_by (answered_at lines) comes_before due))))
-
-all_passed : {A : Type 0} (p : A → Bool) (xs : List A) → AllByRecursion (λ x. p x ≡ true) (filter p xs)
-all_passed p [] = tt
-all_passed {A = A} p (x ∷ xs) = by (p x) refl (all_passed p xs)
-  where
-    by : (b : Bool) → p x ≡ b → AllByRecursion (λ y. p y ≡ true) (filter p xs) → AllByRecursion (λ y. p y ≡ true) (cond b (x ∷ filter p xs) (filter p xs))
-    by true is rest = (is, rest)
-    by false is rest = rest
 
 -- the turns of a cancel line all have its number
 cancel_marks : (lines : List Line) (n : ℕ) (those : List Asked) → AllByRecursion (λ (a : Asked). is_numbered n a ≡ true) those
@@ -168,7 +147,7 @@ comes_more laws lines (line.Cancel n) is =
     one_line_more lines (line.Cancel n) (map (cancelled_at lines) those) _ (map Coming.cancels those) (laws.cancel lines n)
     (all-map (IsAsked lines) (λ (c : Coming). IsAsked (lines ++ line.Cancel n ∷ []) (query_of c)) Coming.cancels (λ a asked. asked_more lines (line.Cancel n ∷ []) a asked) those
     (all-filter (IsAsked lines) (is_numbered n) (left_in lines) (all_left_asked lines)))
-    (cancel_marks lines n those (all_passed (is_numbered n) (left_in lines)))
+    (cancel_marks lines n those (all-passed (is_numbered n) (left_in lines)))
 
 query_leaves : LineByLine → (lines : List Line) (query : Query) (delay : Option ℕ) → query.delay ≡ delay → IfSome delay (λ d. (1 ≤ d) × (d ≤ 4294967295))
     → left_in (lines ++ line.Query query ∷ []) ≡ left_in lines ++ waits_with lines query delay
@@ -186,10 +165,6 @@ left_more_line laws lines (line.Cancel n) is = (laws.cancel lines n).waiting_are
 begun_begin : (queries : List Asked) → filter_map begun_by (map Coming.begins queries) ≡ queries
 begun_begin [] = refl
 begun_begin (a ∷ queries) = ap (λ (l : List Asked). a ∷ l) (begun_begin queries)
-
-none_begun : (queries : List Asked) → filter_map begun_by (map Coming.cancels queries) ≡ []
-none_begun [] = refl
-none_begun (a ∷ queries) = none_begun queries
 
 pub answered_more : LineByLine → (lines : List Line) (l : Line) → IsLine l → answered_in (lines ++ l ∷ []) ≡ answered_in lines ++ answered_at_line lines l
 answered_more laws lines l is =

@@ -1,10 +1,9 @@
 mod Sorts
 mod TaskLaws
 mod PlaceLaws
-mod Lists
 mod AskedLaws
 mod ComingLaws
 mod AlikeLaws
 mod ComingSteps
-mod HowMany
+pub mod HowMany
 mod RowProofs

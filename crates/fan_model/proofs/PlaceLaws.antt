@@ -1,5 +1,5 @@
 -- What is still to be written, place by place.
-use Rattle.std.proofs.Common.{◌≡◌, ℕ, zero, suc, ◌+◌, List, [], ◌∷◌, ◌++◌, length, Some, refl, ap, ◌∙◌, arith}
+use Rattle.std.proofs.Common.{◌≡◌, ℕ, suc, ◌+◌, List, [], ◌∷◌, ◌++◌, length, Some, refl, ap, ◌∙◌, arith}
 use Rattle.std.specs.Prelude.{drop, slice_get}
 use Rattle.std.specs.List.{flat_map}
 use Rattle.std.proofs.Math.Seq.{drop-length}
@@ -9,20 +9,15 @@ use Rattle.query_model.specs.declared.reply.Reply.{Reply}
 use Rattle.query_model.specs.Order.{replies_of}
 use Rattle.query_model.specs.Output.{output, reply_text}
 use Rattle.query_model.specs.Pieces.{Bytes}
+use Rattle.query_model.proofs.ListFacts.{drop_one_more}
 use Rattle.fan_model.specs.Places.{IsReplyAt, owed_from}
 
 abbrev text : ℕ × Reply → Bytes
 text r = reply_text r.0 r.1
 
-drop_at_suc : {A : Type 0} (xs : List A) (place : ℕ) (x : A) → slice_get xs place ≡ Some x → drop place xs ≡ x ∷ drop (suc place) xs
-drop_at_suc [] zero x at = absurd cc
-drop_at_suc [] (suc place) x at = absurd cc
-drop_at_suc {A = A} (y ∷ ys) zero x at = let same : y ≡ x = cc in ap (λ (z : A). z ∷ ys) same
-drop_at_suc (y ∷ ys) (suc place) x at = drop_at_suc ys place x at
-
 drop_at_place : {A : Type 0} (xs : List A) (place : ℕ) (x : A) → slice_get xs place ≡ Some x → drop place xs ≡ x ∷ drop (place + 1) xs
 drop_at_place {A = A} xs place x at =
-    let next : suc place ≡ place + 1 = omega arith in drop_at_suc xs place x at ∙ ap (λ (n : ℕ). x ∷ drop n xs) next
+    let next : suc place ≡ place + 1 = omega arith in drop_one_more xs place x at ∙ ap (λ (n : ℕ). x ∷ drop n xs) next
 
 pub owed_all : (input : Input) → owed_from input.lines 0 ≡ output input
 unfolding owed_from output

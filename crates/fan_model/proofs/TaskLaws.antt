@@ -1,7 +1,8 @@
 -- The order of the answered queries, and how many tasks they have.
-use Rattle.std.proofs.Common.{◌≡◌, ℕ, ◌+◌, ◌*◌, List, [], ◌∷◌, ◌++◌, length, Bool, true, false, cond, Option, Some, None, refl, sym, ap, ◌∙◌, arith, map, filter, length-append, append-nil}
+use Rattle.std.proofs.Common.{◌≡◌, ℕ, ◌+◌, ◌*◌, List, [], ◌∷◌, ◌++◌, length, Bool, true, cond, Option, Some, None, refl, sym, ap, ◌∙◌, arith, map, filter, length-append, append-nil}
 use Rattle.std.specs.List.{cons_option, filter_map, range_with_len}
 use Rattle.std.proofs.lemmas.List.{take-append-drop}
+use Rattle.std.proofs.lemmas.List.Elements.{filter-append}
 use Rattle.std.proofs.lemmas.List.FromFn.{length-map-range_with_len}
 use Rattle.fan_base.specs.declared.doc.Doc.{Doc}
 use Rattle.fan_base.specs.declared.number.ExecId.{ExecId}
@@ -13,10 +14,13 @@ use Rattle.query_model.specs.declared.reply.Reply.TheVariants as reply
 use Rattle.query_model.specs.Answers.{answer}
 use Rattle.query_model.specs.Order.{Asked, Outcome, Turn, asked_in, comes_before, docs_before, due_of, left_in, outcome_of, replies_of, turn_by, turn_of, turns_of}
 use Rattle.query_model.specs.Sorting.{sorted_by}
+use Rattle.query_model.proofs.ListLaws.{filter-map}
+use Rattle.query_model.proofs.SortedLists.{map-sorted_by}
+use Rattle.query_model.proofs.SortingLaws.{turns_order}
 use Rattle.fan_model.specs.Answered.{answered_in, early_of, is_answered, is_answered_by, late_of, line_of}
 use Rattle.fan_model.specs.Laws.{answer_of, is_answer, tells}
 use Rattle.fan_model.specs.Tasks.{task_run, task_runs}
-use Rattle.fan_model.proofs.Sorts.{filter-sorted_by, map-sorted_by, turns_order}
+use Rattle.fan_model.proofs.Sorts.{filter-sorted_by}
 
 pub early_or_late : {X : Type 0} (stop_at : Option ℕ) (xs : List X) → early_of stop_at xs ++ late_of stop_at xs ≡ xs
 early_or_late None xs = append-nil xs
@@ -38,11 +42,11 @@ turn_with_answer lines a = record { place = line_of (outcome_of lines a); due = 
 abbrev has_answer : Turn → Bool
 has_answer t = tells t.reply
 
-answers_tell : (asks : Ask) (docs : List Doc) → tells (answer asks docs) ≡ true
-answers_tell (ask.Find e) docs = refl
-answers_tell (ask.Count e) docs = refl
-answers_tell (ask.Present e) docs = refl
-answers_tell (ask.Top k words) docs = refl
+pub tell_all : (asks : Ask) (docs : List Doc) → tells (answer asks docs) ≡ true
+tell_all (ask.Find e) docs = refl
+tell_all (ask.Count e) docs = refl
+tell_all (ask.Present e) docs = refl
+tell_all (ask.Top k words) docs = refl
 
 -- of the turns of queries those with answers
 answered_turns : (lines : List Line) (queries : List Asked)
@@ -62,7 +66,7 @@ answered_turns lines (a ∷ queries) = by (outcome_of lines a) refl (answered_tu
     by : (o : Outcome) → outcome_of lines a ≡ o → filter has_answer T ≡ map (turn_with_answer lines) F
         → filter has_answer (cons_option (turn_by lines a o) T) ≡ map (turn_with_answer lines) (cond (is_answered_by o) (a ∷ F) F)
     by (Outcome.answered place) is rest =
-        ap (λ (b : Bool). cond b (mk place ∷ filter has_answer T) (filter has_answer T)) (answers_tell a.query.ask (docs_before lines a))
+        ap (λ (b : Bool). cond b (mk place ∷ filter has_answer T) (filter has_answer T)) (tell_all a.query.ask (docs_before lines a))
         ∙ (ap (λ (l : List Turn). mk place ∷ l) rest ∙ ap (λ (o : Outcome). mk (line_of o) ∷ map (turn_with_answer lines) F) (sym is))
     by (Outcome.cancelled place) is rest = rest
     by Outcome.left is rest = rest
@@ -72,22 +76,6 @@ said t = (t.number, t.reply)
 
 abbrev unsaid : Asked → ℕ × Reply
 unsaid a = (a.number, reply.Cancelled)
-
-filter-append : {A : Type 0} (p : A → Bool) (xs ys : List A) → filter p (xs ++ ys) ≡ filter p xs ++ filter p ys
-filter-append p [] ys = refl
-filter-append {A = A} p (x ∷ xs) ys = by (p x) (filter-append p xs ys)
-  where
-    by : (b : Bool) → filter p (xs ++ ys) ≡ filter p xs ++ filter p ys → cond b (x ∷ filter p (xs ++ ys)) (filter p (xs ++ ys)) ≡ cond b (x ∷ filter p xs) (filter p xs) ++ filter p ys
-    by true rest = ap (λ (l : List A). x ∷ l) rest
-    by false rest = rest
-
-filter-map : {A B : Type 0} (p : B → Bool) (f : A → B) (xs : List A) → filter p (map f xs) ≡ map f (filter (λ x. p (f x)) xs)
-filter-map p f [] = refl
-filter-map {B = B} p f (x ∷ xs) = by (p (f x)) (filter-map p f xs)
-  where
-    by : (b : Bool) → filter p (map f xs) ≡ map f (filter (λ y. p (f y)) xs) → cond b (f x ∷ filter p (map f xs)) (filter p (map f xs)) ≡ map f (cond b (x ∷ filter (λ y. p (f y)) xs) (filter (λ y. p (f y)) xs))
-    by true rest = ap (λ (l : List B). f x ∷ l) rest
-    by false rest = rest
 
 none_unsaid : (queries : List Asked) → filter is_answer (map unsaid queries) ≡ []
 none_unsaid [] = refl

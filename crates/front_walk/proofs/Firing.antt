@@ -1,14 +1,16 @@
 -- Cancel lines and ticks.
-use Rattle.std.proofs.Common.{◌≡◌, ℕ, suc, ◌+◌, List, [], ◌∷◌, ◌++◌, length, take, drop, Bool, true, false, not, cond, nat_le, Some, refl, sym, ap, ◌∙◌, subst, arith, map, filter, append-nil, append_assoc, length-append}
+use Rattle.std.proofs.Common.{◌≡◌, ℕ, suc, ◌+◌, List, [], ◌∷◌, ◌++◌, length, take, drop, Bool, true, false, not, nat_le, Some, refl, sym, ap, ◌∙◌, subst, arith, map, filter, append-nil, append_assoc, length-append}
 use Rattle.std.specs.Prelude.{◌==◌, slice_get}
 use Rattle.std.specs.List.{AllByRecursion}
 use Rattle.std.proofs.lemmas.Bool.Decides.{nat_tests}
-use Rattle.std.proofs.lemmas.List.{map-append}
+use Rattle.std.proofs.lemmas.List.{length-map, map-append}
 use Rattle.query_model.specs.declared.line.Line.{Line}
 use Rattle.query_model.specs.declared.line.Line.TheVariants as line
 use Rattle.query_model.specs.LineByLine.{is_due, is_numbered}
 use Rattle.query_model.specs.Order.{Asked, due_of, left_in}
 use Rattle.query_model.specs.Sorting.{sorted_by}
+use Rattle.query_model.proofs.ListLaws.{all-filter, all-right, filter-map, filter-same, heads_same, tails_same}
+use Rattle.query_model.proofs.SortedLists.{all-sorted_by, map-sorted_by}
 use Rattle.fan_model.specs.Comings.{Coming, ComesAt, IsAsked, answered_at_line, come_at_line, come_in, due_first, left_at_line}
 use Rattle.query_timers.specs.declared.query.DelayedQuery.{DelayedQuery}
 use Rattle.query_timers.specs.Seen.{Ticks, TimersSeen, has_number, is_due_by, without}
@@ -21,12 +23,6 @@ use Rattle.front_walk.specs.Turns.{IsCancelling}
 use Rattle.front_walk.proofs.Cutting.{came-append, came_none, came_one, cut_behind, cut_first}
 use Rattle.front_walk.proofs.Following.{all_kept, around, follows_more, kept_more, left_are}
 use Rattle.front_walk.proofs.LineByLine.{comes_at}
-use Rattle.front_walk.proofs.Lists.{all-filter, all-sorted_by, all_behind, filter-map, sorted-map}
-
-pub filter-same : {A : Type 0} (p q : A → Bool) → ((a : A) → p a ≡ q a) → (xs : List A) → filter p xs ≡ filter q xs
-filter-same p q same [] = refl
-filter-same {A = A} p q same (x ∷ xs) =
-    ap (λ (b : Bool). cond b (x ∷ filter p xs) (filter p xs)) (same x) ∙ ap (λ (l : List A). cond (q x) (x ∷ l) l) (filter-same p q same xs)
 
 pub other_way : (m n : ℕ) → (m == n) ≡ (n == m)
 other_way m n = grind (arith, nat_tests)
@@ -35,19 +31,9 @@ pub no_more : {A B : Type 0} (f : A → B) (xs : List A) → [] ≡ map f xs →
 no_more f [] h = refl
 no_more f (x ∷ xs) h = absurd cc
 
-heads_same : {A : Type 0} (a b : A) (xs ys : List A) → a ∷ xs ≡ b ∷ ys → a ≡ b
-heads_same a b xs ys e = cc
-
-tails_same : {A : Type 0} (a b : A) (xs ys : List A) → a ∷ xs ≡ b ∷ ys → xs ≡ ys
-tails_same a b xs ys e = cc
-
 pub first_of_map : {A B : Type 0} (f : A → B) (xs : List A) (k : B) (ks : List B) → k ∷ ks ≡ map f xs → (a : A) × (more : List A) × (xs ≡ a ∷ more) × (k ≡ f a) × (ks ≡ map f more)
 first_of_map f [] k ks h = absurd cc
 first_of_map f (x ∷ xs) k ks h = (x, xs, refl, heads_same k (f x) ks (map f xs) h, tails_same k (f x) ks (map f xs) h)
-
-pub length-map : {A B : Type 0} (f : A → B) (xs : List A) → length (map f xs) ≡ length xs
-length-map f [] = refl
-length-map f (x ∷ xs) = ap suc (length-map f xs)
 
 -- cancel lines
 
@@ -118,7 +104,7 @@ fired_kept all i n old new follows ticks =
     ∙ (ap (λ (l : List DelayedQuery). l ++ sorted_by waits.due_first (filter (is_due_by tick) old.timers.waiting)) follows.fired
     ∙ (ap (λ (l : List DelayedQuery). sorted_by waits.due_first (filter (is_due_by tick) l)) follows.waiting
     ∙ (ap (sorted_by waits.due_first) (filter-map (is_due_by tick) (kept_in s) (left_in s))
-    ∙ (sorted-map (kept_in s) waits.due_first (filter (λ a. is_due_by tick (kept_in s a)) (left_in s))
+    ∙ (map-sorted_by (kept_in s) waits.due_first (filter (λ a. is_due_by tick (kept_in s a)) (left_in s))
     ∙ ap (λ (m : ℕ). map (kept_in s) (sorted_by (due_first s) (filter (λ a. nat_le (due_of s a) (m + n)) (left_in s)))) follows.tick))))
 
 waiting_kept : (all : List Line) (i n : ℕ) (old : WalkState) (new : TimersSeen) → Follows all (take i all) old → Ticks n old.timers new
@@ -180,14 +166,14 @@ next_fired laws does all i n old w state v query rest input at follows begun is 
     let one = first_of_map (kept_in s) begun.todo query rest (sym is ∙ begun.fired) in
     let due : due_at_line all i n ≡ begun.done ++ one.0 ∷ one.1 = begun.due ∙ ap (λ (x : List Asked). begun.done ++ x) one.2 in
     let are : AllByRecursion (IsAsked s) (due_at_line all i n) = all-sorted_by (IsAsked s) (due_first s) (filter (is_due s n) (left_in s)) (all-filter (IsAsked s) (is_due s n) (left_in s) (left_are laws s)) in
-    let asked : IsAsked s one.0 = (all_behind (IsAsked s) begun.done one.0 one.1 (subst (λ (x : List Asked). AllByRecursion (IsAsked s) x) due are)).0 in
+    let asked : IsAsked s one.0 = (all-right (IsAsked s) begun.done (one.0 ∷ one.1) (subst (λ (x : List Asked). AllByRecursion (IsAsked s) x) due are)).0 in
     let rest_lines : List Line = l ∷ drop (suc i) all in
     let come : come_at_line s l ≡ map Coming.begins begun.done ++ Coming.begins one.0 ∷ (map Coming.begins one.1 ++ []) =
     ap (λ (x : List Asked). map Coming.begins x ++ []) due
     ∙ (ap (λ (x : List Coming). x ++ []) (map-append Coming.begins begun.done (one.0 ∷ one.1)) ∙ append_assoc (map Coming.begins begun.done) (Coming.begins one.0 ∷ map Coming.begins one.1) []) in
     let comes : ComesAt all state.place (Coming.begins one.0) =
     comes_at laws all i l (map Coming.begins begun.done) (map Coming.begins one.1 ++ []) (Coming.begins one.0) state.place round come
-    (begun.place ∙ (ap (λ (m : ℕ). m + length begun.done) follows.place ∙ ap (λ (m : ℕ). length (come_in s) + m) (sym (length-map Coming.begins begun.done)))) in
+    (begun.place ∙ (ap (λ (m : ℕ). m + length begun.done) follows.place ∙ ap (λ (m : ℕ). length (come_in s) + m) (sym (length-map begun.done Coming.begins)))) in
     record {
       asked = one.0;
       more = one.1;
@@ -220,7 +206,7 @@ one_more_begun does all i n old w state m new v query begun next same documents 
   came = subst (λ (x : List Coming). Came does old.place w x v) (sym (map-append Coming.begins begun.done (next.asked ∷ [])))
       (came-append does old.place w m v (map Coming.begins begun.done) (Coming.begins next.asked ∷ []) begun.came
       (came_one does (old.place + length (map Coming.begins begun.done)) (Coming.begins next.asked) m v
-      (subst (λ (p : ℕ). does p (Coming.begins next.asked) m true v) (begun.place ∙ ap (λ (k : ℕ). old.place + k) (sym (length-map Coming.begins begun.done))) did)));
+      (subst (λ (p : ℕ). does p (Coming.begins next.asked) m true v) (begun.place ∙ ap (λ (k : ℕ). old.place + k) (sym (length-map begun.done Coming.begins))) did)));
 }
 
 -- the next found no memory
@@ -234,7 +220,7 @@ begun_cut does all i n old w state m v query rest begun next did =
     subst (λ (x : List Coming). IsCut does old.place w x v) (sym come)
     (cut_behind does old.place w m v (map Coming.begins begun.done) (Coming.begins next.asked ∷ (map Coming.begins next.more ++ [])) begun.came
     (cut_first does (old.place + length (map Coming.begins begun.done)) m v (Coming.begins next.asked) (map Coming.begins next.more ++ [])
-    (subst (λ (p : ℕ). does p (Coming.begins next.asked) m false v) (begun.place ∙ ap (λ (k : ℕ). old.place + k) (sym (length-map Coming.begins begun.done))) did)))
+    (subst (λ (p : ℕ). does p (Coming.begins next.asked) m false v) (begun.place ∙ ap (λ (k : ℕ). old.place + k) (sym (length-map begun.done Coming.begins))) did)))
 
 -- all were begun
 pub all_begun : Laws → {W : Type 0} (does : ℕ → Coming → W → Bool → W → Type 0) (all : List Line) (i n : ℕ) (old : WalkState) (w : W) (state : WalkState) (v : W)
@@ -251,7 +237,7 @@ all_begun laws does all i n old w state v input at follows begun none =
           begun.tick (begun.asked ∙ omega arith)
           (begun.waiting ∙ all_kept laws s (l ∷ []) left (all-filter (IsAsked s) (λ a. not (is_due s n a)) (left_in s) (left_are laws s)))
           none (ap (λ (k : ℕ). k + 0) begun.homes ∙ omega arith) (begun.documents ∙ omega arith)
-          (begun.place ∙ ap (λ (k : ℕ). old.place + k) (sym (ap (λ (x : List Coming). length x) come ∙ length-map Coming.begins begun.done)));
+          (begun.place ∙ ap (λ (k : ℕ). old.place + k) (sym (ap (λ (x : List Coming). length x) come ∙ length-map begun.done Coming.begins)));
       came = subst (λ (x : List Coming). Came does old.place w x v) (sym come) begun.came;
     }
 

@@ -1,5 +1,5 @@
 -- What a walk keeps, one line more.
-use Rattle.std.proofs.Common.{◌≡◌, ℕ, suc, ◌+◌, List, [], ◌∷◌, ◌++◌, length, take, drop, Bool, cond, Some, sym, ap, ◌∙◌, subst, arith, map, length-append}
+use Rattle.std.proofs.Common.{◌≡◌, ℕ, zero, suc, ◌+◌, List, [], ◌∷◌, ◌++◌, length, take, drop, Bool, cond, Some, sym, ap, ◌∙◌, subst, arith, map, length-append}
 use Rattle.std.specs.Prelude.{slice_get}
 use Rattle.std.specs.List.{AllByRecursion}
 use Rattle.std.proofs.lemmas.List.Elements.{filter_map-append, recursion_from_All}
@@ -9,12 +9,18 @@ use Rattle.query_model.specs.declared.line.Line.{Line}
 use Rattle.query_model.specs.Documents.{IsLine, doc_of_line, docs_of}
 use Rattle.query_model.specs.Lines.{is_query, ticks_of}
 use Rattle.query_model.specs.Order.{Asked, docs_before, due_of, left_in}
+use Rattle.query_model.proofs.ListLaws.{all-implies, all-right, map-same}
 use Rattle.fan_model.specs.Comings.{Coming, IsAsked, come_at_line, come_in, left_at_line}
 use Rattle.query_timers.specs.declared.query.DelayedQuery.{DelayedQuery}
 use Rattle.front_walk.specs.declared.state.WalkState.{WalkState}
 use Rattle.front_walk.specs.Laws.{Laws}
 use Rattle.front_walk.specs.Following.{Follows, IsInput, is_delayed, kept_in}
-use Rattle.front_walk.proofs.Lists.{all-same, all_behind, cut_at, map-same}
+
+-- the list cut round the item at a place
+cut_at : {A : Type 0} (xs : List A) (i : ℕ) (x : A) → slice_get xs i ≡ Some x → xs ≡ take i xs ++ x ∷ drop (suc i) xs
+cut_at [] i x h = absurd cc
+cut_at {A = A} (y ∷ xs) zero x h = let same : y ≡ x = cc in ap (λ (z : A). z ∷ xs) same
+cut_at {A = A} (y ∷ xs) (suc i) x h = ap (λ (l : List A). y ∷ l) (cut_at xs i x h)
 
 -- what is kept of a query stays as lines are added
 pub kept_more : Laws → (lines rest : List Line) (a : Asked) → IsAsked lines a → kept_in lines a ≡ kept_in (lines ++ rest) a
@@ -24,7 +30,7 @@ kept_more laws lines rest a is =
 
 pub all_kept : Laws → (lines rest : List Line) (queries : List Asked) → AllByRecursion (IsAsked lines) queries → map (kept_in lines) queries ≡ map (kept_in (lines ++ rest)) queries
 all_kept laws lines rest queries are =
-    map-same (kept_in lines) (kept_in (lines ++ rest)) queries (all-same (IsAsked lines) (λ a. kept_in lines a ≡ kept_in (lines ++ rest) a) (λ a is. kept_more laws lines rest a is) queries are)
+    map-same (kept_in lines) (kept_in (lines ++ rest)) queries (all-implies (IsAsked lines) (λ a. kept_in lines a ≡ kept_in (lines ++ rest) a) (λ a is. kept_more laws lines rest a is) queries are)
 
 pub left_are : Laws → (lines : List Line) → AllByRecursion (IsAsked lines) (left_in lines)
 left_are laws lines = recursion_from_All (IsAsked lines) (left_in lines) (laws.left_asked lines)
@@ -67,5 +73,5 @@ pub around : (all : List Line) (i : ℕ) (l : Line) → IsInput all → slice_ge
 around all i l input at =
     let cut = cut_at all i l at in
     let are = recursion_from_All IsLine all input.limits.lines_are in
-    let both = all_behind IsLine (take i all) l (drop (suc i) all) (subst (λ (x : List Line). AllByRecursion IsLine x) cut are) in
+    let both = all-right IsLine (take i all) (l ∷ drop (suc i) all) (subst (λ (x : List Line). AllByRecursion IsLine x) cut are) in
     record { all_are = cut; is_line = both.0; rest_are = both.1 }

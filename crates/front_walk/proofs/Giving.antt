@@ -2,6 +2,7 @@
 use Rattle.std.proofs.Common.{◌≡◌, ℕ, zero, suc, ◌+◌, ◌-◌, ◌<◌, ◌≤◌, inl, inr, List, [], ◌∷◌, ◌++◌, length, take, drop, Bool, true, false, nat_lt, Option, Some, None, refl, sym, ap, ◌∙◌, subst, arith, append-nil, append_assoc}
 use Rattle.std.specs.List.{filter_map, flat_map}
 use Rattle.std.proofs.lemmas.Bool.Decides.{nat_tests}
+use Rattle.std.proofs.lemmas.List.{drop_at, take_at}
 use Rattle.query_model.specs.Order.{Asked}
 use Rattle.fan_model.specs.Answered.{early_of, late_of}
 use Rattle.fan_model.specs.Comings.{Coming, begun_by}
@@ -32,14 +33,6 @@ reached n m h = let le : m ≤ n = le_of n m h in omega arith
     le_of : (a b : ℕ) → nat_lt a b ≡ false → b ≤ a
     le_of a b e = grind (arith, nat_tests)
 
-take_none : {A : Type 0} (xs : List A) → take 0 xs ≡ []
-take_none [] = refl
-take_none (x ∷ xs) = refl
-
-drop_none : {A : Type 0} (xs : List A) → drop 0 xs ≡ xs
-drop_none [] = refl
-drop_none (x ∷ xs) = refl
-
 early_is : (stop_at : Option ℕ) (n : ℕ) (a : Asked) (queries : List Asked) → is_early stop_at n ≡ true → early_from stop_at n (a ∷ queries) ≡ a ∷ early_from stop_at (n + 1) queries
 early_is None n a queries h = refl
 early_is (Some m) n a queries h = ap (λ (k : ℕ). take k (a ∷ queries)) (below n m h)
@@ -48,13 +41,13 @@ early_not : (stop_at : Option ℕ) (n : ℕ) (a : Asked) (queries : List Asked) 
 early_not None n a queries h = absurd cc
 early_not (Some m) n a queries h =
     let next : m - (n + 1) ≡ 0 = omega (arith, reached n m h) in
-    ap (λ (k : ℕ). take k (a ∷ queries)) (reached n m h) ∙ (take_none (a ∷ queries) ∙ (sym (take_none queries) ∙ ap (λ (k : ℕ). take k queries) (sym next)))
+    ap (λ (k : ℕ). take k (a ∷ queries)) (reached n m h) ∙ (take_at [] (a ∷ queries) 0 refl ∙ (sym (take_at [] queries 0 refl) ∙ ap (λ (k : ℕ). take k queries) (sym next)))
 
 late_is : (stop_at : Option ℕ) (n : ℕ) (a : Asked) (queries : List Asked) → is_early stop_at n ≡ false → late_from stop_at n (a ∷ queries) ≡ a ∷ late_from stop_at (n + 1) queries
 late_is None n a queries h = absurd cc
 late_is (Some m) n a queries h =
     let next : m - (n + 1) ≡ 0 = omega (arith, reached n m h) in
-    ap (λ (k : ℕ). drop k (a ∷ queries)) (reached n m h) ∙ (drop_none (a ∷ queries) ∙ ap (λ (l : List Asked). a ∷ l) (sym (drop_none queries) ∙ ap (λ (k : ℕ). drop k queries) (sym next)))
+    ap (λ (k : ℕ). drop k (a ∷ queries)) (reached n m h) ∙ (drop_at [] (a ∷ queries) 0 refl ∙ ap (λ (l : List Asked). a ∷ l) (sym (drop_at [] queries 0 refl) ∙ ap (λ (k : ℕ). drop k queries) (sym next)))
 
 late_not : (stop_at : Option ℕ) (n : ℕ) (a : Asked) (queries : List Asked) → is_early stop_at n ≡ true → late_from stop_at n (a ∷ queries) ≡ late_from stop_at (n + 1) queries
 late_not None n a queries h = refl

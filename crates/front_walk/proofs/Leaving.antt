@@ -4,10 +4,12 @@ use Rattle.std.specs.Prelude.{◌==◌, slice_get}
 use Rattle.std.specs.List.{AllByRecursion, count_by, range_with_len}
 use Rattle.std.proofs.lemmas.Bool.{eqb-true}
 use Rattle.std.proofs.lemmas.Bool.Decides.{nat_tests}
-use Rattle.std.proofs.lemmas.List.{map-append}
+use Rattle.std.proofs.lemmas.List.{length-map, map-append}
 use Rattle.query_model.specs.declared.line.Line.{Line}
 use Rattle.query_model.specs.Lines.{is_query}
 use Rattle.query_model.specs.Order.{Asked, asked_in, left_in}
+use Rattle.query_model.proofs.ListFacts.{slice_get-append_seam}
+use Rattle.query_model.proofs.ListLaws.{all-filter, heads_same, tails_same}
 use Rattle.fan_model.specs.Comings.{Coming, ComesAt, come_in, comings_of}
 use Rattle.query_timers.specs.declared.query.DelayedQuery.{DelayedQuery}
 use Rattle.query_timers.specs.Seen.{TimersSeen, has_number, without}
@@ -17,8 +19,6 @@ use Rattle.front_walk.specs.Following.{Follows, kept_in}
 use Rattle.front_walk.specs.Laws.{CountLaws}
 use Rattle.front_walk.specs.Turns.{IsCancelling}
 use Rattle.front_walk.proofs.Cutting.{came-append, came_none, came_one, cut_behind, cut_first}
-use Rattle.front_walk.proofs.Firing.{length-map}
-use Rattle.front_walk.proofs.Lists.{all-filter, at_seam}
 
 -- numbers from this one on, each above that before it
 abbrev pub RisesFrom : ℕ → List Asked → Type 0
@@ -41,18 +41,12 @@ rises-range : (n count : ℕ) (queries : List Asked) → map (λ (a : Asked). a.
 rises-range n count [] h = (tt, tt)
 rises-range n zero (a ∷ queries) h = absurd cc
 rises-range n (suc count) (a ∷ queries) h =
-    let first : a.number ≡ n = heads a.number n (map (λ (b : Asked). b.number) queries) (range_with_len (n + 1) count) h in
-    let rest = rises-range (n + 1) count queries (tails a.number n (map (λ (b : Asked). b.number) queries) (range_with_len (n + 1) count) h) in (
+    let first : a.number ≡ n = heads_same a.number n (map (λ (b : Asked). b.number) queries) (range_with_len (n + 1) count) h in
+    let rest = rises-range (n + 1) count queries (tails_same a.number n (map (λ (b : Asked). b.number) queries) (range_with_len (n + 1) count) h) in (
       (omega (arith, first), subst (λ (k : ℕ). RisesFrom (k + 1) queries) (sym first) rest.0),
       (omega (arith, first), few queries rest.1),
     )
   where
-    heads : (x y : ℕ) (xs ys : List ℕ) → x ∷ xs ≡ y ∷ ys → x ≡ y
-    heads x y xs ys e = cc
-
-    tails : (x y : ℕ) (xs ys : List ℕ) → x ∷ xs ≡ y ∷ ys → xs ≡ ys
-    tails x y xs ys e = cc
-
     few : (qs : List Asked) → AllByRecursion (λ (b : Asked). b.number < n + 1 + count) qs → AllByRecursion (λ (b : Asked). b.number < n + suc count) qs
     few [] k = tt
     few (q ∷ qs) k = (omega (arith, k.0), few qs k.1)
@@ -190,7 +184,7 @@ one_there does all number old w state v query follows given those =
     let comings : come_in all ++ map Coming.cancels (left_in all) ≡ (come_in all ++ map Coming.cancels given.done) ++ Coming.cancels first.asked ∷ map Coming.cancels first.more =
     ap (λ (x : List Coming). come_in all ++ x) cancels ∙ sym (append_assoc (come_in all) (map Coming.cancels given.done) (Coming.cancels first.asked ∷ map Coming.cancels first.more)) in
     let far : state.place ≡ length (come_in all ++ map Coming.cancels given.done) =
-    omega (arith, given.place, follows.place, length-append (come_in all) (map Coming.cancels given.done), length-map Coming.cancels given.done) in
+    omega (arith, given.place, follows.place, length-append (come_in all) (map Coming.cancels given.done), length-map given.done Coming.cancels) in
     record {
       asked = first.asked;
       more = first.more;
@@ -198,7 +192,7 @@ one_there does all number old w state v query follows given those =
       names = ap (λ (q : DelayedQuery). q.number) first.kept;
       waiting = ap (filter (λ q. not (has_number n q))) (given.waiting ∙ ap (map (kept_in all)) first.is) ∙ (one_has all n first.asked first.more first.number first.rises).1;
       rises = subst (λ (k : ℕ). RisesFrom k first.more) (omega (arith, first.number)) first.rises;
-      comes = record { at = ap (λ (x : List Coming). slice_get x state.place) comings ∙ at_seam (come_in all ++ map Coming.cancels given.done) (Coming.cancels first.asked) (map Coming.cancels first.more) state.place far };
+      comes = record { at = ap (λ (x : List Coming). slice_get x state.place) comings ∙ slice_get-append_seam (come_in all ++ map Coming.cancels given.done) (Coming.cancels first.asked) (map Coming.cancels first.more) state.place far };
     }
 
 pub there_names : {W : Type 0} (does : ℕ → Coming → W → Bool → W → Type 0) (all hooked : List Line) (number : ℕ) (old : WalkState) (w : W) (state : WalkState) (v : W) (query : DelayedQuery)
@@ -220,7 +214,7 @@ one_more_given_up does all number old w state new m v query given there made pla
   came = subst (λ (x : List Coming). Came does old.place w x v) (sym (map-append Coming.cancels given.done (there.asked ∷ [])))
       (came-append does old.place w m v (map Coming.cancels given.done) (Coming.cancels there.asked ∷ []) given.came
       (came_one does (old.place + length (map Coming.cancels given.done)) (Coming.cancels there.asked) m v
-      (subst (λ (p : ℕ). does p (Coming.cancels there.asked) m true v) (given.place ∙ ap (λ (k : ℕ). old.place + k) (sym (length-map Coming.cancels given.done))) did)));
+      (subst (λ (p : ℕ). does p (Coming.cancels there.asked) m true v) (given.place ∙ ap (λ (k : ℕ). old.place + k) (sym (length-map given.done Coming.cancels))) did)));
 }
 
 pub given_up_cut : {W : Type 0} (does : ℕ → Coming → W → Bool → W → Type 0) (all : List Line) (number : ℕ) (old : WalkState) (w : W) (state : WalkState) (m v : W) (query : DelayedQuery)
@@ -232,7 +226,7 @@ given_up_cut does all number old w state m v query given there did =
     subst (λ (x : List Coming). IsCut does old.place w x v) (sym cancels)
     (cut_behind does old.place w m v (map Coming.cancels given.done) (Coming.cancels there.asked ∷ map Coming.cancels there.more) given.came
     (cut_first does (old.place + length (map Coming.cancels given.done)) m v (Coming.cancels there.asked) (map Coming.cancels there.more)
-    (subst (λ (p : ℕ). does p (Coming.cancels there.asked) m false v) (given.place ∙ ap (λ (k : ℕ). old.place + k) (sym (length-map Coming.cancels given.done))) did)))
+    (subst (λ (p : ℕ). does p (Coming.cancels there.asked) m false v) (given.place ∙ ap (λ (k : ℕ). old.place + k) (sym (length-map given.done Coming.cancels))) did)))
 
 -- behind the last number nobody waits
 none_left : (n : ℕ) (queries : List Asked) → RisesFrom (n + 1) queries → AllByRecursion (λ (a : Asked). a.number < 1 + n) queries → queries ≡ []

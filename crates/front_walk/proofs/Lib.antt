@@ -1,4 +1,3 @@
-mod Lists
 mod Cutting
 mod Following
 mod LineByLine

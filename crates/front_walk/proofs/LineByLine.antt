@@ -13,6 +13,7 @@ use Rattle.query_model.specs.declared.line.Query.{Query}
 use Rattle.query_model.specs.Documents.{IsLine, doc_of_line, docs_of, queries_of}
 use Rattle.query_model.specs.LineByLine.{next_asked}
 use Rattle.query_model.specs.Order.{Asked, docs_before, left_in}
+use Rattle.query_model.proofs.ListFacts.{slice_get-append_seam, slice_get-append_some}
 use Rattle.fan_model.specs.Comings.{Coming, ComesAt, answered_with, cancelled_at_line, come_at_line, come_in, comings_of, left_at_line, waits_with}
 use Rattle.query_timers.specs.declared.query.DelayedQuery.{DelayedQuery}
 use Rattle.query_timers.specs.Seen.{Ticks, TimersSeen, has_number, is_due_by, with_delayed, with_skipped}
@@ -25,7 +26,6 @@ use Rattle.front_walk.specs.Laws.{Laws, NextLaws}
 use Rattle.front_walk.specs.Turns.{IsBeginning}
 use Rattle.front_walk.proofs.Cutting.{came_one, cut_first}
 use Rattle.front_walk.proofs.Following.{Around, all_kept, around, follows_more, left_are}
-use Rattle.front_walk.proofs.Lists.{at_left, at_seam}
 
 length-take_at : {A : Type 0} (xs : List A) (i : ℕ) (x : A) → slice_get xs i ≡ Some x → length (take i xs) ≡ i
 length-take_at [] i x h = absurd cc
@@ -42,10 +42,10 @@ comes_at laws all i l front back c place round comes far =
     let prefix = laws.first (s ++ l ∷ []) rest (All-from_recursion IsLine rest round.rest_are) in
     let here : come_in (s ++ l ∷ []) ≡ (come_in s ++ front) ++ c ∷ back =
     laws.comes s l round.is_line ∙ (ap (λ (x : List Coming). come_in s ++ x) comes ∙ sym (append_assoc (come_in s) front (c ∷ back))) in
-    let at : slice_get ((come_in s ++ front) ++ c ∷ back) place ≡ Some c = at_seam (come_in s ++ front) c back place (far ∙ sym (length-append (come_in s) front)) in
+    let at : slice_get ((come_in s ++ front) ++ c ∷ back) place ≡ Some c = slice_get-append_seam (come_in s ++ front) c back place (far ∙ sym (length-append (come_in s) front)) in
     let in_all : slice_get (comings_of ((s ++ l ∷ []) ++ rest)) place ≡ Some c =
     ap (λ (x : List Coming). slice_get x place) (sym prefix.1)
-    ∙ at_left (come_in (s ++ l ∷ [])) prefix.0 place c (ap (λ (x : List Coming). slice_get x place) here ∙ at) in
+    ∙ slice_get-append_some (come_in (s ++ l ∷ [])) prefix.0 place c (ap (λ (x : List Coming). slice_get x place) here ∙ at) in
     record { at = ap (λ (x : List Line). slice_get (comings_of x) place) whole ∙ in_all }
 
 -- documents

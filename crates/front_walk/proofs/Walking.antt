@@ -1,10 +1,13 @@
 -- All lines, and what comes behind them.
 use Rattle.std.proofs.Common.{◌≡◌, ℕ, suc, ◌+◌, List, [], ◌∷◌, ◌++◌, length, take, drop, Bool, refl, sym, ap, ◌∙◌, subst, arith, map, append_assoc}
 use Rattle.std.specs.List.{count_by}
+use Rattle.std.proofs.Math.Seq.{take-length}
+use Rattle.std.proofs.lemmas.List.{take_at}
 use Rattle.std.proofs.lemmas.List.Elements.{All-from_recursion}
 use Rattle.query_model.specs.declared.line.Line.{Line}
 use Rattle.query_model.specs.Documents.{IsLine}
 use Rattle.query_model.specs.Order.{left_in}
+use Rattle.query_model.proofs.ListFacts.{take_one_more}
 use Rattle.fan_model.specs.Comings.{Coming, come_at_line, come_in, comings_of}
 use Rattle.query_timers.specs.Seen.{TimersSeen}
 use Rattle.front_walk.specs.declared.state.WalkState.{WalkState}
@@ -13,15 +16,6 @@ use Rattle.front_walk.specs.Following.{CutAt, Follows, IsInput, StepsAt, is_dela
 use Rattle.front_walk.specs.Laws.{CountLaws, Laws}
 use Rattle.front_walk.proofs.Cutting.{came-append, came_none, cut_behind, cut_longer}
 use Rattle.front_walk.proofs.Following.{around}
-use Rattle.front_walk.proofs.Lists.{take_more}
-
-take_none : {A : Type 0} (xs : List A) → take 0 xs ≡ []
-take_none [] = refl
-take_none (x ∷ xs) = refl
-
-take_whole : {A : Type 0} (xs : List A) → take (length xs) xs ≡ xs
-take_whole [] = refl
-take_whole {A = A} (x ∷ xs) = ap (λ (l : List A). x ∷ l) (take_whole xs)
 
 -- behind so many lines
 pub record Walked {W : Type 0} (does : ℕ → Coming → W → Bool → W → Type 0) (all : List Line) (i : ℕ) (w : W) (state : WalkState) (v : W) : Type 0 where
@@ -30,8 +24,8 @@ pub record Walked {W : Type 0} (does : ℕ → Coming → W → Bool → W → T
 
 pub none_walked : {W : Type 0} (does : ℕ → Coming → W → Bool → W → Type 0) (all : List Line) (w : W) (state : WalkState) → CountLaws → Follows all [] state → Walked does all 0 w state w
 none_walked does all w state counts follows = record {
-  follows = subst (λ (s : List Line). Follows all s state) (sym (take_none all)) follows;
-  came = subst (λ (c : List Coming). Came does 0 w c w) (sym (ap come_in (take_none all) ∙ counts.none)) (came_none does 0 w);
+  follows = subst (λ (s : List Line). Follows all s state) (sym (take_at [] all 0 refl)) follows;
+  came = subst (λ (c : List Coming). Came does 0 w c w) (sym (ap come_in (take_at [] all 0 refl) ∙ counts.none)) (came_none does 0 w);
 }
 
 pub one_more_walked : Laws → {W : Type 0} (does : ℕ → Coming → W → Bool → W → Type 0) (all : List Line) (i : ℕ) (w : W) (state new : WalkState) (m v : W) → IsInput all
@@ -41,7 +35,7 @@ one_more_walked laws does all i w state new m v input walked steps =
     let l : Line = steps.l in
     let round = around all i l input steps.is in
     let one : i + 1 ≡ suc i = omega arith in
-    let next : take (i + 1) all ≡ s ++ l ∷ [] = ap (λ (n : ℕ). take n all) one ∙ take_more all i l steps.is in
+    let next : take (i + 1) all ≡ s ++ l ∷ [] = ap (λ (n : ℕ). take n all) one ∙ take_one_more all i l steps.is in
     let came = came-append does 0 w m v (come_in s) (come_at_line s l) walked.came
     (subst (λ (p : ℕ). Came does p m (come_at_line s l) v) (walked.follows.place ∙ omega arith) steps.steps.came) in
     record {
@@ -69,7 +63,7 @@ walked_cut laws does all i w state m v input walked cut =
 pub all_walked : {W : Type 0} (does : ℕ → Coming → W → Bool → W → Type 0) (all : List Line) (i : ℕ) (w : W) (state : WalkState) (v : W) → i ≡ length all → Walked does all i w state v
     → Follows all all state × Came does 0 w (come_in all) v
 all_walked does all i w state v end walked =
-    let over : take i all ≡ all = ap (λ (n : ℕ). take n all) end ∙ take_whole all in
+    let over : take i all ≡ all = ap (λ (n : ℕ). take n all) end ∙ take-length all in
     (subst (λ (s : List Line). Follows all s state) over walked.follows, subst (λ (s : List Line). Came does 0 w (come_in s) v) over walked.came)
 
 pub all_came : {W : Type 0} (does : ℕ → Coming → W → Bool → W → Type 0) (all : List Line) (w : W) (state : WalkState) (m v : W) → Follows all all state × Came does 0 w (come_in all) m

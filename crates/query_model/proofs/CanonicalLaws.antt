@@ -34,6 +34,7 @@ use Rattle.query_model.specs.Canonical.{in_brackets, as_fact, as_both, expr_text
 use Rattle.query_model.specs.Written.{AsksExpression, CanBeRead, HasExpression, HasWords, IsExpression}
 use Rattle.query_model.proofs.Building.{Each, stands}
 use Rattle.query_model.proofs.ListFacts.{slice_get-append_seam}
+use Rattle.query_model.proofs.ListLaws.{all-append}
 use Rattle.query_model.proofs.LimitLaws.{any-docs_of, is_within_limits, length-docs_of, length-queries_of}
 use Rattle.query_model.proofs.QueryFactLaws.{doc_by_facts, tick_by_facts, cancel_by_facts, query_by_facts}
 use Rattle.query_model.proofs.ReadingLaws.{Reads, reads_from_Accepts}
@@ -154,10 +155,6 @@ all_append : (xs ys : List Bytes) → AllFields xs → AllFields ys → AllField
 all_append [] ys h g = g
 all_append (x ∷ xs) ys h g = (h.0, all_append xs ys h.1 g)
 
-plain_append : (xs ys : List Bytes) → AllByRecursion (λ f. is_plain f ≡ true) xs → AllByRecursion (λ f. is_plain f ≡ true) ys → AllByRecursion (λ f. is_plain f ≡ true) (xs ++ ys)
-plain_append [] ys h g = g
-plain_append (x ∷ xs) ys h g = (h.0, plain_append xs ys h.1 g)
-
 delay_all : (delay : Option ℕ) → IsDelayed delay → AllFields (delay_fields delay)
 delay_all None h = tt
 delay_all (Some d) h = (refl, ((is_written d h.1).field, tt))
@@ -191,8 +188,8 @@ expr_again delay p name tree d named told is =
     λ last. ap (λ (l : List Bytes). delay_fields delay ++ l) (sym (append_assoc (prio_fields p) (name ∷ []) last)) ∙ sym (append_assoc (delay_fields delay) (prio_fields p ++ (name ∷ [])) last) in (
       record {
         plain = plain-join_with (query_fields delay p (name ∷ (expr_text tree ∷ [])))
-            (plain_append (delay_fields delay) (prio_fields p ++ (name ∷ (expr_text tree ∷ []))) (all_plain (delay_fields delay) (delay_all delay d))
-            (plain_append (prio_fields p) (name ∷ (expr_text tree ∷ [])) (all_plain (prio_fields p) (prio_all p)) (field-plain name named, (expr_plain tree is.words, tt))));
+            (all-append (λ f. is_plain f ≡ true) (delay_fields delay) (prio_fields p ++ (name ∷ (expr_text tree ∷ []))) (all_plain (delay_fields delay) (delay_all delay d))
+            (all-append (λ f. is_plain f ≡ true) (prio_fields p) (name ∷ (expr_text tree ∷ [])) (all_plain (prio_fields p) (prio_all p)) (field-plain name named, (expr_plain tree is.words, tt))));
         told = told_by delay p name (expr_text tree) [] told;
         fields_are = ap (λ (fs : List Bytes). fields (join_with_byte 32 fs)) (regroup (expr_text tree ∷ []))
             ∙ (fields-join_with (delay_fields delay ++ (prio_fields p ++ (name ∷ []))) (expr_text tree) all ∙ sym (regroup (fields (expr_text tree))));

@@ -22,6 +22,7 @@ use Rattle.query_model.specs.Expressions.{is_sign, apart, parts, parts_of, is_to
 use Rattle.query_grammar.specs.Canonical.{phrases_of, canonical_tokens}
 use Rattle.query_model.specs.Canonical.{in_brackets, as_fact, as_both, expr_text}
 use Rattle.query_model.specs.Written.{HasWords}
+use Rattle.query_model.proofs.ListLaws.{all-append, all-left, all-right}
 use Rattle.query_model.proofs.TextFacts.{is_field, fields-join, fields-field, field-word}
 
 -- each word of tokens is a word
@@ -31,18 +32,6 @@ IsGood token.Bar = Unit {0}
 IsGood token.Bang = Unit {0}
 IsGood token.Left = Unit {0}
 IsGood token.Right = Unit {0}
-
-all-left : {A : Type 0} (P : A → Type 0) (xs ys : List A) → AllByRecursion P (xs ++ ys) → AllByRecursion P xs
-all-left P [] ys h = tt
-all-left P (x ∷ xs) ys h = (h.0, all-left P xs ys h.1)
-
-all-right : {A : Type 0} (P : A → Type 0) (xs ys : List A) → AllByRecursion P (xs ++ ys) → AllByRecursion P ys
-all-right P [] ys h = h
-all-right P (x ∷ xs) ys h = all-right P xs ys h.1
-
-all-both : {A : Type 0} (P : A → Type 0) (xs ys : List A) → AllByRecursion P xs → AllByRecursion P ys → AllByRecursion P (xs ++ ys)
-all-both P [] ys h g = g
-all-both P (x ∷ xs) ys h g = (h.0, all-both P xs ys h.1 g)
 
 pub words_from_tokens : {kind : Kind} (p : Phrase kind) → AllByRecursion IsGood (grammar.tokens_of p) → HasWords (grammar.tree_of p)
 words_from_tokens (Phrase.word w) h = h.0
@@ -247,12 +236,12 @@ are_good : (e : Tree) → HasWords e → AreGood e
 are_good (Tree.word w) h = record { either = (h, tt); both = (h, tt); fact = (h, tt) }
 are_good (Tree.not e) h = let inner = (are_good e h).fact in record { either = (tt, inner); both = (tt, inner); fact = (tt, inner) }
 are_good (Tree.both a b) h =
-    let here = all-both IsGood (grammar.tokens_of (phrases_of a).both) (grammar.tokens_of (phrases_of b).fact) (are_good a h.0).both (are_good b h.1).fact in
-    record { either = here; both = here; fact = (tt, all-both IsGood (grammar.tokens_of (phrases_of a).both ++ grammar.tokens_of (phrases_of b).fact) (token.Right ∷ []) here (tt, tt)) }
+    let here = all-append IsGood (grammar.tokens_of (phrases_of a).both) (grammar.tokens_of (phrases_of b).fact) (are_good a h.0).both (are_good b h.1).fact in
+    record { either = here; both = here; fact = (tt, all-append IsGood (grammar.tokens_of (phrases_of a).both ++ grammar.tokens_of (phrases_of b).fact) (token.Right ∷ []) here (tt, tt)) }
 are_good (Tree.either a b) h =
-    let here = all-both IsGood (grammar.tokens_of (phrases_of a).either) (token.Bar ∷ grammar.tokens_of (phrases_of b).both) (are_good a h.0).either (tt, (are_good b h.1).both) in
+    let here = all-append IsGood (grammar.tokens_of (phrases_of a).either) (token.Bar ∷ grammar.tokens_of (phrases_of b).both) (are_good a h.0).either (tt, (are_good b h.1).both) in
     let closed : AllByRecursion IsGood (token.Left ∷ ((grammar.tokens_of (phrases_of a).either ++ (token.Bar ∷ grammar.tokens_of (phrases_of b).both)) ++ token.Right ∷ [])) =
-    (tt, all-both IsGood (grammar.tokens_of (phrases_of a).either ++ (token.Bar ∷ grammar.tokens_of (phrases_of b).both)) (token.Right ∷ []) here (tt, tt)) in
+    (tt, all-append IsGood (grammar.tokens_of (phrases_of a).either ++ (token.Bar ∷ grammar.tokens_of (phrases_of b).both)) (token.Right ∷ []) here (tt, tt)) in
     record { either = here; both = closed; fact = closed }
 
 abbrev given_tokens : List Token → Result (List Token) BadKind

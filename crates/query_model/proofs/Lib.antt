@@ -1,4 +1,6 @@
 pub mod ListFacts
+pub mod ListLaws
+pub mod SortedLists
 pub mod LineLaws
 pub mod ReadingLaws
 pub mod Building

@@ -20,22 +20,11 @@ use Rattle.query_model.specs.Answers.{answer}
 use Rattle.query_model.specs.Order.{Asked, asked_from, asked_in, now_at, due_tick, due_line, is_cancel_of, is_before, cancel_line, Outcome, outcome_by, outcome_after, outcome_of, due_with, due_of, docs_before, Turn, comes_before, turn_by, turn_of, turns_of, left_in}
 use Rattle.query_model.specs.LineByLine.{next_asked, answered_at, cancelled_at, answered_now, is_due, is_numbered, numbered_before, Adds}
 use Rattle.query_model.proofs.ListFacts.{filter_map-push}
-use Rattle.query_model.proofs.SortingLaws.{all-put_by}
+use Rattle.query_model.proofs.ListLaws.{all-filter, all-implies}
+use Rattle.query_model.proofs.SortedLists.{all-sorted_by, put-behind, put-front}
 use Rattle.query_model.proofs.OrderLaws.{or_else, there, turn_of-more, find_below, find-none, now_at-more, now_at-all, due_below, turn_from}
 
--- what holds of each item of a list holds of each of a sorted one, of those that pass, and of what they give
-all-sorted_by : {A : Type 0} (P : A → Type 0) (g : A → A → Bool) (xs : List A) → AllByRecursion P xs → AllByRecursion P (sorted_by g xs)
-all-sorted_by P g [] h = tt
-all-sorted_by P g (x ∷ xs) h = all-put_by P g x (sorted_by g xs) h.0 (all-sorted_by P g xs h.1)
-
-pub all-filter : {A : Type 0} (P : A → Type 0) (p : A → Bool) (xs : List A) → AllByRecursion P xs → AllByRecursion P (filter p xs)
-all-filter P p [] h = tt
-all-filter {A = A} P p (x ∷ xs) h = by (p x) (all-filter P p xs h.1)
-  where
-    by : (b : Bool) → AllByRecursion P (filter p xs) → AllByRecursion P (cond b (x ∷ filter p xs) (filter p xs))
-    by true rest = (h.0, rest)
-    by false rest = rest
-
+-- what holds of each that is given holds of the list
 all-filter_map : {A B : Type 0} (P : B → Type 0) (f : A → Option B) (xs : List A) → AllByRecursion (λ a. (b : B) → f a ≡ Some b → P b) xs → AllByRecursion P (filter_map f xs)
 all-filter_map P f [] h = tt
 all-filter_map {A = A} {B = B} P f (x ∷ xs) h = by (f x) refl (all-filter_map P f xs h.1)
@@ -43,25 +32,6 @@ all-filter_map {A = A} {B = B} P f (x ∷ xs) h = by (f x) refl (all-filter_map 
     by : (o : Option B) → f x ≡ o → AllByRecursion P (filter_map f xs) → AllByRecursion P (cons_option o (filter_map f xs))
     by (Some b) is rest = (h.0 b is, rest)
     by None is rest = rest
-
-pub all-map : {A : Type 0} (P Q : A → Type 0) → ((a : A) → P a → Q a) → (xs : List A) → AllByRecursion P xs → AllByRecursion Q xs
-all-map P Q f [] h = tt
-all-map P Q f (x ∷ xs) h = (f x h.0, all-map P Q f xs h.1)
-
--- an item is put in front of those that don't go before it, and behind those that do
-put-front : {A : Type 0} (g : A → A → Bool) (t : A) (xs ys : List A) → AllByRecursion (λ y. g y t ≡ false) ys → put_by g t (xs ++ ys) ≡ put_by g t xs ++ ys
-put-front g t [] [] h = refl
-put-front g t [] (y ∷ ys) h = ap (λ (b : Bool). cond b (y ∷ put_by g t ys) (t ∷ (y ∷ ys))) h.0
-put-front {A = A} g t (x ∷ xs) ys h = by (g x t) (put-front g t xs ys h)
-  where
-    by : (b : Bool) → put_by g t (xs ++ ys) ≡ put_by g t xs ++ ys → cond b (x ∷ put_by g t (xs ++ ys)) (t ∷ (x ∷ (xs ++ ys))) ≡ cond b (x ∷ put_by g t xs) (t ∷ (x ∷ xs)) ++ ys
-    by true rest = ap (λ (l : List A). x ∷ l) rest
-    by false rest = refl
-
-put-behind : {A : Type 0} (g : A → A → Bool) (t : A) (xs ys : List A) → AllByRecursion (λ x. g x t ≡ true) xs → put_by g t (xs ++ ys) ≡ xs ++ put_by g t ys
-put-behind g t [] ys h = refl
-put-behind {A = A} g t (x ∷ xs) ys h =
-    ap (λ (b : Bool). cond b (x ∷ put_by g t (xs ++ ys)) (t ∷ (x ∷ (xs ++ ys)))) h.0 ∙ ap (λ (l : List A). x ∷ l) (put-behind g t xs ys h.1)
 
 -- one more item behind all
 sorted-push : {A : Type 0} (g : A → A → Bool) (t : A) (xs : List A) → AllByRecursion (λ x. g t x ≡ false) xs → sorted_by g (xs ++ t ∷ []) ≡ sorted_by g xs ++ t ∷ []
@@ -92,13 +62,13 @@ waiting_in f xs = filter (λ a. is_none (f a)) xs
 
 all_old : (place : ℕ) (f h now : Asked → Option Turn) (xs : List Asked) → AllByRecursion (HasTurn place f h now) xs → AllByRecursion (λ (t : Turn). t.place < place) (olds f xs)
 all_old place f h now xs each = all-sorted_by (λ (t : Turn). t.place < place) comes_before (filter_map f xs)
-    (all-filter_map (λ (t : Turn). t.place < place) f xs (all-map (HasTurn place f h now) (λ x. (t : Turn) → f x ≡ Some t → t.place < place) (λ x is. is.old) xs each))
+    (all-filter_map (λ (t : Turn). t.place < place) f xs (all-implies (HasTurn place f h now) (λ x. (t : Turn) → f x ≡ Some t → t.place < place) (λ x is. is.old) xs each))
 
 all_new : (place : ℕ) (f h now : Asked → Option Turn) (xs : List Asked) → AllByRecursion (HasTurn place f h now) xs → AllByRecursion (λ (t : Turn). t.place ≡ place) (olds h (waiting_in f xs))
 all_new place f h now xs each = all-sorted_by (λ (t : Turn). t.place ≡ place) comes_before (filter_map h (waiting_in f xs))
     (all-filter_map (λ (t : Turn). t.place ≡ place) h (waiting_in f xs)
     (all-filter (λ x. (t : Turn) → h x ≡ Some t → t.place ≡ place) (λ x. is_none (f x)) xs
-    (all-map (HasTurn place f h now) (λ x. (t : Turn) → h x ≡ Some t → t.place ≡ place) (λ x is. is.new) xs each)))
+    (all-implies (HasTurn place f h now) (λ x. (t : Turn) → h x ≡ Some t → t.place ≡ place) (λ x is. is.new) xs each)))
 
 split-turns : (place : ℕ) (f h now : Asked → Option Turn) (xs : List Asked) → AllByRecursion (HasTurn place f h now) xs
     → olds now xs ≡ olds f xs ++ olds h (waiting_in f xs)
@@ -112,7 +82,7 @@ split-turns place f h now (a ∷ xs) each = by_old (f a) refl (split-turns place
         let at : t.place ≡ place = each.0.new t is in
         ap (put_by comes_before t) rest
         ∙ put-behind comes_before t (olds f xs) (olds h (waiting_in f xs))
-        (all-map (λ (s : Turn). s.place < place) (λ (s : Turn). comes_before s t ≡ true) (λ s low. old_first place s t low at) (olds f xs) (all_old place f h now xs each.1))
+        (all-implies (λ (s : Turn). s.place < place) (λ (s : Turn). comes_before s t ≡ true) (λ s low. old_first place s t low at) (olds f xs) (all_old place f h now xs each.1))
 
     by_old : (o : Option Turn) → f a ≡ o → olds now xs ≡ olds f xs ++ olds h (waiting_in f xs) → olds now (a ∷ xs) ≡ olds f (a ∷ xs) ++ olds h (waiting_in f (a ∷ xs))
     by_old (Some t) is rest =
@@ -121,7 +91,7 @@ split-turns place f h now (a ∷ xs) each = by_old (f a) refl (split-turns place
         ap (λ (o : Option Turn). sorted_by comes_before (cons_option o (filter_map now xs))) n
         ∙ (ap (put_by comes_before t) rest
         ∙ (put-front comes_before t (olds f xs) (olds h (waiting_in f xs))
-        (all-map (λ (s : Turn). s.place ≡ place) (λ (s : Turn). comes_before s t ≡ false) (λ s at. new_later place t s low at) (olds h (waiting_in f xs)) (all_new place f h now xs each.1))
+        (all-implies (λ (s : Turn). s.place ≡ place) (λ (s : Turn). comes_before s t ≡ false) (λ s at. new_later place t s low at) (olds h (waiting_in f xs)) (all_new place f h now xs each.1))
         ∙ sym (ap (λ (o : Option Turn). sorted_by comes_before (cons_option o (filter_map f xs)) ++ sorted_by comes_before (filter_map h (cond (is_none o) (a ∷ waiting_in f xs) (waiting_in f xs)))) is)))
     by_old None is rest =
         let n : now a ≡ h a = each.0.now_is ∙ ap (λ (o : Option Turn). or_else o (h a)) is in
@@ -188,14 +158,14 @@ asked-push number place (line.Cancel k ∷ ls) l =
 -- each stands at a place of the lines
 asked_below : (number place : ℕ) (ls : List Line) → AllByRecursion (λ (a : Asked). a.place < place + length ls) (asked_from number place ls)
 asked_below number place [] = tt
-asked_below number place (line.Doc doc ∷ ls) = all-map (λ (a : Asked). a.place < place + 1 + length ls) (λ (a : Asked). a.place < place + length (line.Doc doc ∷ ls)) (λ a h. omega arith) (asked_from number (place + 1) ls) (asked_below number (place + 1) ls)
+asked_below number place (line.Doc doc ∷ ls) = all-implies (λ (a : Asked). a.place < place + 1 + length ls) (λ (a : Asked). a.place < place + length (line.Doc doc ∷ ls)) (λ a h. omega arith) (asked_from number (place + 1) ls) (asked_below number (place + 1) ls)
 asked_below number place (line.Query query ∷ ls) =
-    (omega arith, all-map (λ (a : Asked). a.place < place + 1 + length ls) (λ (a : Asked). a.place < place + length (line.Query query ∷ ls)) (λ a h. omega arith) (asked_from (number + 1) (place + 1) ls) (asked_below (number + 1) (place + 1) ls))
-asked_below number place (line.Tick n ∷ ls) = all-map (λ (a : Asked). a.place < place + 1 + length ls) (λ (a : Asked). a.place < place + length (line.Tick n ∷ ls)) (λ a h. omega arith) (asked_from number (place + 1) ls) (asked_below number (place + 1) ls)
-asked_below number place (line.Cancel n ∷ ls) = all-map (λ (a : Asked). a.place < place + 1 + length ls) (λ (a : Asked). a.place < place + length (line.Cancel n ∷ ls)) (λ a h. omega arith) (asked_from number (place + 1) ls) (asked_below number (place + 1) ls)
+    (omega arith, all-implies (λ (a : Asked). a.place < place + 1 + length ls) (λ (a : Asked). a.place < place + length (line.Query query ∷ ls)) (λ a h. omega arith) (asked_from (number + 1) (place + 1) ls) (asked_below (number + 1) (place + 1) ls))
+asked_below number place (line.Tick n ∷ ls) = all-implies (λ (a : Asked). a.place < place + 1 + length ls) (λ (a : Asked). a.place < place + length (line.Tick n ∷ ls)) (λ a h. omega arith) (asked_from number (place + 1) ls) (asked_below number (place + 1) ls)
+asked_below number place (line.Cancel n ∷ ls) = all-implies (λ (a : Asked). a.place < place + 1 + length ls) (λ (a : Asked). a.place < place + length (line.Cancel n ∷ ls)) (λ a h. omega arith) (asked_from number (place + 1) ls) (asked_below number (place + 1) ls)
 
 pub all_below : (ls : List Line) → AllByRecursion (λ (a : Asked). a.place < length ls) (asked_in ls)
-all_below ls = all-map (λ (a : Asked). a.place < 0 + length ls) (λ (a : Asked). a.place < length ls) (λ a h. omega arith) (asked_in ls) (asked_below 1 0 ls)
+all_below ls = all-implies (λ (a : Asked). a.place < 0 + length ls) (λ (a : Asked). a.place < length ls) (λ a h. omega arith) (asked_in ls) (asked_below 1 0 ls)
 
 abbrev turn_place : Option Turn → ℕ
 turn_place (Some t) = t.place
@@ -269,7 +239,7 @@ place_there ls (line.Cancel n) a t e = by (is_numbered n a) e
 
 -- each query of the lines has a turn there, or else one at the line behind, or waits on
 has_turns : (ls : List Line) (l : Line) → AllByRecursion (HasTurn (length ls) (turn_of ls) (at_line ls l) (turn_of (ls ++ l ∷ []))) (asked_in ls)
-has_turns ls l = all-map (λ (a : Asked). a.place < length ls) (HasTurn (length ls) (turn_of ls) (at_line ls l) (turn_of (ls ++ l ∷ [])))
+has_turns ls l = all-implies (λ (a : Asked). a.place < length ls) (HasTurn (length ls) (turn_of ls) (at_line ls l) (turn_of (ls ++ l ∷ [])))
     (λ a below. record {
       now_is = turn_of-more ls l a below;
       old = λ t e. turn_below ls a t below e;
@@ -377,7 +347,7 @@ others_same ls query =
 
 others_below : (ls : List Line) (query : Query) → AllByRecursion (λ (t : Turn). t.place < length ls) (others_now ls query)
 others_below ls query = all-filter_map (λ (t : Turn). t.place < length ls) (turn_of (ls ++ line.Query query ∷ [])) (asked_in ls)
-    (all-map (λ (a : Asked). a.place < length ls) (λ (a : Asked). (t : Turn) → turn_of (ls ++ line.Query query ∷ []) a ≡ Some t → t.place < length ls)
+    (all-implies (λ (a : Asked). a.place < length ls) (λ (a : Asked). (t : Turn) → turn_of (ls ++ line.Query query ∷ []) a ≡ Some t → t.place < length ls)
     (λ a below t e. turn_below ls a t below (sym (turn_of-more ls (line.Query query) a below ∙ or_none (turn_of ls a)) ∙ e)) (asked_in ls) (all_below ls))
 
 others_waiting : (ls : List Line) (query : Query) → waiting_in (turn_of (ls ++ line.Query query ∷ [])) (asked_in ls) ≡ left_in ls
@@ -413,7 +383,7 @@ adds_answered ls query none =
     record {
       turns_are = turns-query ls query (Some (answered_now ls query)) turn
           ∙ (sorted-push comes_before (answered_now ls query) (others_now ls query)
-          (all-map (λ (t : Turn). t.place < length ls) (λ (t : Turn). comes_before (answered_now ls query) t ≡ false) (λ t low. new_later (length ls) t (answered_now ls query) low refl) (others_now ls query) (others_below ls query))
+          (all-implies (λ (t : Turn). t.place < length ls) (λ (t : Turn). comes_before (answered_now ls query) t ≡ false) (λ t low. new_later (length ls) t (answered_now ls query) low refl) (others_now ls query) (others_below ls query))
           ∙ ap (λ (ts : List Turn). ts ++ answered_now ls query ∷ []) (others_same ls query));
       waiting_are = left-query ls query (Some (answered_now ls query)) turn ∙ append-nil (left_in ls);
     }
@@ -449,7 +419,7 @@ asked_from_on : (number place : ℕ) (ls : List Line) → AllByRecursion (λ (a 
 asked_from_on number place [] = tt
 asked_from_on number place (line.Doc doc ∷ ls) = asked_from_on number (place + 1) ls
 asked_from_on number place (line.Query query ∷ ls) =
-    (omega arith, all-map (λ (a : Asked). number + 1 ≤ a.number) (λ (a : Asked). number ≤ a.number) (λ a h. omega arith) (asked_from (number + 1) (place + 1) ls) (asked_from_on (number + 1) (place + 1) ls))
+    (omega arith, all-implies (λ (a : Asked). number + 1 ≤ a.number) (λ (a : Asked). number ≤ a.number) (λ a h. omega arith) (asked_from (number + 1) (place + 1) ls) (asked_from_on (number + 1) (place + 1) ls))
 asked_from_on number place (line.Tick n ∷ ls) = asked_from_on number (place + 1) ls
 asked_from_on number place (line.Cancel n ∷ ls) = asked_from_on number (place + 1) ls
 
@@ -457,7 +427,7 @@ asked_in_order : (number place : ℕ) (ls : List Line) → IsInOrder numbered_be
 asked_in_order number place [] = tt
 asked_in_order number place (line.Doc doc ∷ ls) = asked_in_order number (place + 1) ls
 asked_in_order number place (line.Query query ∷ ls) = (
-  all-map (λ (a : Asked). number + 1 ≤ a.number) (λ (a : Asked). nat_lt a.number number ≡ false) (λ a h. le-ltb a.number number (omega arith)) (asked_from (number + 1) (place + 1) ls) (asked_from_on (number + 1) (place + 1) ls),
+  all-implies (λ (a : Asked). number + 1 ≤ a.number) (λ (a : Asked). nat_lt a.number number ≡ false) (λ a h. le-ltb a.number number (omega arith)) (asked_from (number + 1) (place + 1) ls) (asked_from_on (number + 1) (place + 1) ls),
   asked_in_order (number + 1) (place + 1) ls,
 )
 asked_in_order number place (line.Tick n ∷ ls) = asked_in_order number (place + 1) ls

@@ -1,5 +1,5 @@
 -- Reading a list by place.
-use Rattle.std.proofs.Common.{◌≡◌, ℕ, zero, suc, ◌<◌, List, [], ◌∷◌, ◌++◌, length, take, Option, Some, None, Result, Ok, Err, refl, ap, ◌∙◌, arith}
+use Rattle.std.proofs.Common.{◌≡◌, ℕ, zero, suc, ◌<◌, List, [], ◌∷◌, ◌++◌, length, take, drop, Option, Some, None, Result, Ok, Err, refl, ap, ◌∙◌, arith}
 use Rattle.std.specs.List.{slice_get, filter_map, cons_option}
 use Rattle.std.specs.Option.{option_to_list}
 use Rattle.std.specs.Result.{result_ok}
@@ -16,10 +16,21 @@ module _ {A : Type 0} where
   slice_get-append_seam (x ∷ xs) y ys zero h = absurd (omega arith)
   slice_get-append_seam (x ∷ xs) y ys (suc i) h = slice_get-append_seam xs y ys i (omega arith)
 
+  pub slice_get-append_some : (xs ys : List A) (i : ℕ) (x : A) → slice_get xs i ≡ Some x → slice_get (xs ++ ys) i ≡ Some x
+  slice_get-append_some [] ys i x h = absurd cc
+  slice_get-append_some (y ∷ xs) ys zero x h = h
+  slice_get-append_some (y ∷ xs) ys (suc i) x h = slice_get-append_some xs ys i x h
+
+  -- an item more in front, and the same item less behind
   pub take_one_more : (xs : List A) (i : ℕ) (x : A) → slice_get xs i ≡ Some x → take (suc i) xs ≡ take i xs ++ x ∷ []
   take_one_more [] i x h = absurd cc
   take_one_more (y ∷ ys) zero x h = let e : y ≡ x = cc in rw e refl
   take_one_more (y ∷ ys) (suc i) x h = ap (λ zs. y ∷ zs) (take_one_more ys i x h)
+
+  pub drop_one_more : (xs : List A) (i : ℕ) (x : A) → slice_get xs i ≡ Some x → drop i xs ≡ x ∷ drop (suc i) xs
+  drop_one_more [] i x h = absurd cc
+  drop_one_more (y ∷ ys) zero x h = let e : y ≡ x = cc in rw e refl
+  drop_one_more (y ∷ ys) (suc i) x h = drop_one_more ys i x h
 
   -- an element below the length is there
   pub slice_get_there : (xs : List A) (i : ℕ) → i < length xs → (x : A) × (slice_get xs i ≡ Some x)

@@ -1,5 +1,5 @@
 -- One walk over the lines gives the replies in the order of answers.
-use Rattle.std.proofs.Common.{◌≡◌, ℕ, ◌+◌, ◌<◌, ◌≤◌, List, [], ◌∷◌, ◌++◌, length, take, Bool, true, false, ◌&&◌, ◌||◌, not, cond, nat_lt, eqb, Option, Some, None, refl, sym, ap, ◌∙◌, subst, arith, append_assoc, append-nil}
+use Rattle.std.proofs.Common.{◌≡◌, ℕ, ◌+◌, ◌<◌, ◌≤◌, List, [], ◌∷◌, ◌++◌, length, Bool, true, ◌&&◌, ◌||◌, not, cond, nat_lt, Option, Some, None, refl, sym, ap, ◌∙◌, subst, arith, append_assoc, append-nil}
 use Rattle.std.specs.Prelude.{nat_le, map, filter, ◌==◌}
 use Rattle.std.specs.List.{AllByRecursion, count_by, fold, sum_by}
 use Rattle.std.specs.Option.{IfSome}
@@ -17,81 +17,17 @@ use Rattle.query_model.specs.declared.reply.Reply.{Reply}
 use Rattle.query_model.specs.declared.reply.Reply.TheVariants as reply
 use Rattle.query_model.specs.declared.reply.Waiting.{Waiting}
 use Rattle.query_model.specs.Lines.{is_query, ticks_of}
-use Rattle.query_model.specs.Sorting.{put_by, sorted_by}
+use Rattle.query_model.specs.Sorting.{sorted_by}
 use Rattle.query_model.specs.Documents.{doc_of_line, docs_of, IsLine}
 use Rattle.query_model.specs.Answers.{answer}
-use Rattle.query_model.specs.Order.{Asked, asked_in, due_with, due_of, docs_before, now_at, Turn, comes_before, turn_of, turns_of, left_in, replies_of}
-use Rattle.query_model.specs.LineByLine.{next_asked, answered_at, cancelled_at, answered_now, is_due, is_numbered, Adds}
+use Rattle.query_model.specs.Order.{Asked, asked_in, due_with, due_of, docs_before, now_at, Turn, comes_before, turns_of, left_in, replies_of}
+use Rattle.query_model.specs.LineByLine.{next_asked, answered_at, cancelled_at, answered_now, is_due, is_numbered}
 use Rattle.query_model.specs.Walk.{Progress, start, due_before, is_due_by, has_number, answered, cancelled, asked_with, step, progress_of, all_replies}
 use Rattle.query_model.proofs.ListFacts.{filter_map-push}
 use Rattle.query_model.proofs.OrderLaws.{docs_before-more, due_of-more, now_at-more, now_at-all}
-use Rattle.query_model.proofs.LineByLine.{all-filter, all-map, all_below, adds_doc, adds_answered, adds_delayed, adds_tick, adds_cancel}
-
--- lists
-map-same : {A B : Type 0} (f g : A → B) (xs : List A) → AllByRecursion (λ x. f x ≡ g x) xs → map f xs ≡ map g xs
-map-same f g [] same = refl
-map-same f g (x ∷ xs) same = ap (λ y. y ∷ map f xs) same.0 ∙ ap (λ ys. g x ∷ ys) (map-same f g xs same.1)
-
-filter-map : {A B : Type 0} (q : B → Bool) (f : A → B) (xs : List A) → filter q (map f xs) ≡ map f (filter (λ a. q (f a)) xs)
-filter-map q f [] = refl
-filter-map {A = A} {B = B} q f (x ∷ xs) = by (q (f x)) (filter-map q f xs)
-  where
-    by : (b : Bool) → filter q (map f xs) ≡ map f (filter (λ a. q (f a)) xs)
-        → cond b (f x ∷ filter q (map f xs)) (filter q (map f xs)) ≡ map f (cond b (x ∷ filter (λ a. q (f a)) xs) (filter (λ a. q (f a)) xs))
-    by true rest = ap (λ ys. f x ∷ ys) rest
-    by false rest = rest
-
-put-map : {A B : Type 0} (g : B → B → Bool) (h : A → A → Bool) (f : A → B) (x : A) (xs : List A) → ((a b : A) → g (f a) (f b) ≡ h a b)
-    → put_by g (f x) (map f xs) ≡ map f (put_by h x xs)
-put-map g h f x [] same = refl
-put-map {A = A} {B = B} g h f x (y ∷ ys) same =
-    ap (λ b. cond b (f y ∷ put_by g (f x) (map f ys)) (f x ∷ (f y ∷ map f ys))) (same y x) ∙ by (h y x) (put-map g h f x ys same)
-  where
-    by : (b : Bool) → put_by g (f x) (map f ys) ≡ map f (put_by h x ys)
-        → cond b (f y ∷ put_by g (f x) (map f ys)) (f x ∷ (f y ∷ map f ys)) ≡ map f (cond b (y ∷ put_by h x ys) (x ∷ (y ∷ ys)))
-    by true rest = ap (λ zs. f y ∷ zs) rest
-    by false rest = refl
-
-sorted-map : {A B : Type 0} (g : B → B → Bool) (h : A → A → Bool) (f : A → B) (xs : List A) → ((a b : A) → g (f a) (f b) ≡ h a b)
-    → sorted_by g (map f xs) ≡ map f (sorted_by h xs)
-sorted-map g h f [] same = refl
-sorted-map g h f (x ∷ xs) same = ap (put_by g (f x)) (sorted-map g h f xs same) ∙ put-map g h f x (sorted_by h xs) same
-
--- where all items give the same, their order is free
-put-same : {A B : Type 0} (g : A → A → Bool) (f : A → B) (c : B) (x : A) (xs : List A) → f x ≡ c → AllByRecursion (λ y. f y ≡ c) xs → map f (put_by g x xs) ≡ f x ∷ map f xs
-put-same g f c x [] is all = refl
-put-same {A = A} {B = B} g f c x (y ∷ ys) is all = by (g y x) (put-same g f c x ys is all.1)
-  where
-    by : (b : Bool) → map f (put_by g x ys) ≡ f x ∷ map f ys → map f (cond b (y ∷ put_by g x ys) (x ∷ (y ∷ ys))) ≡ f x ∷ (f y ∷ map f ys)
-    by true rest = ap (λ zs. f y ∷ zs) rest ∙ (ap (λ v. v ∷ (f x ∷ map f ys)) (all.0 ∙ sym is) ∙ ap (λ v. f x ∷ (v ∷ map f ys)) (is ∙ sym all.0))
-    by false rest = refl
-
-sorted-same : {A B : Type 0} (g : A → A → Bool) (f : A → B) (c : B) (xs : List A) → AllByRecursion (λ y. f y ≡ c) xs
-    → (map f (sorted_by g xs) ≡ map f xs) × AllByRecursion (λ y. f y ≡ c) (sorted_by g xs)
-sorted-same g f c [] all = (refl, tt)
-sorted-same {A = A} {B = B} g f c (x ∷ xs) all =
-    let rest = sorted-same g f c xs all.1 in
-    (put-same g f c x (sorted_by g xs) all.0 rest.1 ∙ ap (λ ys. f x ∷ ys) rest.0, put-all x (sorted_by g xs) all.0 rest.1)
-  where
-    put-all : (x : A) (ys : List A) → f x ≡ c → AllByRecursion (λ y. f y ≡ c) ys → AllByRecursion (λ y. f y ≡ c) (put_by g x ys)
-    put-all x [] is each = (is, tt)
-    put-all x (y ∷ ys) is each = by (g y x) (put-all x ys is each.1)
-      where
-        by : (b : Bool) → AllByRecursion (λ z. f z ≡ c) (put_by g x ys) → AllByRecursion (λ z. f z ≡ c) (cond b (y ∷ put_by g x ys) (x ∷ (y ∷ ys)))
-        by true more = (each.0, more)
-        by false more = (is, (each.0, each.1))
-
-passed : {A : Type 0} (p : A → Bool) (xs : List A) → AllByRecursion (λ a. p a ≡ true) (filter p xs)
-passed p [] = tt
-passed {A = A} p (x ∷ xs) = by (p x) refl (passed p xs)
-  where
-    by : (b : Bool) → p x ≡ b → AllByRecursion (λ a. p a ≡ true) (filter p xs) → AllByRecursion (λ a. p a ≡ true) (cond b (x ∷ filter p xs) (filter p xs))
-    by true is rest = (is, rest)
-    by false is rest = rest
-
-all-of-map : {A B : Type 0} (P : B → Type 0) (f : A → B) (xs : List A) → AllByRecursion (λ a. P (f a)) xs → AllByRecursion P (map f xs)
-all-of-map P f [] h = tt
-all-of-map P f (x ∷ xs) h = (h.0, all-of-map P f xs h.1)
+use Rattle.query_model.proofs.ListLaws.{all-filter, all-implies, all-map, all-passed, filter-map, filter-same, map-same}
+use Rattle.query_model.proofs.SortedLists.{map-sorted_by, sorted-const, sorted-same}
+use Rattle.query_model.proofs.LineByLine.{all_below, adds_doc, adds_answered, adds_delayed, adds_tick, adds_cancel}
 
 -- what is kept of a query that waits
 abbrev kept_of : List Line → Asked → Waiting
@@ -113,7 +49,7 @@ record Stands (ls : List Line) (p : Progress) : Type 0 where
 
 kept-more : (ls : List Line) (l : Line) (xs : List Asked) → AllByRecursion (λ (a : Asked). a.place < length ls) xs → map (kept_of ls) xs ≡ map (kept_of (ls ++ l ∷ [])) xs
 kept-more ls l xs below = map-same (kept_of ls) (kept_of (ls ++ l ∷ [])) xs
-    (all-map (λ (a : Asked). a.place < length ls) (λ (a : Asked). kept_of ls a ≡ kept_of (ls ++ l ∷ []) a) (λ a low. same a low) xs below)
+    (all-implies (λ (a : Asked). a.place < length ls) (λ (a : Asked). kept_of ls a ≡ kept_of (ls ++ l ∷ []) a) (λ a low. same a low) xs below)
   where
     same : (a : Asked) → a.place < length ls → kept_of ls a ≡ kept_of (ls ++ l ∷ []) a
     same a low = ap (λ n. made a.number a.query.ask n (docs_before ls a)) (sym (due_of-more ls l a (omega arith))) ∙ ap (λ ds. made a.number a.query.ask (due_of (ls ++ l ∷ []) a) ds) (sym (docs_before-more ls l a low))
@@ -126,13 +62,9 @@ wait_on : (ls : List Line) (l : Line) (test : Asked → Bool) (q : Waiting → B
     → waiting ≡ map (kept_of ls) (left_in ls) → left_in (ls ++ l ∷ []) ≡ filter test (left_in ls)
     → filter q waiting ≡ map (kept_of (ls ++ l ∷ [])) (left_in (ls ++ l ∷ []))
 wait_on ls l test q waiting same is left =
-    ap (filter q) is ∙ (filter-map q (kept_of ls) (left_in ls) ∙ (ap (map (kept_of ls)) (filter-same (λ a. q (kept_of ls a)) test (left_in ls) same)
+    ap (filter q) is ∙ (filter-map q (kept_of ls) (left_in ls) ∙ (ap (map (kept_of ls)) (filter-same (λ a. q (kept_of ls a)) test same (left_in ls))
     ∙ (kept-more ls l (filter test (left_in ls)) (all-filter (λ (a : Asked). a.place < length ls) test (left_in ls) (left_below ls))
     ∙ ap (map (kept_of (ls ++ l ∷ []))) (sym left))))
-  where
-    filter-same : (p r : Asked → Bool) (xs : List Asked) → ((a : Asked) → p a ≡ r a) → filter p xs ≡ filter r xs
-    filter-same p r [] same = refl
-    filter-same p r (x ∷ xs) same = ap (λ b. cond b (x ∷ filter p xs) (filter p xs)) (same x) ∙ ap (λ ys. cond (r x) (x ∷ ys) ys) (filter-same p r xs same)
 
 -- those that wait all wait on
 all_wait : (ls : List Line) (l : Line) (waiting : List Waiting) → waiting ≡ map (kept_of ls) (left_in ls) → left_in (ls ++ l ∷ []) ≡ left_in ls
@@ -212,9 +144,10 @@ answers_same ls (x ∷ xs) = ap (λ rs. answered (kept_of ls x) ∷ rs) (answers
 come_sorted : (ls : List Line) (xs : List Asked) → map answered (sorted_by due_before (map (kept_of ls) xs)) ≡ map said (sorted_by comes_before (map (answered_at ls) xs))
 come_sorted ls xs =
     let first : Asked → Asked → Bool = λ a b. due_before (kept_of ls a) (kept_of ls b) in
-    ap (map answered) (sorted-map due_before first (kept_of ls) xs (λ a b. refl))
+    ap (map answered) (map-sorted_by (kept_of ls) due_before xs)
     ∙ (answers_same ls (sorted_by first xs)
-    ∙ sym (ap (map said) (sorted-map comes_before first (answered_at ls) xs (λ a b. same_place (length ls) (due_before (kept_of ls a) (kept_of ls b))))))
+    ∙ sym (ap (map said) (map-sorted_by (answered_at ls) comes_before xs
+    ∙ ap (map (answered_at ls)) (sorted-same (λ a b. comes_before (answered_at ls a) (answered_at ls b)) first (λ a b. same_place (length ls) (first a b)) xs))))
 
 stands_tick : (ls : List Line) (p : Progress) (n : ℕ) → Stands ls p → Stands (ls ++ line.Tick n ∷ []) (step p (line.Tick n))
 stands_tick ls p n s =
@@ -250,10 +183,9 @@ stands_cancel ls p n s =
           (ap (λ ws. map cancelled (filter (has_number n) ws)) s.waiting
           ∙ (ap (map cancelled) (filter-map (has_number n) (kept_of ls) (left_in ls))
           ∙ (cancels_same ls those
-          ∙ sym (sorted-same comes_before said (n, reply.Cancelled) (map (cancelled_at ls) those)
-          (all-of-map (λ t. said t ≡ (n, reply.Cancelled)) (cancelled_at ls) those
-          (all-map (λ (a : Asked). is_numbered n a ≡ true) (λ (a : Asked). said (cancelled_at ls a) ≡ (n, reply.Cancelled)) (λ a yes. ap (λ m. (m, reply.Cancelled)) (sym (eqb-true n a.number yes))) those
-          (passed (is_numbered n) (left_in ls))))).0)));
+          ∙ sym (sorted-const said (n, reply.Cancelled) comes_before (map (cancelled_at ls) those)
+          (all-map (λ (a : Asked). is_numbered n a ≡ true) (λ (t : Turn). said t ≡ (n, reply.Cancelled)) (cancelled_at ls)
+          (λ a yes. ap (λ (m : ℕ). (m, reply.Cancelled)) (sym (eqb-true n a.number yes))) those (all-passed (is_numbered n) (left_in ls)))))));
     }
 
 stands_query : (ls : List Line) (p : Progress) (query : Query) (delay : Option ℕ) → query.delay ≡ delay → IfSome delay (λ d. (1 ≤ d) × (d ≤ 4294967295)) → Stands ls p

@@ -5,6 +5,7 @@ use Rattle.std.specs.List.{AllByRecursion}
 use Rattle.std.proofs.lemmas.Bool.Decides.{nat_tests}
 use Rattle.std.proofs.lemmas.List.Elements.{filter-append}
 use Rattle.fan_base.specs.declared.number.ExecId.{ExecId}
+use Rattle.query_model.proofs.ListLaws.{all-append, all-implies}
 use Rattle.event_base.specs.Seen.{AgendaSeen}
 use Rattle.event_base.specs.Turns.{Place, Turn, LeavesAgenda, IsTurn, TurnsThrough, jobs_of}
 use Rattle.tick_wheel.specs.TimerList.{TimerList}
@@ -12,7 +13,8 @@ use Rattle.query_timers.specs.declared.due.DueQuery.{DueQuery}
 use Rattle.query_timers.specs.declared.query.DelayedQuery.{DelayedQuery}
 use Rattle.query_timers.specs.Firing.{Ascend, Fires, fired_at, fires_at, head_of, job_of}
 use Rattle.query_timers.specs.Seen.{WaitersSeen}
-use Rattle.query_timers.proofs.Lists.{all-append, all-same, filter-none, filter-whole}
+use Rattle.query_timers.proofs.Lists.{filter-none, filter-whole}
+use Rattle.query_timers.proofs.Numbers.{below_not}
 
 and_false : (a b : Bool) → b ≡ false → (a && b) ≡ false
 and_false true b h = h
@@ -21,9 +23,6 @@ and_false false b h = refl
 false_and : (a b : Bool) → a ≡ false → (a && b) ≡ false
 false_and true b h = absurd cc
 false_and false b h = refl
-
-above_differs : (n m : ℕ) → n < m → (m == n) ≡ false
-above_differs n m h = grind (arith, nat_tests)
 
 -- due exactly at a tick
 abbrev pub is_due_at : ℕ → DelayedQuery → Bool
@@ -36,8 +35,8 @@ Lasts tick queries = AllByRecursion (λ (q : DelayedQuery). tick < q.due) querie
 pub quiet : (number tick : ℕ) (w : WaitersSeen) → Lasts tick w.waiting → fired_at number tick w ≡ w
 quiet number tick w later =
     let none : AllByRecursion (λ (q : DelayedQuery). fires_at number tick q ≡ false) w.waiting =
-    all-same (λ (q : DelayedQuery). tick < q.due) (λ (q : DelayedQuery). fires_at number tick q ≡ false)
-    (λ q lt. and_false (q.number == number) (q.due == tick) (above_differs tick q.due lt)) w.waiting later in
+    all-implies (λ (q : DelayedQuery). tick < q.due) (λ (q : DelayedQuery). fires_at number tick q ≡ false)
+    (λ q lt. and_false (q.number == number) (q.due == tick) (below_not tick q.due lt)) w.waiting later in
     ap (λ (l : List DelayedQuery). record w { waiting = l; fired = w.fired ++ filter (fires_at number tick) w.waiting }) (filter-whole (fires_at number tick) w.waiting none)
     ∙ (ap (λ (l : List DelayedQuery). record w { fired = w.fired ++ l }) (filter-none (fires_at number tick) w.waiting none)
     ∙ ap (λ (l : List DelayedQuery). record w { fired = l }) (append-nil w.fired))
@@ -86,9 +85,9 @@ fire_one t P K x w is before hits after =
     let misses : DelayedQuery → Bool = λ q. not (p q) in
     let one : p x ≡ true = grind (arith, nat_tests, hits) in
     let none_before : AllByRecursion (λ q. p q ≡ false) P =
-    all-same (λ q. is_due_at t q ≡ false) (λ q. p q ≡ false) (λ q h. and_false (q.number == x.number) (q.due == t) h) P before in
+    all-implies (λ q. is_due_at t q ≡ false) (λ q. p q ≡ false) (λ q h. and_false (q.number == x.number) (q.due == t) h) P before in
     let none_after : AllByRecursion (λ q. p q ≡ false) K =
-    all-same (λ (q : DelayedQuery). x.number < q.number) (λ q. p q ≡ false) (λ q h. false_and (q.number == x.number) (q.due == t) (above_differs x.number q.number h)) K after in
+    all-implies (λ (q : DelayedQuery). x.number < q.number) (λ q. p q ≡ false) (λ q h. false_and (q.number == x.number) (q.due == t) (below_not x.number q.number h)) K after in
     let hit : filter p (x ∷ K) ≡ x ∷ [] =
     ap (λ (b : Bool). cond b (x ∷ filter p K) (filter p K)) one ∙ ap (λ (l : List DelayedQuery). x ∷ l) (filter-none p K none_after) in
     let missed : filter misses (x ∷ K) ≡ K =
@@ -120,7 +119,7 @@ later_jobs turn turns job jobs e = cc
 
 pub above_all : (b : ℕ) (K : List DelayedQuery) → Ascend b K → AllByRecursion (λ (q : DelayedQuery). b < q.number) K
 above_all b [] h = tt
-above_all b (x ∷ K) h = (h.0, all-same (λ (q : DelayedQuery). x.number < q.number) (λ (q : DelayedQuery). b < q.number) (λ q k. omega (arith, h.0)) K (above_all x.number K h.1))
+above_all b (x ∷ K) h = (h.0, all-implies (λ (q : DelayedQuery). x.number < q.number) (λ (q : DelayedQuery). b < q.number) (λ q k. omega (arith, h.0)) K (above_all x.number K h.1))
 
 run_none : (exec : ExecId) (t : ℕ) (a : AgendaSeen DueQuery) (q : Place WaitersSeen DueQuery) → Runs exec t [] a q
 run_none exec t a q P w [] is before jobs through = (

@@ -7,6 +7,7 @@ use Rattle.std.proofs.lemmas.Bool.Decides.{nat_tests}
 use Rattle.std.proofs.lemmas.List.{map-append}
 use Rattle.std.proofs.lemmas.List.Elements.{All-cons, All-nil, filter-append}
 use Rattle.fan_base.specs.declared.number.JobId.{JobId}
+use Rattle.query_model.proofs.ListLaws.{all-append, all-filter, all-implies, all-passed, filter-map}
 use Rattle.tick_wheel.specs.declared.timer.Timer.{Timer}
 use Rattle.tick_wheel.specs.TimerList.{timer_at}
 use Rattle.notify_queue.specs.Ends.{QueueId, Sending}
@@ -19,16 +20,14 @@ use Rattle.query_timers.specs.declared.due.DueQuery.{DueQuery}
 use Rattle.query_timers.specs.declared.query.DelayedQuery.{DelayedQuery}
 use Rattle.query_timers.specs.Firing.{AreSilentEnds, AreTimersOf, Ascend, Fires, head_of, scheduled_on, timer_of, with_agenda}
 use Rattle.query_timers.specs.Seen.{Ticks, TimersSeen, WaitersSeen, has_number, id_of, with_waiter}
-use Rattle.query_timers.proofs.Lists.{all-append, all-filter, all-passed, all-same, filter-map, filter-not-none, filter-whole}
+use Rattle.query_timers.proofs.Lists.{filter-not-none, filter-whole}
+use Rattle.query_timers.proofs.Numbers.{above_not}
 use Rattle.query_timers.proofs.Rounds.{Ticked, ascend-filter, cut_round, whole_round}
 
 ascend-push : (b n : ℕ) (queries : List DelayedQuery) (query : DelayedQuery) → Ascend b queries → AllByRecursion (λ (q : DelayedQuery). q.number ≤ n) queries
     → b < query.number → n < query.number → Ascend b (queries ++ query ∷ [])
 ascend-push b n [] query h few lt more = (lt, tt)
 ascend-push b n (x ∷ queries) query h few lt more = (h.0, ascend-push x.number n queries query h.1 few.1 (omega (arith, few.0)) more)
-
-other_number : (n m : ℕ) → m < n → (m == n) ≡ false
-other_number n m lt = grind (arith, nat_tests)
 
 -- nobody has the next number
 none_next : (a : AgendaSeen DueQuery) (w : WaitersSeen) → AreTimersOf a w → AllByRecursion (λ (t : Timer DueQuery). (t.id == w.asked + 1) ≡ false) a.wheel.timers
@@ -38,7 +37,7 @@ none_next a w are =
     go : (queries : List DelayedQuery) → AllByRecursion (λ (q : DelayedQuery). q.number ≤ w.asked) queries
         → AllByRecursion (λ (t : Timer DueQuery). (t.id == w.asked + 1) ≡ false) (map (timer_of a.exec) queries)
     go [] h = tt
-    go (x ∷ queries) h = (other_number (w.asked + 1) x.number (omega (arith, h.0)), go queries h.1)
+    go (x ∷ queries) h = (above_not (w.asked + 1) x.number (omega (arith, h.0)), go queries h.1)
 
 find-none : {A : Type 0} (p : A → Bool) (xs : List A) → AllByRecursion (λ x. p x ≡ false) xs → find p xs ≡ None
 find-none p [] h = refl
@@ -57,7 +56,7 @@ linked_more a w query delay are number due some = record {
   later = all-append (λ (q : DelayedQuery). a.wheel.tick < q.due) w.waiting (query ∷ []) are.later (omega arith, tt);
   ascend = ascend-push 0 w.asked w.waiting query are.ascend are.few (omega arith) (omega arith);
   few = all-append (λ (q : DelayedQuery). q.number ≤ w.asked + 1) w.waiting (query ∷ [])
-      (all-same (λ (q : DelayedQuery). q.number ≤ w.asked) (λ (q : DelayedQuery). q.number ≤ w.asked + 1) (λ q le. omega arith) w.waiting are.few) (omega arith, tt);
+      (all-implies (λ (q : DelayedQuery). q.number ≤ w.asked) (λ (q : DelayedQuery). q.number ≤ w.asked + 1) (λ q le. omega arith) w.waiting are.few) (omega arith, tt);
 }
 
 -- a timer that was scheduled for the next number is taken out again

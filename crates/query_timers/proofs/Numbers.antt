@@ -5,33 +5,34 @@ use Rattle.std.specs.List.{AllByRecursion}
 use Rattle.std.specs.Option.{option_to_list}
 use Rattle.std.proofs.lemmas.Bool.{eqb-true}
 use Rattle.std.proofs.lemmas.Bool.Decides.{nat_tests}
+use Rattle.query_model.proofs.ListLaws.{all-implies}
 use Rattle.query_timers.specs.declared.query.DelayedQuery.{DelayedQuery}
 use Rattle.query_timers.specs.Numbered.{AreNumbered, waiting_in}
 use Rattle.query_timers.specs.Firing.{fired_at, fires_at}
 use Rattle.query_timers.specs.Seen.{WaitersSeen, has_number, with_waiter}
-use Rattle.query_timers.proofs.Lists.{all-same, filter-both, filter-none, filter-not-both, filter-not-none, filter-whole}
+use Rattle.query_timers.proofs.Lists.{filter-both, filter-none, filter-not-both, filter-not-none, filter-whole}
 
 -- other numbers
-below_not : (n m : ℕ) → n < m → (m == n) ≡ false
+pub below_not : (n m : ℕ) → n < m → (m == n) ≡ false
 below_not n m h = grind (arith, nat_tests)
 
 pub same_yes : (n m : ℕ) → m ≡ n → (m == n) ≡ true
 same_yes n m h = grind (arith, nat_tests)
 
-above_not : (n m : ℕ) → m < n → (m == n) ≡ false
+pub above_not : (n m : ℕ) → m < n → (m == n) ≡ false
 above_not n m h = grind (arith, nat_tests)
 
 numbers_from : (number : ℕ) (slots : List (Option DelayedQuery)) → AreNumbered number slots → AllByRecursion (λ (q : DelayedQuery). number ≤ q.number) (waiting_in slots)
 numbers_from number [] h = tt
 numbers_from number (None ∷ slots) h =
-    all-same (λ (q : DelayedQuery). number + 1 ≤ q.number) (λ (q : DelayedQuery). number ≤ q.number) (λ q k. omega arith) (waiting_in slots) (numbers_from (number + 1) slots h)
+    all-implies (λ (q : DelayedQuery). number + 1 ≤ q.number) (λ (q : DelayedQuery). number ≤ q.number) (λ q k. omega arith) (waiting_in slots) (numbers_from (number + 1) slots h)
 numbers_from number (Some query ∷ slots) h =
-    (omega (arith, h.0), all-same (λ (q : DelayedQuery). number + 1 ≤ q.number) (λ (q : DelayedQuery). number ≤ q.number) (λ q k. omega arith) (waiting_in slots) (numbers_from (number + 1) slots h.1))
+    (omega (arith, h.0), all-implies (λ (q : DelayedQuery). number + 1 ≤ q.number) (λ (q : DelayedQuery). number ≤ q.number) (λ q k. omega arith) (waiting_in slots) (numbers_from (number + 1) slots h.1))
 
 -- none of those from a number on has a smaller one
 none_below : (n number : ℕ) (slots : List (Option DelayedQuery)) → AreNumbered number slots → n < number → AllByRecursion (λ (q : DelayedQuery). has_number n q ≡ false) (waiting_in slots)
 none_below n number slots h lt =
-    all-same (λ (q : DelayedQuery). number ≤ q.number) (λ (q : DelayedQuery). has_number n q ≡ false) (λ q k. below_not n q.number (omega arith)) (waiting_in slots) (numbers_from number slots h)
+    all-implies (λ (q : DelayedQuery). number ≤ q.number) (λ (q : DelayedQuery). has_number n q ≡ false) (λ q k. below_not n q.number (omega arith)) (waiting_in slots) (numbers_from number slots h)
 
 pub no_number : (n number : ℕ) (slots : List (Option DelayedQuery)) → AreNumbered number slots → n < number → filter (has_number n) (waiting_in slots) ≡ []
 no_number n number slots h lt = filter-none (has_number n) (waiting_in slots) (none_below n number slots h lt)

@@ -3,8 +3,11 @@ use Rattle.std.proofs.Common.{◌≡◌, ℕ, suc, ◌+◌, ◌<◌, ◌≤◌, 
 use Rattle.std.specs.Prelude.{◌==◌}
 use Rattle.std.specs.List.{AllByRecursion}
 use Rattle.std.proofs.lemmas.Bool.Decides.{nat_tests}
+use Rattle.std.proofs.lemmas.Simd.{map-map}
 use Rattle.fan_base.specs.declared.number.ExecId.{ExecId}
 use Rattle.query_model.specs.Sorting.{put_by, sorted_by}
+use Rattle.query_model.proofs.ListLaws.{all-append, all-filter, all-implies, all-passed, filter-filter, filter-map}
+use Rattle.query_model.proofs.SortedLists.{all-sorted_by, put-behind, put-front}
 use Rattle.tick_wheel.specs.declared.timer.Timer.{Timer}
 use Rattle.tick_wheel.specs.TimerList.{TimerList, due_at, due_later, items_of}
 use Rattle.event_base.specs.declared.round.Round.{Round}
@@ -17,7 +20,7 @@ use Rattle.query_timers.specs.declared.query.DelayedQuery.{DelayedQuery}
 use Rattle.query_timers.specs.Firing.{AreTimersOf, Ascend, Fires, head_of, job_of, timer_of}
 use Rattle.query_timers.specs.Seen.{WaitersSeen, due_first, is_due_by}
 use Rattle.query_timers.proofs.Firings.{IsQuiet, Lasts, LeavesTimers, above_all, after_tick, is_due_at, quiet_moved, quiet_turns, run_all}
-use Rattle.query_timers.proofs.Lists.{all-append, all-both, all-filter, all-passed, all-same, all-sorted_by, filter-filter, filter-map, filter-none, filter-swap, filter-whole, map-map, put-behind, put-front}
+use Rattle.query_timers.proofs.Lists.{all-both, filter-none, filter-swap, filter-whole}
 
 -- numbers that ascend ascend also where some are left out
 ascend-lower : (b c : ℕ) (queries : List DelayedQuery) → b ≤ c → Ascend c queries → Ascend b queries
@@ -63,7 +66,7 @@ least_first t b (x ∷ queries) from ascend = by (is_due_at t x) refl (least_fir
     S = sorted_by due_first N
 
     due_all : AllByRecursion (λ (q : DelayedQuery). q.due ≡ t) D
-    due_all = all-same (λ q. is_due_at t q ≡ true) (λ (q : DelayedQuery). q.due ≡ t) (λ q h. due_is q.due t h) D (all-passed (is_due_at t) queries)
+    due_all = all-implies (λ q. is_due_at t q ≡ true) (λ (q : DelayedQuery). q.due ≡ t) (λ q h. due_is q.due t h) D (all-passed (is_due_at t) queries)
 
     late_all : AllByRecursion (λ (q : DelayedQuery). t < q.due) S
     late_all =
@@ -79,16 +82,16 @@ least_first t b (x ∷ queries) from ascend = by (is_due_at t x) refl (least_fir
     by true is rest =
         let now : x.due ≡ t = due_is x.due t is in
         ap (put_by due_first x) rest
-        ∙ put-front due_first x (D ++ S)
+        ∙ put-front due_first x [] (D ++ S)
         (all-append (λ (z : DelayedQuery). due_first z x ≡ false) D S
         (all-both (λ (z : DelayedQuery). z.due ≡ t) (λ (z : DelayedQuery). x.number < z.number) (λ (z : DelayedQuery). due_first z x ≡ false)
         (λ z same lt. not_before z.due x.due z.number x.number (now ∙ sym same) lt) D due_all above)
-        (all-same (λ (z : DelayedQuery). t < z.due) (λ (z : DelayedQuery). due_first z x ≡ false) (λ z lt. later_not_before z.due x.due z.number x.number (omega arith)) S late_all))
+        (all-implies (λ (z : DelayedQuery). t < z.due) (λ (z : DelayedQuery). due_first z x ≡ false) (λ z lt. later_not_before z.due x.due z.number x.number (omega arith)) S late_all))
     by false is rest =
         let later : t < x.due = later_by_test x.due t from.0 (ap not is) in
         ap (put_by due_first x) rest
         ∙ put-behind due_first x D S
-        (all-same (λ (z : DelayedQuery). z.due ≡ t) (λ (z : DelayedQuery). due_first z x ≡ true) (λ z same. earlier_before z.due x.due z.number x.number (omega arith)) D due_all)
+        (all-implies (λ (z : DelayedQuery). z.due ≡ t) (λ (z : DelayedQuery). due_first z x ≡ true) (λ z same. earlier_before z.due x.due z.number x.number (omega arith)) D due_all)
 
 -- one tick: those that are due at it fire, and the others wait on
 tick_fires : (p q : Place WaitersSeen DueQuery) (turns : List (Turn DueQuery)) → AreTimersOf p.1 p.0 → IsTick head_of Fires p turns q
@@ -100,7 +103,7 @@ tick_fires p q turns are is =
     let jobs : due_next p.1 ≡ map (job_of exec) (filter (is_due_at t) ws) =
     ap (λ (l : List (Timer DueQuery)). items_of (due_at t l)) are.timers
     ∙ (ap (λ (l : List (Timer DueQuery)). items_of l) (filter-map (λ (x : Timer DueQuery). x.due == t) (timer_of exec) ws)
-    ∙ map-map (timer_of exec) (λ (x : Timer DueQuery). x.item) (filter (is_due_at t) ws)) in
+    ∙ map-map (λ (x : Timer DueQuery). x.item) (timer_of exec) (filter (is_due_at t) ws)) in
     run_all exec t 0 ws (ticked p.1) q refl are.ascend [] p.0 turns refl tt (is.each ∙ jobs) is.ran.through
 
 -- the timers are those that wait, as before
@@ -133,7 +136,7 @@ no_ticks : (p : Place WaitersSeen DueQuery) → AreTimersOf p.1 p.0 → Ticked 0
 no_ticks p are =
     let now : ℕ = p.1.wheel.tick + 0 in
     let none : AllByRecursion (λ (q : DelayedQuery). is_due_by now q ≡ false) p.0.waiting =
-    all-same (λ (q : DelayedQuery). p.1.wheel.tick < q.due) (λ (q : DelayedQuery). is_due_by now q ≡ false) (λ q lt. not_yet p.1.wheel.tick q.due lt) p.0.waiting are.later in
+    all-implies (λ (q : DelayedQuery). p.1.wheel.tick < q.due) (λ (q : DelayedQuery). is_due_by now q ≡ false) (λ q lt. not_yet p.1.wheel.tick q.due lt) p.0.waiting are.later in
     record {
       are = are;
       tick = omega arith;
@@ -162,7 +165,7 @@ one_tick_more n p q are rest =
     let N : List DelayedQuery = filter (λ x. not (is_due_at t x)) ws in
     let from : AllByRecursion (λ (x : DelayedQuery). t ≤ x.due) (filter by ws) =
     all-filter (λ (x : DelayedQuery). t ≤ x.due) by ws
-    (all-same (λ (x : DelayedQuery). p.1.wheel.tick < x.due) (λ (x : DelayedQuery). t ≤ x.due) (λ x lt. omega arith) ws are.later) in
+    (all-implies (λ (x : DelayedQuery). p.1.wheel.tick < x.due) (λ (x : DelayedQuery). t ≤ x.due) (λ x lt. omega arith) ws are.later) in
     let split : sorted_by due_first (filter by ws) ≡ D ++ sorted_by due_first (filter by N) =
     least_first t 0 (filter by ws) from (ascend-filter by 0 ws are.ascend)
     ∙ (ap (λ (l : List DelayedQuery). l ++ sorted_by due_first (filter (λ x. not (is_due_at t x)) (filter by ws))) (filter-filter (is_due_at t) by (λ x e. at_by x.due t last le e) ws)

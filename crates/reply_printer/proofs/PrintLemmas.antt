@@ -20,6 +20,7 @@ use Rattle.query_model.specs.declared.reply.Reply.{Reply}
 use Rattle.query_model.specs.Order.{replies_of}
 use Rattle.query_model.specs.Output.{reply_text}
 use Rattle.query_model.specs.Pieces.{Bytes}
+use Rattle.query_model.proofs.ListFacts.{drop_one_more, take_one_more}
 use Rattle.reply_order.specs.declared.orderer.Orderer.{Orderer}
 use Rattle.reply_order.specs.Orders.{AddsOne, Goes, Puts, Stays, held_of, next_of, reply_at}
 use Rattle.fan_model.specs.Places.{IsReplyAt}
@@ -32,20 +33,7 @@ use Rattle.reply_printer.specs.Printing.{AfterLine, GoesOn, HasWritten, KeepsPri
 abbrev text : ℕ × Reply → Bytes
 text r = reply_text r.0 r.1
 
--- the front of a list with one item more
-take_more : {A : Type 0} (xs : List A) (n : ℕ) (x : A) → slice_get xs n ≡ Some x → take (suc n) xs ≡ take n xs ++ x ∷ []
-take_more [] zero x at = absurd cc
-take_more [] (suc n) x at = absurd cc
-take_more {A = A} (y ∷ ys) zero x at = let same : y ≡ x = cc in ap (λ (z : A). z ∷ []) same
-take_more {A = A} (y ∷ ys) (suc n) x at = ap (λ (l : List A). y ∷ l) (take_more ys n x at)
-
-rest_more : {A : Type 0} (xs : List A) (n : ℕ) (x : A) → slice_get xs n ≡ Some x → drop n xs ≡ x ∷ drop (suc n) xs
-rest_more [] zero x at = absurd cc
-rest_more [] (suc n) x at = absurd cc
-rest_more {A = A} (y ∷ ys) zero x at = let same : y ≡ x = cc in ap (λ (z : A). z ∷ ys) same
-rest_more (y ∷ ys) (suc n) x at = rest_more ys n x at
-
--- the same of a list with places
+-- a list with places has them from the first on
 at_place : {A : Type 0} (xs : List A) (first n : ℕ) (x : A) → slice_get xs n ≡ Some x → slice_get (enumerate_from first xs) n ≡ Some (first + n, x)
 at_place [] first zero x at = absurd cc
 at_place [] first (suc n) x at = absurd cc
@@ -60,7 +48,7 @@ at_place {A = A} (y ∷ ys) first (suc n) x at =
 -- the text before a place, and behind it
 text_more : (lines : List Line) (place : ℕ) (r : ℕ × Reply) → slice_get (replies_of lines) place ≡ Some r → text_before lines (suc place) ≡ text_before lines place ++ text r
 text_more lines place r at =
-    ap (flat_map text) (take_more (replies_of lines) place r at)
+    ap (flat_map text) (take_one_more (replies_of lines) place r at)
     ∙ (flat_map-append text (take place (replies_of lines)) (r ∷ []) ∙ ap (λ (l : Bytes). text_before lines place ++ l) (append-nil (text r)))
 
 text_rest : (lines : List Line) (place : ℕ) → text_of lines ≡ text_before lines place ++ flat_map text (drop place (replies_of lines))
@@ -87,7 +75,7 @@ front_with lines next r start old new at before f = record {
   rest = f.rest ++ flat_map text (drop (suc next) (replies_of lines));
   whole =
       let behind : flat_map text (drop next (replies_of lines)) ≡ text r ++ flat_map text (drop (suc next) (replies_of lines)) =
-      ap (flat_map text) (rest_more (replies_of lines) next r at) in
+      ap (flat_map text) (drop_one_more (replies_of lines) next r at) in
       let line : text r ++ flat_map text (drop (suc next) (replies_of lines)) ≡ f.front ++ (f.rest ++ flat_map text (drop (suc next) (replies_of lines))) =
       ap (λ (l : Bytes). l ++ flat_map text (drop (suc next) (replies_of lines))) f.whole ∙ append_assoc f.front f.rest (flat_map text (drop (suc next) (replies_of lines))) in
       text_rest lines next ∙ (ap (λ (l : Bytes). text_before lines next ++ l) (behind ∙ line)
@@ -145,7 +133,7 @@ weight_more weight old new x a =
 weight_to : (lines : List Line) (weight : Placed → ℕ) (place : ℕ) (r : ℕ × Reply) → slice_get (replies_of lines) place ≡ Some r
     → sum_by weight (take (suc place) (placed_of lines)) ≡ sum_by weight (take place (placed_of lines)) + weight (place, r)
 weight_to lines weight place r at =
-    ap (sum_by weight) (take_more (placed_of lines) place (0 + place, r) (at_place (replies_of lines) 0 place r at))
+    ap (sum_by weight) (take_one_more (placed_of lines) place (0 + place, r) (at_place (replies_of lines) 0 place r at))
     ∙ (sum_by_push weight (take place (placed_of lines)) (0 + place, r)
     ∙ ap (λ (k : ℕ). sum_by weight (take place (placed_of lines)) + weight (k, r)) (omega arith))
 
