@@ -151,7 +151,7 @@ impl Dictionary {
     fn is_at(&self, number: usize, word: &Word) -> bool
         ensures { result ≡ true → IsAt self.now.words.items number word.now }
     {
-        number < self.words.len() && self.words[number] == *word
+        number < self.words.len() && are_same(&self.words[number], word)
     }
 
     /// The word's number by the ordered map.
@@ -163,4 +163,22 @@ impl Dictionary {
             None => self.words.len(),
         }
     }
+}
+
+/// Whether two words are the same.
+fn are_same(one: &Word, other: &Word) -> bool
+    ensures { result ≡ true → one.now ≡ other.now }
+{
+    agree(one.as_array(), other.as_array())
+}
+
+/// Whether two arrays are the same. Each byte is compared, whatever the others say, so that a machine compares many at once.
+fn agree(one: &[u8; 32], other: &[u8; 32]) -> bool
+    ensures { result ≡ true → one.now ≡ other.now }
+{
+    let mut same = true;
+    for i in 0..32 {
+        same &= one[i] == other[i];
+    }
+    same
 }
