@@ -1,4 +1,4 @@
--- What was added is what ran or is handed back: from weights to each ticket once.
+-- What was added is what ran or is handed back: from sums to each ticket once.
 use Rattle.std.proofs.Common.{◌≡◌, ◌≢◌, ℕ, zero, suc, ◌+◌, ◌<◌, ◌≤◌, List, [], ◌∷◌, ◌++◌, length, length-append, map, eqb, Some, refl, sym, ap, ◌∙◌, subst, arith, eq-eqb, ne_eqb, Bool}
 use Rattle.std.specs.Prelude.{slice_get, cond, ◌&&◌, Option, unwrap_or}
 use Rattle.std.specs.List.{sum_by}
@@ -18,25 +18,21 @@ use Rattle.pool_model.specs.Orders.{IsSameInAnyOrder}
 abbrev one_if : Bool → ℕ
 one_if b = cond b 1 0
 
-abbrev weigh : (Task → ℕ) → List Task → ℕ
-weigh h [] = 0
-weigh h (t ∷ ts) = h t + weigh h ts
+sum_one : (tasks : List Task) → sum_by (λ (_ : Task). 1) tasks ≡ length tasks
+sum_one [] = refl
+sum_one (t ∷ ts) = omega (arith, sum_one ts, sum_by-cons (λ (_ : Task). 1) t ts)
 
-weigh_is : (h : Task → ℕ) (tasks : List Task) → weigh h tasks ≡ sum_by h tasks
-weigh_is h [] = refl
-weigh_is h (t ∷ ts) = omega (arith, weigh_is h ts, sum_by-cons h t ts)
-
-weigh_one : (tasks : List Task) → weigh (λ _. 1) tasks ≡ length tasks
-weigh_one [] = refl
-weigh_one (t ∷ ts) = omega (arith, weigh_one ts)
+sum_numbered : (h : Task → ℕ) (adder k : ℕ) (x : Add) (xs : List Add)
+    → sum_by h (numbered adder k (x ∷ xs)) ≡ h (record { ticket = record { adder = adder; index = k }; queue = x.queue; head = x.head }) + sum_by h (numbered adder (k + 1) xs)
+sum_numbered h adder k x xs = sum_by-cons h (record { ticket = record { adder = adder; index = k }; queue = x.queue; head = x.head }) (numbered adder (k + 1) xs)
 
 abbrev passes_weight : (Task → ℕ) → List PassSeen → ℕ
 passes_weight h [] = 0
-passes_weight h (p ∷ ps) = weigh h (numbered p.number 0 (adds_of p)) + passes_weight h ps
+passes_weight h (p ∷ ps) = sum_by h (numbered p.number 0 (adds_of p)) + passes_weight h ps
 
 passes_weight_is : (h : Task → ℕ) (passes : List PassSeen) → passes_weight h passes ≡ sum_by h (tasks_of passes)
 passes_weight_is h [] = refl
-passes_weight_is h (p ∷ ps) = omega (arith, passes_weight_is h ps, weigh_is h (numbered p.number 0 (adds_of p)), sum_by-append h (numbered p.number 0 (adds_of p)) (tasks_of ps))
+passes_weight_is h (p ∷ ps) = omega (arith, passes_weight_is h ps, sum_by-append h (numbered p.number 0 (adds_of p)) (tasks_of ps))
 
 abbrev with_number : ℕ → List PassSeen → ℕ
 with_number n [] = 0
@@ -83,14 +79,14 @@ same_task r x = dite (ℕ_discrete r.ticket.adder x.ticket.adder)
 is_task : Task → Task → ℕ
 is_task r x = mark (same_task r x)
 
-some_task : (tasks : List Task) (k : ℕ) (task : Task) → slice_get tasks k ≡ Some task → 0 < weigh (is_task task) tasks
+some_task : (tasks : List Task) (k : ℕ) (task : Task) → slice_get tasks k ≡ Some task → 0 < sum_by (is_task task) tasks
 unfolding is_task
 some_task [] k task at = absurd (cc)
-some_task (x ∷ xs) zero task at = let same : task ≡ x = sym (ap (λ (o : Option Task). unwrap_or o x) at) in omega (arith, mark_true (same_task task x) same)
-some_task (x ∷ xs) (suc k) task at = let h = some_task xs k task at in omega arith
+some_task (x ∷ xs) zero task at = let same : task ≡ x = sym (ap (λ (o : Option Task). unwrap_or o x) at) in omega (arith, mark_true (same_task task x) same, sum_by-cons (is_task task) x xs)
+some_task (x ∷ xs) (suc k) task at = omega (arith, some_task xs k task at, sum_by-cons (is_task task) x xs)
 
 -- an added task is the add at its ticket
-some_add : (adder k : ℕ) (adds : List Add) (task : Task) → 0 < weigh (is_task task) (numbered adder k adds)
+some_add : (adder k : ℕ) (adds : List Add) (task : Task) → 0 < sum_by (is_task task) (numbered adder k adds)
     → (j : ℕ) × (adder ≡ task.ticket.adder) × (task.ticket.index ≡ k + j) × (slice_get adds j ≡ Some (add_of task))
 unfolding is_task
 some_add adder k [] task some = absurd (omega (arith, some))
@@ -98,11 +94,11 @@ some_add adder k (x ∷ xs) task some =
     let first : Task = record { ticket = record { adder = adder; index = k }; queue = x.queue; head = x.head } in
     dite (same_task task first)
     (λ e. (0, sym (ap (λ (y : Task). y.ticket.adder) e), ap (λ (y : Task). y.ticket.index) e ∙ omega arith, ap Some (sym (ap add_of e))))
-    (λ n. let left : 0 < weigh (is_task task) (numbered adder (k + 1) xs) = omega (arith, some, mark_false (same_task task first) n) in let h = some_add adder (k + 1) xs task left in (suc h.0, h.1, h.2 ∙ omega arith, h.3))
+    (λ n. let left : 0 < sum_by (is_task task) (numbered adder (k + 1) xs) = omega (arith, some, mark_false (same_task task first) n, sum_numbered (is_task task) adder k x xs) in let h = some_add adder (k + 1) xs task left in (suc h.0, h.1, h.2 ∙ omega arith, h.3))
 
-some_pass : (h : Task → ℕ) (passes : List PassSeen) → 0 < passes_weight h passes → (k : ℕ) × (pass : PassSeen) × (slice_get passes k ≡ Some pass) × (0 < weigh h (numbered pass.number 0 (adds_of pass)))
+some_pass : (h : Task → ℕ) (passes : List PassSeen) → 0 < passes_weight h passes → (k : ℕ) × (pass : PassSeen) × (slice_get passes k ≡ Some pass) × (0 < sum_by h (numbered pass.number 0 (adds_of pass)))
 some_pass h [] some = absurd (omega (arith, some))
-some_pass h (p ∷ ps) some = dite (ℕ_discrete (weigh h (numbered p.number 0 (adds_of p))) 0)
+some_pass h (p ∷ ps) some = dite (ℕ_discrete (sum_by h (numbered p.number 0 (adds_of p))) 0)
     (λ e. let r = some_pass h ps (omega (arith, some, e)) in (suc r.0, r.1, r.2, r.3))
     (λ n. (0, p, refl, omega (arith, n)))
 
@@ -112,7 +108,7 @@ length-numbered adder k (x ∷ xs) = ap suc (length-numbered adder (k + 1) xs)
 
 total_is : (passes : List PassSeen) → passes_weight (λ _. 1) passes ≡ adds_total passes
 total_is [] = refl
-total_is (p ∷ ps) = omega (arith, total_is ps, weigh_one (numbered p.number 0 (adds_of p)), length-numbered p.number 0 (adds_of p), sum_by-cons (λ (q : PassSeen). length (adds_of q)) p ps)
+total_is (p ∷ ps) = omega (arith, total_is ps, sum_one (numbered p.number 0 (adds_of p)), length-numbered p.number 0 (adds_of p), sum_by-cons (λ (q : PassSeen). length (adds_of q)) p ps)
 
 ticket_is : ℕ → ℕ → Ticket → ℕ
 ticket_is a i t = one_if (is_ticket a i t)
@@ -120,30 +116,30 @@ ticket_is a i t = one_if (is_ticket a i t)
 ticket_weight : ℕ → ℕ → Task → ℕ
 ticket_weight a i r = ticket_is a i r.ticket
 
-tasks_with-weigh : (a i : ℕ) (tasks : List Task) → tasks_with a i tasks ≡ weigh (ticket_weight a i) tasks
+tasks_with-sum : (a i : ℕ) (tasks : List Task) → tasks_with a i tasks ≡ sum_by (ticket_weight a i) tasks
 unfolding ticket_weight ticket_is
-tasks_with-weigh a i tasks = sym (weigh_is (λ (t : Task). one_if (is_ticket a i t.ticket)) tasks)
+tasks_with-sum a i tasks = refl
 
 -- tickets of other numbers don't count
-other_adder : (a i b k : ℕ) (adds : List Add) → b ≢ a → weigh (ticket_weight a i) (numbered b k adds) ≡ 0
+other_adder : (a i b k : ℕ) (adds : List Add) → b ≢ a → sum_by (ticket_weight a i) (numbered b k adds) ≡ 0
 unfolding ticket_weight ticket_is
 other_adder a i b k [] other = refl
-other_adder a i b k (x ∷ xs) other = let h = other_adder a i b (k + 1) xs other in let no_ticket : ticket_is a i record { adder = b; index = k } ≡ 0 = ap (λ c. one_if (c && eqb k i)) (ne_eqb b a other) in omega arith
+other_adder a i b k (x ∷ xs) other = let h = other_adder a i b (k + 1) xs other in let no_ticket : ticket_is a i record { adder = b; index = k } ≡ 0 = ap (λ c. one_if (c && eqb k i)) (ne_eqb b a other) in omega (arith, h, no_ticket, sum_numbered (ticket_weight a i) b k x xs)
 
-later_index : (a i k : ℕ) (adds : List Add) → i < k → weigh (ticket_weight a i) (numbered a k adds) ≡ 0
+later_index : (a i k : ℕ) (adds : List Add) → i < k → sum_by (ticket_weight a i) (numbered a k adds) ≡ 0
 unfolding ticket_weight ticket_is
 later_index a i k [] past = refl
 later_index a i k (x ∷ xs) past =
     let h = later_index a i (k + 1) xs (omega (arith, past)) in
     let no_ticket : ticket_is a i record { adder = a; index = k } ≡ 0 = ap (λ c. one_if (c && eqb k i)) (eq-eqb a a refl) ∙ ap one_if (ne_eqb k i (λ e. omega (arith, past, e))) in
-    omega arith
+    omega (arith, h, no_ticket, sum_numbered (ticket_weight a i) a k x xs)
 
-own_index : (a i k : ℕ) (adds : List Add) → k ≤ i → i < k + length adds → weigh (ticket_weight a i) (numbered a k adds) ≡ 1
+own_index : (a i k : ℕ) (adds : List Add) → k ≤ i → i < k + length adds → sum_by (ticket_weight a i) (numbered a k adds) ≡ 1
 unfolding ticket_weight ticket_is
 own_index a i k [] from to = absurd (omega (arith, from, to))
 own_index a i k (x ∷ xs) from to = dite (ℕ_discrete k i)
-    (λ e. let here : ticket_is a i record { adder = a; index = k } ≡ 1 = ap (λ c. one_if (c && eqb k i)) (eq-eqb a a refl) ∙ ap one_if (eq-eqb k i e) in let h = later_index a i (k + 1) xs (omega (arith, e)) in omega arith)
-    (λ n. let here : ticket_is a i record { adder = a; index = k } ≡ 0 = ap (λ c. one_if (c && eqb k i)) (eq-eqb a a refl) ∙ ap one_if (ne_eqb k i n) in let h = own_index a i (k + 1) xs (omega (arith, from, n)) (omega (arith, to)) in omega arith)
+    (λ e. let here : ticket_is a i record { adder = a; index = k } ≡ 1 = ap (λ c. one_if (c && eqb k i)) (eq-eqb a a refl) ∙ ap one_if (eq-eqb k i e) in let h = later_index a i (k + 1) xs (omega (arith, e)) in omega (arith, h, here, sum_numbered (ticket_weight a i) a k x xs))
+    (λ n. let here : ticket_is a i record { adder = a; index = k } ≡ 0 = ap (λ c. one_if (c && eqb k i)) (eq-eqb a a refl) ∙ ap one_if (ne_eqb k i n) in let h = own_index a i (k + 1) xs (omega (arith, from, n)) (omega (arith, to)) in omega (arith, h, here, sum_numbered (ticket_weight a i) a k x xs))
 
 -- no pass of this number, no ticket of it
 no_pass : (a i : ℕ) (passes : List PassSeen) → with_number a passes ≡ 0 → passes_weight (ticket_weight a i) passes ≡ 0
@@ -161,13 +157,13 @@ some_pass_with (p ∷ ps) zero pass at =
 some_pass_with (p ∷ ps) (suc k) pass at = omega (arith, some_pass_with ps k pass at)
 
 one_pass : (i : ℕ) (passes : List PassSeen) (k : ℕ) (pass : PassSeen) → slice_get passes k ≡ Some pass → with_number pass.number passes ≡ 1
-    → passes_weight (ticket_weight pass.number i) passes ≡ weigh (ticket_weight pass.number i) (numbered pass.number 0 (adds_of pass))
+    → passes_weight (ticket_weight pass.number i) passes ≡ sum_by (ticket_weight pass.number i) (numbered pass.number 0 (adds_of pass))
 one_pass i [] k pass at once = absurd (cc)
 one_pass i (p ∷ ps) zero pass at once =
     let same : p ≡ pass = ap (λ (o : Option PassSeen). unwrap_or o p) at in
     let one : one_if (eqb p.number pass.number) ≡ 1 = ap one_if (eq-eqb p.number pass.number (ap (λ (q : PassSeen). q.number) same)) in
     let none_left = no_pass pass.number i ps (omega (arith, once, one)) in
-    let here : weigh (ticket_weight pass.number i) (numbered p.number 0 (adds_of p)) ≡ weigh (ticket_weight pass.number i) (numbered pass.number 0 (adds_of pass)) = ap (λ (q : PassSeen). weigh (ticket_weight pass.number i) (numbered q.number 0 (adds_of q))) same in
+    let here : sum_by (ticket_weight pass.number i) (numbered p.number 0 (adds_of p)) ≡ sum_by (ticket_weight pass.number i) (numbered pass.number 0 (adds_of pass)) = ap (λ (q : PassSeen). sum_by (ticket_weight pass.number i) (numbered q.number 0 (adds_of q))) same in
     omega (arith, none_left, here)
 one_pass i (p ∷ ps) (suc k) pass at once =
     let some = some_pass_with ps k pass at in
@@ -176,7 +172,7 @@ one_pass i (p ∷ ps) (suc k) pass at once =
     (λ n. let none_here : one_if (eqb p.number pass.number) ≡ 0 = ap one_if (ne_eqb p.number pass.number n) in
     let h = one_pass i ps k pass at (omega (arith, once, none_here)) in omega (arith, h, other_adder pass.number i p.number 0 (adds_of p) n))
 
--- tasks that weigh what the passes added, however they are weighed, are all adds
+-- tasks that are in any order what the passes added are all adds
 record AreAllAdds (passes : List PassSeen) (tasks : List Task) : Type 0 where
   each : (k : ℕ) (task : Task) → slice_get tasks k ≡ Some task → IsAddOf passes task
   once : (k : ℕ) (pass : PassSeen) (index : ℕ) → slice_get passes k ≡ Some pass → index < length (adds_of pass) → tasks_with pass.number index tasks ≡ 1
@@ -184,15 +180,15 @@ record AreAllAdds (passes : List PassSeen) (tasks : List Task) : Type 0 where
 
 all_adds : (passes : List PassSeen) (tasks : List Task) → ((k : ℕ) (pass : PassSeen) → slice_get passes k ≡ Some pass → passes_with pass.number passes ≡ 1) → IsSameInAnyOrder tasks (tasks_of passes) → AreAllAdds passes tasks
 all_adds passes tasks numbers same =
-    let weight : (h : Task → ℕ) → weigh h tasks ≡ passes_weight h passes = λ h. weigh_is h tasks ∙ (same.sums h ∙ sym (passes_weight_is h passes)) in
+    let weight : (h : Task → ℕ) → sum_by h tasks ≡ passes_weight h passes = λ h. same.sums h ∙ sym (passes_weight_is h passes) in
     let once : (k : ℕ) (pass : PassSeen) → slice_get passes k ≡ Some pass → with_number pass.number passes ≡ 1 = λ k pass at. with_number_is pass.number passes ∙ numbers k pass at in
     record {
       each = λ k task at.
           let p = some_pass (is_task task) passes (subst (λ n. 0 < n) (weight (is_task task)) (some_task tasks k task at)) in
           let a = some_add p.1.number 0 (adds_of p.1) task p.3 in
           record { place = p.0; pass = p.1; at = p.2; number = a.1; add = ap (slice_get (adds_of p.1)) (a.2 ∙ omega arith) ∙ a.3 };
-      once = λ k pass i at within. tasks_with-weigh pass.number i tasks ∙ (weight (ticket_weight pass.number i) ∙ (one_pass i passes k pass at (once k pass at) ∙ own_index pass.number i 0 (adds_of pass) (omega arith) (omega (arith, within))));
-      many = sym (weigh_one tasks) ∙ (weight (λ _. 1) ∙ total_is passes);
+      once = λ k pass i at within. tasks_with-sum pass.number i tasks ∙ (weight (ticket_weight pass.number i) ∙ (one_pass i passes k pass at (once k pass at) ∙ own_index pass.number i 0 (adds_of pass) (omega arith) (omega (arith, within))));
+      many = sym (sum_one tasks) ∙ (weight (λ _. 1) ∙ total_is passes);
     }
 
 nth_run : (tasks : List Task) (records : List Record) → AreRunsOf tasks records → (k : ℕ) (r : Record) → slice_get records k ≡ Some r → (task : Task) × (slice_get tasks k ≡ Some task) × IsRunOf task r

@@ -16,6 +16,7 @@ use std::sync::Wait;
 use std::thread::{Threads, join};
 
 mod kept;
+mod queue;
 mod threads;
 
 // It notes its id in the world, and is done with its number.

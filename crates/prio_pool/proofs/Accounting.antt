@@ -19,12 +19,12 @@ use Rattle.task_queue.specs.declared.rule.Queued.{Queued}
 use Rattle.task_queue.specs.declared.view.Share.{Share}
 use Rattle.task_queue.specs.Settled.{Settled}
 use Rattle.task_queue.specs.Views.{share, entries_of}
-use Rattle.prio_pool.specs.declared.placed.Placed.{Placed}
+use Rattle.pool_runs.specs.declared.placed.Placed.{Placed}
 use Rattle.prio_pool.specs.Adders.{entry_of}
 use Rattle.prio_pool.specs.Gathering.{gathered_at, gathered_from, AllSettled, IsWhole}
-use Rattle.prio_pool.specs.Returning.{back_of, back_from}
+use Rattle.pool_runs.specs.Returning.{back_of, back_from}
 use Rattle.prio_pool.proofs.Lists.{All-cons, All-head, All-tail, All-none}
-use Rattle.prio_pool.proofs.Recording.{runs-append}
+use Rattle.pool_runs.proofs.Lists.{runs-append}
 
 all_of_map : {X Y : Type 0} (f : X → Y) (P : Y → Type 0) (xs : List X) → All P (map f xs) → All (λ x. P (f x)) xs
 all_of_map f P [] all = All-none (λ (x : _). P (f x))

@@ -20,15 +20,16 @@ use Rattle.pool_model.specs.Records.{Record, AreRunsOf}
 use Rattle.pool_model.specs.Seen.{PassSeen, EndSeen, Returned, at_queue, steps_by, task_of}
 use Rattle.pool_model.specs.Steps.{tasks_taken}
 use Rattle.pool_model.specs.Tasks.{Task, Add, downwards, numbered}
-use Rattle.prio_pool.specs.declared.placed.Placed.{Placed}
+use Rattle.pool_runs.specs.declared.placed.Placed.{Placed}
 use Rattle.prio_pool.specs.Ended.{CameTo, CameBack}
 use Rattle.prio_pool.specs.Gathering.{FoundAs}
-use Rattle.prio_pool.specs.Returning.{back_from}
-use Rattle.prio_pool.specs.Running.{Drained}
+use Rattle.pool_runs.specs.Returning.{back_from}
+use Rattle.pool_runs.specs.Running.{Drained}
 use Rattle.prio_pool.proofs.Accounting.{all_accounted, as_many_rests, ends_ran, entries_in, histories_of, tasks_back}
 use Rattle.prio_pool.proofs.Lists.{All-into}
 use Rattle.prio_pool.proofs.Orders.{same-length}
-use Rattle.prio_pool.proofs.Recording.{length-runs, runs-append}
+use Rattle.pool_runs.proofs.Lists.{runs-append}
+use Rattle.prio_pool.proofs.Recording.{length-runs}
 use Rattle.task_queue.specs.declared.rule.Queued.{Queued}
 
 length-numbered : (adder first : ℕ) (adds : List Add) → length (numbered adder first adds) ≡ length adds

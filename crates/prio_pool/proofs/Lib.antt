@@ -4,16 +4,13 @@ pub mod Adding
 pub mod Taking
 pub mod Recording
 pub mod Trying
-pub mod Leading
 pub mod Mixing
 pub mod Making
 pub mod Listing
 pub mod Gathered
 pub mod Merging
-pub mod Handing
 pub mod Accounting
 pub mod Finishing
-pub mod Draining
 pub mod Crossings
 pub mod Unused
 pub mod Sleeping

@@ -27,10 +27,6 @@ taker_more pool first (suc n) k is = ap (λ (l : List TakersSeen). new_takers_se
 pub one_taker_more : (pool : PoolId) (first n k : ℕ) → k ≡ n + 1 → new_takers_from pool first k ≡ new_takers_from pool first n ++ new_takers_seen pool (first + n) ∷ []
 one_taker_more pool first n k is = let next : k ≡ suc n = omega (arith, is) in ap (new_takers_from pool first) next ∙ taker_more pool first n (first + n) refl
 
--- the front one of a list joins those that were taken from it
-pub one_over : {X : Type 0} (done rest more whole : List X) (x : X) → done ++ rest ≡ whole → rest ≡ x ∷ more → (done ++ x ∷ []) ++ more ≡ whole
-one_over done rest more whole x all is = append_assoc done (x ∷ []) more ∙ (ap (λ (l : List _). done ++ l) (sym is) ∙ all)
-
 pub count_passes : (pool : PoolId) (first n : ℕ) → length (new_passes pool first n) ≡ n
 count_passes pool first zero = refl
 count_passes pool first (suc n) = ap suc (count_passes pool (first + 1) n)

@@ -27,8 +27,3 @@ take_one [] zero x at = cc
 take_one [] (suc k) x at = cc
 take_one (y ∷ ys) zero x at = ap (λ (z : _). z ∷ []) (ap (λ (o : Option _). unwrap_or o y) at)
 take_one (y ∷ ys) (suc k) x at = ap (λ (l : List _). y ∷ l) (take_one ys k x at)
-
-pub at_index : {X : Type 0} (xs : List X) (k : ℕ) (d : X) → k < length xs → slice_get xs k ≡ Some (get_or xs k d)
-at_index [] k d within = absurd (omega (arith, within))
-at_index (y ∷ ys) zero d within = refl
-at_index (y ∷ ys) (suc k) d within = at_index ys k d (omega (arith, within))

@@ -22,15 +22,10 @@ use Rattle.pool_model.specs.Tickets.{Ascend, tickets_of}
 use Rattle.prio_pool.specs.Passes.{TookNothing, end_seen}
 use Rattle.prio_pool.specs.Takers.{TakersSeen, HasTaken, RanTaken, and_popped}
 use Rattle.prio_pool.specs.Turned.{WorkedSoFar}
+use Rattle.pool_runs.proofs.Lists.{runs-append}
 use Rattle.prio_pool.proofs.Lists.{All-head, All-tail, All-none, All-snoc}
 use Rattle.prio_pool.proofs.Orders.{same-length}
 use Rattle.prio_pool.proofs.Adding.{upwards_more, more_sum, length-set, task_at}
-
-pub runs-append : (ts us : List Task) (rs ss : List Record) → AreRunsOf ts rs → AreRunsOf us ss → AreRunsOf (ts ++ us) (rs ++ ss)
-runs-append [] us [] ss one other = other
-runs-append [] us (r ∷ rs) ss one other = absurd one
-runs-append (t ∷ ts) us [] ss one other = absurd one
-runs-append (t ∷ ts) us (r ∷ rs) ss one other = (one.0, runs-append ts us rs ss one.1 other)
 
 pub length-runs : (ts : List Task) (rs : List Record) → AreRunsOf ts rs → length ts ≡ length rs
 length-runs [] [] all = refl

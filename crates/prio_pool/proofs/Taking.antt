@@ -8,17 +8,13 @@ use Rattle.job_trait.specs.declared.job.Head.{Head}
 use Rattle.pool_model.specs.declared.task.Entry.{Entry}
 use Rattle.pool_model.specs.Seen.{at_queue}
 use Rattle.pool_model.specs.Tickets.{Ascend, tickets_of}
+use Rattle.pool_runs.proofs.Lists.{set_same}
 use Rattle.prio_pool.proofs.Lists.{All-cons, All-head, All-tail}
 use Rattle.task_queue.specs.declared.rule.Queued.{Queued}
 use Rattle.task_queue.specs.Seen.{TakerSeen}
 use Rattle.task_queue.specs.Settled.{TakeTold}
-use Rattle.prio_pool.specs.declared.placed.Placed.{Placed}
+use Rattle.pool_runs.specs.declared.placed.Placed.{Placed}
 use Rattle.prio_pool.specs.Takers.{HasTaker, PoppedAt, TookAt}
-
-pub set_same : {X : Type 0} (xs : List X) (k : ℕ) (x : X) → slice_get xs k ≡ Some x → set xs k x ≡ xs
-set_same [] k x at = cc
-set_same (y ∷ ys) zero x at = ap (λ (z : _). z ∷ ys) (sym (ap (λ (o : Option _). unwrap_or o y) at))
-set_same (y ∷ ys) (suc k) x at = ap (λ (l : List _). y ∷ l) (set_same ys k x at)
 
 some_is : {X : Type 0} (x y : X) → Some x ≡ Some y → x ≡ y
 some_is x y e = ap (λ (o : Option _). unwrap_or o x) e

@@ -14,7 +14,7 @@ use Rattle.pool_model.specs.Tickets.{Ascend, tickets_of}
 use Rattle.task_queue.specs.declared.rule.Queued.{Queued}
 use Rattle.task_queue.specs.Looks.{pop_seen}
 use Rattle.task_queue.specs.Seen.{TakerSeen}
-use Rattle.prio_pool.specs.declared.placed.Placed.{Placed}
+use Rattle.pool_runs.specs.declared.placed.Placed.{Placed}
 use Rattle.prio_pool.specs.Adders.{entry_of}
 use Rattle.prio_pool.specs.Takers.{TakersSeen, HasTaken, TookAt}
 use Rattle.prio_pool.proofs.Recording.{taken_same, taken_more, get_map}

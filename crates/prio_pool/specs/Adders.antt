@@ -10,7 +10,7 @@ use Rattle.pool_model.specs.Passes.{adds_of, pushed_by}
 use Rattle.pool_model.specs.Seen.{PassSeen, at_queue}
 use Rattle.pool_model.specs.Tasks.{Add, numbered}
 use Rattle.prio_pool.specs.declared.adders.Adders.TheInside.{Inside}
-use Rattle.prio_pool.specs.declared.placed.Placed.{Placed}
+use Rattle.pool_runs.specs.declared.placed.Placed.{Placed}
 use Rattle.task_queue.specs.declared.rule.Queued.{Queued}
 use Rattle.task_queue.specs.Seen.{AdderSeen}
 

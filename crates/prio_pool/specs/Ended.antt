@@ -7,9 +7,9 @@ use Rattle.pool_model.specs.declared.task.Ending.{Ending}
 use Rattle.pool_model.specs.Endings.{RanWhatItTook}
 use Rattle.pool_model.specs.Passes.{HasNoGap}
 use Rattle.pool_model.specs.Seen.{PassSeen, EndSeen, Returned}
-use Rattle.prio_pool.specs.declared.placed.Placed.{Placed}
+use Rattle.pool_runs.specs.declared.placed.Placed.{Placed}
 use Rattle.prio_pool.specs.Gathering.{FoundAs, AllSettled, gathered_from}
-use Rattle.prio_pool.specs.Returning.{back_from}
+use Rattle.pool_runs.specs.Returning.{back_from}
 use Rattle.task_queue.specs.declared.rule.Queued.{Queued}
 
 -- what is known of all passes and ends, and what was left in each queue

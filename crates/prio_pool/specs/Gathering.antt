@@ -6,7 +6,7 @@ use Rattle.crossbeam_queue.specs.SegTies.{SegId}
 use Rattle.pool_model.specs.declared.task.Ending.{Ending}
 use Rattle.job_trait.specs.declared.job.Head.{Head}
 use Rattle.pool_model.specs.Seen.{PassSeen, EndSeen, at_queue}
-use Rattle.prio_pool.specs.declared.placed.Placed.{Placed}
+use Rattle.pool_runs.specs.declared.placed.Placed.{Placed}
 use Rattle.prio_pool.specs.Adders.{entry_of}
 use Rattle.task_queue.specs.declared.rule.Queued.{Queued}
 use Rattle.task_queue.specs.Settled.{Settled}

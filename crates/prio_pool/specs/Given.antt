@@ -2,7 +2,7 @@
 use Rattle.std.specs.Prelude.{◌≡◌}
 use Rattle.fan_base.specs.declared.refusal.Refused.{Refused}
 use Rattle.fan_base.specs.declared.refusal.Refused.TheVariants.{Memory}
-use Rattle.prio_pool.specs.declared.placed.Placed.{Placed}
+use Rattle.pool_runs.specs.declared.placed.Placed.{Placed}
 use Rattle.task_queue.specs.declared.rule.Queued.{Queued}
 
 -- the job of the task is refused

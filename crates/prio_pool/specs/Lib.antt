@@ -1,6 +1,5 @@
 pub mod Priority
 pub mod Sleeping
-pub mod Recorded
 pub mod Running
 pub mod Adders
 pub mod Takers
@@ -11,5 +10,4 @@ pub mod Ends
 pub mod Begun
 pub mod Made
 pub mod Gathering
-pub mod Returning
 pub mod Ended

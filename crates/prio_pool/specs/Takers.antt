@@ -12,7 +12,7 @@ use Rattle.pool_model.specs.Seen.{PoolId, at_queue}
 use Rattle.pool_model.specs.Steps.{Step, LookSeen, of_queue, of_mark, looked, found_empty, took, steps_in, tasks_taken, empty_from_the_top}
 use Rattle.pool_model.specs.Tasks.{in_queue, upwards}
 use Rattle.pool_model.specs.Tickets.{Ascend, tickets_of}
-use Rattle.prio_pool.specs.declared.placed.Placed.{Placed}
+use Rattle.pool_runs.specs.declared.placed.Placed.{Placed}
 use Rattle.prio_pool.specs.declared.takers.Takers.TheInside.{Inside}
 use Rattle.prio_pool.specs.Adders.{entry_of}
 use Rattle.task_queue.specs.declared.rule.Queued.{Queued}

@@ -7,11 +7,11 @@ ghost use Rattle.prio_pool.specs.Adders.{MayPush, PushedAt, add_on, and_pushed, 
 
 use crate::gather::{gather_adders, put_adders};
 use crate::make::Queues;
-use crate::placed::Placed;
 use crate::sleepers::Call;
 use fan_base::Refused;
 use job_trait::Headed;
 use pool_model::Ticket;
+use pool_runs::Placed;
 use std::marker::Model;
 use std::snapshot::Snapshot;
 use std::sync::Wait;

@@ -4,20 +4,18 @@ ghost use Rattle.pool_model.specs.Accounts.{AllRun, AllRunOrReturned};
 ghost use Rattle.pool_model.specs.Endings.{Joined, Stopped, records_of};
 ghost use Rattle.pool_model.specs.Passes.{AreAllPasses, AreAllEnds, adds_total};
 ghost use Rattle.prio_pool.specs.Ended.{CameTo, CameBack};
-ghost use Rattle.prio_pool.specs.Returning.{back_from};
-ghost use Rattle.prio_pool.specs.Running.{Drained};
+ghost use Rattle.pool_runs.specs.Returning.{back_from};
+ghost use Rattle.pool_runs.specs.Running.{Drained};
 
 use crate::adders::Adders;
 use crate::begin::{Joining, Stopping};
 use crate::passes::{HelperEnd, WorkerEnd};
 use crate::pool::Pool;
-use crate::record::{RunRecord, append};
-use crate::returned::{Returned, Runs};
-use crate::run::run_task;
-use crate::settle::{Rest, settle_all};
+use crate::runs::Runs;
+use crate::settle::settle_all;
 use crate::together::{put_helpers, put_passes, put_workers};
 use job_trait::{Headed, Job};
-use std::alloc::Global;
+use pool_runs::{Rest, Returned, RunRecord, append, drain, hand_back};
 use std::collections::LinkedList;
 use std::sync::Wait;
 use task_queue::Watch;
@@ -62,9 +60,10 @@ impl<J: Headed> Pool<J> {
             adders,
             workers,
             helpers,
-            sleepers: _,
+            sleepers,
             keep: _,
         } = self;
+        sleepers.end();
         let whole = adders + workers + helpers;
         let Some(first) = passes.pop_front() else {
             unreachable!()
@@ -194,35 +193,4 @@ impl<J: Headed> Pool<J> {
             returned,
         }
     }
-}
-
-// What is handed back of what was left in the queues, where so many tasks were added and so many have a record.
-fn hand_back<J>(rests: Vec<Rest<J>>, accepted: u64, records: usize) -> Returned<J>
-    requires count { records + length (back_from 0 rests.items) ≡ accepted }
-    requires few { length rests.items ≤ 256 }
-    ensures { result ≡ back_from 0 rests.items }
-{
-    Returned::new(rests, (accepted - records as u64) as usize)
-}
-
-// Runs all tasks that are left, in order, and gives their records.
-#[tactic(auto, using(crate::proofs::Draining::drained_all))]
-fn drain<J: Job<W>, W, R: Wait>(
-    rt: &R,
-    alloc: Global,
-    returned: &mut Returned<J>,
-    world: &mut W,
-) -> LinkedList<RunRecord>
-    requires few { length returned.old ≤ 281474976710656 }
-    ensures drained { Drained J.head J.runs returned.old result world.old world.new }
-    ensures as_many { length result ≡ length returned.old }
-    ensures empty { returned.new ≡ [] }
-{
-    let mut records = LinkedList::new(alloc);
-    while let Some(next) = returned.take() {
-        let (queue, task) = next;
-        let made = run_task(rt, queue, task, world);
-        append(&mut records, made);
-    }
-    records
 }

@@ -4,8 +4,8 @@ ghost use Rattle.prio_pool.specs.Gathering.{and_adders, and_takers, only_adder, 
 ghost use Rattle.task_queue.specs.Seen.{and_adder, and_taker};
 
 use crate::make::Queues;
-use crate::placed::Placed;
 use job_trait::Headed;
+use pool_runs::Placed;
 use task_queue::{Adder, Gathered, Taker, TaskQueue};
 
 /// Begins with the passes of one adder.

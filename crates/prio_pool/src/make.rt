@@ -2,9 +2,9 @@
 ghost use Rattle.std.specs.Prelude.{◌≡◌, ◌<◌, ◌≤◌, length, map, slice_get, slice_set, Some, IfOk, OnOk};
 ghost use Rattle.prio_pool.specs.Made.{maker, makers_of, new_adder, new_adders, new_taker, new_takers, one_adder, one_taker};
 
-use crate::placed::Placed;
 use fan_base::Memory;
 use job_trait::Headed;
+use pool_runs::Placed;
 use std::alloc::Global;
 use task_queue::{Adder, Maker, Taker, TaskQueue};
 

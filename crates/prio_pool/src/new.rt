@@ -38,15 +38,15 @@ pub struct Size {
     pub helpers: u32,
 }
 
-// The room for all passes.
-struct Rooms<J> {
-    adders: Vec<PoolPass<J>>,
-    workers: Vec<WorkerPass<J>>,
-    helpers: Vec<HelperPass<J>>,
+// The room for all passes. Its types are parameters, so that what it does is proved without what passes are.
+struct Rooms<A, B, C> {
+    adders: Vec<A>,
+    workers: Vec<B>,
+    helpers: Vec<C>,
 }
 
-impl<J> Rooms<J> {
-    fn new(alloc: Global, adders: u32, workers: u32, helpers: u32) -> Result<Rooms<J>, Memory>
+impl<A, B, C> Rooms<A, B, C> {
+    fn new(alloc: Global, adders: u32, workers: u32, helpers: u32) -> Result<Rooms<A, B, C>, Memory>
         ensures empty { IfOk result (λ r. (r.adders.items ≡ []) × (r.workers.items ≡ []) × (r.helpers.items ≡ [])) }
         ensures room { IfOk result (λ r. (vec_capacity r.adders ≡ adders) × (vec_capacity r.workers ≡ workers) × (vec_capacity r.helpers ≡ helpers)) }
     {
@@ -146,7 +146,7 @@ fn assemble<J: Headed>(
     inner: Inner<J>,
     keeping: (KeepOwner, KeepAlive),
     parking: (LinkedList<OwnParker>, Vec<OwnWaker>),
-    rooms: Rooms<J>,
+    rooms: Rooms<PoolPass<J>, WorkerPass<J>, HelperPass<J>>,
 ) -> PoolParts<J>
     requires size { IsSize size }
     requires queues { length inner.queues.items ≡ size.priorities }

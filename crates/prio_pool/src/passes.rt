@@ -5,13 +5,12 @@ ghost use Rattle.pool_model.specs.Passes.{adds_of};
 ghost use Rattle.prio_pool.specs.Adders.{add_on, and_pushed, entry_of};
 
 use crate::adders::Adders;
-use crate::placed::Placed;
-use crate::record::RunRecord;
 use crate::sleepers::{Call, OwnParker};
 use crate::takers::Takers;
 use fan_base::Refused;
 use job_trait::Headed;
 use pool_model::Ticket;
+use pool_runs::{Placed, RunRecord};
 use std::collections::LinkedList;
 use std::marker::Model;
 use std::sync::Wait;

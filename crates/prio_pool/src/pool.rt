@@ -13,15 +13,14 @@ ghost use Rattle.prio_pool.specs.Given.{GivesJob};
 ghost use Rattle.prio_pool.specs.Priority.{queue_in};
 
 use crate::passes::{HelperPass, PoolPass, WorkerEnd, WorkerPass};
-use crate::placed::Placed;
 use crate::priority::queue_for;
-use crate::record::{Place, RunRecord};
 use crate::sleepers::{Rest, Sleepers};
 use crate::turn::{Turned, turn};
-use fan_base::{ExecId, Gate, Mark, Refused};
+use fan_base::{ExecId, Gate, Refused};
 use job_trait::{Headed, Job};
 use keep_alive::KeepAlive;
 use pool_model::{Ending, Ticket};
+use pool_runs::{Place, Placed};
 use std::alloc::Global;
 use std::collections::LinkedList;
 use std::marker::Model;
@@ -87,8 +86,7 @@ impl<J: Headed> Pool<J> {
         let _ = keep;
         let queue = queue_for(self.queues.len() as u32, priority);
         let ticket = pass.next_ticket();
-        let blank = RunRecord::new(ticket, queue, job.exec(), job.id(), Mark::Memory);
-        let Ok(place) = Place::new(self.alloc, blank) else {
+        let Ok(place) = Place::of(self.alloc, ticket, queue, job.exec(), job.id()) else {
             return Err(Refused::Memory(job));
         };
         let task = Queued {
@@ -141,10 +139,16 @@ impl<J: Headed> Pool<J> {
                 Turned::Ran => {}
                 Turned::Idle(ending) => match ending {
                     None => rest.go_on(rt, &self.sleepers, &parker),
-                    Some(Ending::Joins) => return WorkerEnd { takers, records },
+                    Some(Ending::Joins) => {
+                        rest.leave();
+                        return WorkerEnd { takers, records };
+                    }
                     Some(Ending::Stops) => unreachable!(),
                 },
-                Turned::Stopped => return WorkerEnd { takers, records },
+                Turned::Stopped => {
+                    rest.leave();
+                    return WorkerEnd { takers, records };
+                }
             }
         }
         unreachable!()
@@ -165,16 +169,19 @@ impl<J: Headed> Pool<J> {
         ensures helped { HelpDid J.runs result pass.old world.old pass.new world.new }
         ensures ran_taken { RanWhatItTook pass.new }
     {
-        match turn(
+        let mut rest = Rest::new();
+        let turned = turn(
             rt,
             (&self.queues, self.mark.mark(), &self.sleepers),
             &mut pass.takers,
             &mut pass.records,
             false,
-            &mut Rest::new(),
+            &mut rest,
             world,
             gate,
-        ) {
+        );
+        rest.leave();
+        match turned {
             Turned::Ran => Helped::Ran,
             Turned::Idle(_) => Helped::Empty,
             Turned::Stopped => unreachable!(),

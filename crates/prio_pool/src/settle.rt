@@ -3,13 +3,10 @@ ghost use Rattle.std.specs.Prelude.{◌≡◌, ◌≤◌, [], length, map, vec_c
 ghost use Rattle.prio_pool.specs.Gathering.{AllSettled, IsWhole};
 
 use crate::make::Queues;
-use crate::placed::Placed;
 use job_trait::Headed;
+use pool_runs::{Placed, Rest};
 use std::sync::Wait;
-use task_queue::{Gathered, Packets, Queued};
-
-/// What waits of one queue.
-pub type Rest<J> = Packets<Queued<Placed<J>>>;
+use task_queue::Gathered;
 
 /// Ends each queue, all of whose passes were put together, and gives what is left of each, from the lowest.
 pub fn settle_all<J: Headed, R: Wait>(

@@ -94,8 +94,8 @@ impl Told {
 }
 
 /// A bit for each worker that sleeps or is about to, and what wakes each. A worker sets its bit, looks once more, and sleeps
-/// only where it again finds nothing. So either whoever added a task sees the bit, or that look sees the task.
-#[derive(Drop)]
+/// only where it again finds nothing. So either whoever added a task sees the bit, or that look sees the task. It can't be let go:
+/// [`Sleepers::end`] takes it, where its pool ends.
 pub struct Sleepers {
     asleep: AtomicU64,
     pub wakers: Vec<OwnWaker>,
@@ -110,6 +110,14 @@ impl Sleepers {
             asleep: AtomicU64::new(0),
             wakers,
         }
+    }
+
+    /// Its pool ends: all workers have left.
+    pub fn end(self) {
+        let Sleepers {
+            asleep: _,
+            wakers: _,
+        } = self;
     }
 
     /// Wakes one worker that sleeps, where there is one, for a task.
@@ -156,8 +164,7 @@ fn bit_of(number: u32) -> u64
     1 << number
 }
 
-/// How far a worker is on its way to sleep.
-#[derive(Drop)]
+/// How far a worker is on its way to sleep. It can't be let go: [`Rest::leave`] takes it, where the worker or helper leaves.
 pub struct Rest {
     looks: u32,
     // The bit that it has set, or 0.
@@ -175,6 +182,11 @@ impl Rest {
     /// A worker that is awake.
     pub fn new() -> Rest {
         Rest { looks: 0, noted: 0 }
+    }
+
+    /// It looks no more.
+    pub fn leave(self) {
+        let Rest { looks: _, noted: _ } = self;
     }
 
     /// It found a task. Where it was woken for another meanwhile, it wakes the next for that one.

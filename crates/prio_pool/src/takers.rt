@@ -9,9 +9,9 @@ ghost use Rattle.task_queue.specs.Looks.{pop_seen};
 
 use crate::gather::put_takers;
 use crate::make::Queues;
-use crate::placed::Placed;
 use job_trait::Headed;
 use pool_model::Ending;
+use pool_runs::Placed;
 use std::marker::Model;
 use std::sync::Wait;
 use task_queue::{EndMark, Gathered, Looks, Queued, Taker, TaskQueue, Watch};

@@ -7,9 +7,8 @@ ghost use Rattle.prio_pool.specs.Gathering.{OneEndMore, AreTogether, AddersMore,
 use crate::adders::Adders;
 use crate::make::Queues;
 use crate::passes::{HelperEnd, WorkerEnd};
-use crate::placed::Placed;
-use crate::record::{RunRecord, append};
 use job_trait::Headed;
+use pool_runs::{Placed, RunRecord, append};
 use std::collections::LinkedList;
 use task_queue::{EndMark, Gathered, Watch};
 

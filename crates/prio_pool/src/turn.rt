@@ -3,14 +3,13 @@ ghost use Rattle.std.specs.Prelude.{◌≡◌, ◌≤◌, ◌+◌, length};
 ghost use Rattle.prio_pool.specs.Takers.{HasTaken, RanTaken};
 ghost use Rattle.prio_pool.specs.Turned.{TurnDid};
 
-use crate::placed::Placed;
-use crate::record::{RunRecord, append};
 use crate::run::run_at_gate;
 use crate::sleepers::{Rest, Sleepers};
 use crate::takers::Takers;
 use fan_base::Gate;
 use job_trait::Job;
 use pool_model::Ending;
+use pool_runs::{Placed, RunRecord, append};
 use std::collections::LinkedList;
 use std::sync::Wait;
 use task_queue::{EndMark, TaskQueue};

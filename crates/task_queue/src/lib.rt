@@ -30,8 +30,6 @@ mod queue;
 mod rule;
 mod spares;
 mod steps;
-#[cfg(test)]
-mod tests;
 mod trail;
 mod view;
 

@@ -1,6 +1,6 @@
 // The passes of a queue.
-use crate::packet::Blocks;
 use crate::rule::{Pass, Queued};
+use crate::spares::Bundle;
 use std::marker::Model;
 
 /// The right to make the other passes of a queue. Contracts see its queue, how many passes there are to be in all, how many of
@@ -25,7 +25,7 @@ impl<J> Model for Maker<J> {
 #[derive(Drop)]
 pub struct Adder<J> {
     pub(crate) pass: Pass<J>,
-    pub(crate) spares: Blocks<Queued<J>>,
+    pub(crate) spares: Bundle<Queued<J>>,
 }
 
 impl<J> Model for Adder<J> {
@@ -44,8 +44,7 @@ impl<J> Model for Adder<J> {
 #[derive(Drop)]
 pub struct Taker<J> {
     pub(crate) pass: Pass<J>,
-    pub(crate) spares: Blocks<Queued<J>>,
-    pub(crate) kept: u32,
+    pub(crate) spares: Bundle<Queued<J>>,
 }
 
 impl<J> Model for Taker<J> {

@@ -8,10 +8,10 @@ ghost use Rattle.task_queue.specs.Settled.{Settled, Drained, IsAll, TakeTold};
 ghost use Rattle.pool_model.specs.Tickets.{Ascend, tickets_of};
 
 use crate::looks::{Looks, pop};
-use crate::packet::{Blocks, Packet, Packets};
+use crate::packet::{Packet, Packets};
 use crate::passes::{Adder, Gathered, Maker, Taker};
 use crate::rule::{Line, Pass, Queued};
-use crate::spares::Spares;
+use crate::spares::{Bundle, Spares};
 use crate::steps::{Count, Gather, MakeAdder, MakeTaker, Push, PutAdder, PutTaker};
 use fan_base::{Memory, Refused};
 use job_trait::Headed;
@@ -64,7 +64,7 @@ impl<J: Headed> TaskQueue<J> {
     {
         Adder {
             pass: self.line.another::<MakeAdder>(&mut maker.pass),
-            spares: Blocks::new(),
+            spares: Bundle::new(),
         }
     }
 
@@ -77,8 +77,7 @@ impl<J: Headed> TaskQueue<J> {
     {
         Taker {
             pass: self.line.another::<MakeTaker>(&mut maker.pass),
-            spares: Blocks::new(),
-            kept: 0,
+            spares: Bundle::new(),
         }
     }
 
@@ -124,8 +123,7 @@ impl<J: Headed> TaskQueue<J> {
     {
         let packet = pop(&self.line, rt, &mut taker.pass, place, looks)?;
         let (task, block) = packet.open();
-        self.spares
-            .keep(rt, &mut taker.spares, &mut taker.kept, block);
+        self.spares.keep(rt, &mut taker.spares, block);
         Some(task)
     }
 
@@ -156,11 +154,7 @@ impl<J: Headed> TaskQueue<J> {
         requires queue { (gathered.old.queue ≡ self.now) × (taker.queue ≡ self.now) }
         ensures { gathered.new ≡ and_taker gathered.old taker }
     {
-        let Taker {
-            pass,
-            spares: _,
-            kept: _,
-        } = taker;
+        let Taker { pass, spares: _ } = taker;
         self.line.absorb::<PutTaker>(&mut gathered.pass, pass);
     }
 

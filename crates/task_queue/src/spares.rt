@@ -1,59 +1,83 @@
 // The blocks of tasks that were taken, on their way back to the adders. A taker takes no memory. No clause speaks of it.
-use crate::packet::{Block, Blocks};
+use crate::packet::Block;
 use crossbeam_queue::ArrayQueue;
 use fan_base::Memory;
 use std::alloc::Global;
-use std::mem;
 use std::sync::Wait;
+use std::{array, mem};
 
 /// How many blocks a taker gives back at a time: one step on what all share for so many tasks.
-const STRING: u32 = 64;
+const BUNDLE: usize = 32;
 
-/// How many strings of blocks wait for the adders at most. Those over are freed.
-const STRINGS: usize = 1_024;
+/// How many bundles of blocks wait for the adders at most. Those over are freed.
+const BUNDLES: usize = 256;
 
-/// Strings of blocks that takers gave back.
+/// A few empty blocks. Putting one in or taking one out touches no block's own memory, which another thread used last.
+#[derive(Drop)]
+pub(crate) struct Bundle<X> {
+    blocks: [Option<Block<X>>; BUNDLE],
+    count: usize,
+}
+
+impl<X> Bundle<X> {
+    pub(crate) fn new() -> Bundle<X> {
+        Bundle {
+            blocks: array::from_fn(|_| None),
+            count: 0,
+        }
+    }
+
+    fn pop(&mut self) -> Option<Block<X>> {
+        let last = self.count.checked_sub(1)?;
+        self.count = last;
+        self.blocks.get_mut(last)?.take()
+    }
+
+    // Gives it back where there is no room.
+    fn push(&mut self, block: Block<X>) -> Option<Block<X>> {
+        match self.blocks.get_mut(self.count) {
+            Some(place) => {
+                *place = Some(block);
+                self.count = self.count.saturating_add(1);
+                None
+            }
+            None => Some(block),
+        }
+    }
+}
+
+/// Bundles of blocks that takers gave back.
 pub(crate) struct Spares<X> {
-    strings: ArrayQueue<Blocks<X>>,
+    bundles: ArrayQueue<Bundle<X>>,
     alloc: Global,
 }
 
 impl<X> Spares<X> {
     pub(crate) fn new(alloc: Global) -> Result<Spares<X>, Memory> {
-        let strings = ArrayQueue::new(alloc, STRINGS)?;
-        Ok(Spares { strings, alloc })
+        let bundles = ArrayQueue::new(alloc, BUNDLES)?;
+        Ok(Spares { bundles, alloc })
     }
 
     /// A block for an adder's next task: one of its own, or of those that takers gave back, or a new one.
-    pub(crate) fn next<R: Wait>(&self, rt: &R, own: &mut Blocks<X>) -> Option<Block<X>> {
-        if let Some(block) = own.pop_front() {
+    pub(crate) fn next<R: Wait>(&self, rt: &R, own: &mut Bundle<X>) -> Option<Block<X>> {
+        if let Some(block) = own.pop() {
             return Some(block);
         }
-        if let Some(string) = self.strings.pop(rt) {
-            *own = string;
-            if let Some(block) = own.pop_front() {
+        if let Some(bundle) = self.bundles.pop(rt) {
+            *own = bundle;
+            if let Some(block) = own.pop() {
                 return Some(block);
             }
         }
         Block::new(self.alloc).ok()
     }
 
-    /// A taker keeps the block of the task that it took, and gives back what it keeps once that is a string. `count` is how many
-    /// it keeps.
-    pub(crate) fn keep<R: Wait>(
-        &self,
-        rt: &R,
-        own: &mut Blocks<X>,
-        count: &mut u32,
-        block: Block<X>,
-    ) {
-        own.push_front(block);
-        if *count < STRING - 1 {
-            *count += 1;
-        } else {
-            *count = 0;
-            let string = mem::replace(own, Blocks::new());
-            let _freed = self.strings.push(rt, string);
+    /// A taker keeps the block of the task that it took, and gives back what it keeps once that is a bundle.
+    pub(crate) fn keep<R: Wait>(&self, rt: &R, own: &mut Bundle<X>, block: Block<X>) {
+        if let Some(block) = own.push(block) {
+            let bundle = mem::replace(own, Bundle::new());
+            let _freed = self.bundles.push(rt, bundle);
+            let _none = own.push(block);
         }
     }
 }
@@ -61,7 +85,7 @@ impl<X> Spares<X> {
 impl<X> Drop for Spares<X> {
     fn drop(self) {
         let Spares {
-            strings: _,
+            bundles: _,
             alloc: _,
         } = self;
     }

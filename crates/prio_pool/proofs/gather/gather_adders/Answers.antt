@@ -4,7 +4,7 @@ use Rattle.crossbeam_queue.specs.SegTies.{SegId}
 use Rattle.task_queue.specs.Seen.{AdderSeen, GatheredSeen}
 use Rattle.prio_pool.specs.Gathering.{only_adder}
 use Rattle.prio_pool.proofs.Gathered.{next_only, next_queue}
-use Rattle.prio_pool.proofs.Listing.{one_over}
+use Rattle.pool_runs.proofs.Lists.{one_over}
 use Rattle.prio_pool.proofs.gather.gather_adders.Goals as goal
 
 pub gather-requires : goal.gather-requires
@@ -14,7 +14,7 @@ gather-requires g c =
     let q : SegId Global = c.index.result.now in
     let count : c.len-number.result ≡ length c.loop-adder.gathered.items = omega (arith, c.len-number.ensures) in
     let at = subst (λ n. q ≡ get_or qs n q) count c.index.ensures in
-    record { queue = next_queue qs c.args.adders.items c.loop-adder.adders.items c.pop.new.self.items c.in-Some.adder c.loop-adder.gathered.items q c.requires.queues i.all c.in-Some.ensures.items at }
+    (omega arith, next_queue qs c.args.adders.items c.loop-adder.adders.items c.pop.new.self.items c.in-Some.adder c.loop-adder.gathered.items q c.requires.queues i.all c.in-Some.ensures.items at)
 
 pub loop-adder-preserved : goal.loop-adder-preserved
 loop-adder-preserved g c =

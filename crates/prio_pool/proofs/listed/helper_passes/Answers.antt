@@ -4,7 +4,7 @@ use Rattle.pool_model.specs.Seen.{EndSeen}
 use Rattle.prio_pool.specs.Made.{helper_seen}
 use Rattle.prio_pool.specs.Passes.{TookNothing}
 use Rattle.prio_pool.specs.Takers.{TakersSeen}
-use Rattle.prio_pool.proofs.Listing.{one_over}
+use Rattle.pool_runs.proofs.Lists.{one_over}
 use Rattle.prio_pool.proofs.Lists.{All-tail}
 use Rattle.prio_pool.proofs.listed.helper_passes.Goals as goal
 

@@ -5,7 +5,7 @@ use Rattle.prio_pool.specs.Made.{worker_seen}
 use Rattle.prio_pool.specs.Passes.{TookNothing}
 use Rattle.prio_pool.specs.Sleeping.{parkers_of, bits_of}
 use Rattle.prio_pool.specs.Takers.{TakersSeen}
-use Rattle.prio_pool.proofs.Listing.{one_over}
+use Rattle.pool_runs.proofs.Lists.{one_over}
 use Rattle.prio_pool.proofs.Lists.{All-tail}
 use Rattle.prio_pool.proofs.Sleeping.{same_others}
 use Rattle.prio_pool.proofs.listed.worker_passes.Goals as goal

@@ -5,17 +5,18 @@ use Rattle.std.proofs.lemmas.List.{map-append}
 use Rattle.crossbeam_queue.specs.SegTies.{SegId}
 use Rattle.task_queue.specs.Seen.{MakerSeen}
 use Rattle.prio_pool.specs.Made.{maker, one_adder, new_adder, mixed}
-use Rattle.prio_pool.proofs.Mixing.{mixed_at, mixed_set, mixed_all, take_one, at_index}
+use Rattle.pool_runs.proofs.Lists.{at_index}
+use Rattle.prio_pool.proofs.Mixing.{mixed_at, mixed_set, mixed_all, take_one}
 use Rattle.prio_pool.proofs.make.next_adders.Goals as goal
 
-pub next_adder_at-requires-clause-maker : goal.next_adder_at-requires-clause-maker
-next_adder_at-requires-clause-maker g c =
+pub next_adder_at-requires : goal.next_adder_at-requires
+next_adder_at-requires g c =
     let qs : List (SegId Global) = c.args.queues.now.items in
     let k = c.loop-number.number in
     let q : SegId Global = c.index.result.now in
     let within : k < length qs = omega (arith, c.loop-number-test.true, c.len-number-end.ensures) in
     let at : slice_get qs k ≡ Some q = at_index qs k q within ∙ ap (λ (x : SegId Global). Some x) (sym c.index.ensures) in
-    subst (λ (l : List MakerSeen). slice_get l k ≡ Some (maker c.args.counts q)) (sym c.loop-number.invariant.makers) (mixed_at (maker (one_adder c.args.counts)) (maker c.args.counts) qs k q at)
+    (omega arith, (subst (λ (l : List MakerSeen). slice_get l k ≡ Some (maker c.args.counts q)) (sym c.loop-number.invariant.makers) (mixed_at (maker (one_adder c.args.counts)) (maker c.args.counts) qs k q at), (c.requires.some, c.requires.few)))
 
 pub loop-number-preserved : goal.loop-number-preserved
 loop-number-preserved g c =

@@ -1,6 +1,6 @@
 use Rattle.std.proofs.Common.{◌≡◌, suc, ◌-◌, length, ap, sym, ◌∙◌, take, arith}
-use Rattle.prio_pool.proofs.Handing.{next_is, none_is}
-use Rattle.prio_pool.proofs.returned.take_next.Goals as goal
+use Rattle.pool_runs.proofs.Handing.{next_is, none_is}
+use Rattle.pool_runs.proofs.returned.take_next.Goals as goal
 
 pub returns-in-Some : goal.returns-in-Some
 returns-in-Some g c =

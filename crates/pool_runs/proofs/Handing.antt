@@ -7,9 +7,9 @@ use Rattle.fan_base.specs.declared.number.Mark.{Mark}
 use Rattle.job_trait.specs.declared.job.Head.{Head}
 use Rattle.pool_model.specs.Records.{Record, IsRunOf}
 use Rattle.pool_model.specs.Seen.{Returned}
-use Rattle.prio_pool.specs.declared.placed.Placed.{Placed}
-use Rattle.prio_pool.specs.Returning.{back_of, back_from}
-use Rattle.prio_pool.specs.Running.{RunsBack, task_in}
+use Rattle.pool_runs.specs.declared.placed.Placed.{Placed}
+use Rattle.pool_runs.specs.Returning.{back_of, back_from}
+use Rattle.pool_runs.specs.Running.{RunsBack, task_in}
 use Rattle.task_queue.specs.declared.rule.Queued.{Queued}
 
 module _ {J : Type 0} where

@@ -9,12 +9,12 @@ use Rattle.pool_model.specs.Records.{Record, AreRunsOf, ran_of}
 use Rattle.pool_model.specs.Seen.{Returned, task_of}
 use Rattle.pool_model.specs.Tasks.{Task}
 use Rattle.task_queue.specs.declared.rule.Queued.{Queued}
-use Rattle.prio_pool.specs.declared.placed.Placed.{Placed}
-use Rattle.prio_pool.specs.Returning.{back_of}
-use Rattle.prio_pool.specs.Running.{Drained, DrainedSoFar, RanOnce, task_in}
-use Rattle.prio_pool.proofs.Leading.{leads_more}
-use Rattle.prio_pool.proofs.Listing.{one_over}
-use Rattle.prio_pool.proofs.Recording.{runs-append}
+use Rattle.pool_runs.specs.declared.placed.Placed.{Placed}
+use Rattle.pool_runs.specs.Returning.{back_of}
+use Rattle.pool_runs.specs.Running.{Drained, DrainedSoFar, RanOnce, task_in}
+use Rattle.pool_runs.proofs.Leading.{leads_more}
+use Rattle.pool_runs.proofs.Lists.{one_over}
+use Rattle.pool_runs.proofs.Lists.{runs-append}
 
 module _ {J W : Type 0} (head : J → Head) (runs : JobId → W → Mark → W → Type 0) where
   pub drained_none : (tasks : List (Returned J)) (records : List Record) (w : W) → records ≡ [] → DrainedSoFar head runs tasks tasks records w w

@@ -1,6 +1,6 @@
 use Rattle.std.proofs.Common.{◌≡◌, ◌+◌, length}
-use Rattle.prio_pool.specs.Running.{DrainedSoFar}
-use Rattle.prio_pool.proofs.ending.drain.Given as goal
+use Rattle.pool_runs.specs.Running.{DrainedSoFar}
+use Rattle.pool_runs.proofs.returned.drain.Given as goal
 
 abbrev pub invariant-loop-next : goal.invariant-loop-next
 invariant-loop-next g l = record {

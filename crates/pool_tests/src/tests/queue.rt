@@ -1,13 +1,13 @@
-// A queue and a mark on one thread.
+// One queue and a mark on one thread.
 ghost use Rattle.std.specs.Prelude.{◌≡◌};
 
-use super::*;
 use fan_base::{ExecId, JobId};
 use job_trait::{Head, Headed};
 use keep_alive::KeepOwner;
 use pool_model::{Ending, Ticket};
 use std::sync::Wait;
 use std::test::Fail;
+use task_queue::{EndMark, Looks, Packets, Queued, TaskQueue};
 
 #[derive(Clone, Copy, Debug, PartialEq, Eq, Drop)]
 struct Note(Head);

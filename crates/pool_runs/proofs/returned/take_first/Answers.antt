@@ -1,7 +1,7 @@
 use Rattle.std.proofs.Common.{List, set, Some, refl, ap, sym, ◌∙◌}
-use Rattle.prio_pool.proofs.Mixing.{at_index}
-use Rattle.prio_pool.proofs.Taking.{set_same}
-use Rattle.prio_pool.proofs.returned.take_first.Goals as goal
+use Rattle.pool_runs.proofs.Lists.{at_index}
+use Rattle.pool_runs.proofs.Lists.{set_same}
+use Rattle.pool_runs.proofs.returned.take_first.Goals as goal
 
 pub returns-in_default : goal.returns-in_default
 returns-in_default g c =

@@ -1,64 +1,21 @@
-// What a pool leaves: the records of its runs, and the tasks that are handed back.
-ghost use Rattle.std.specs.Prelude.{◌≡◌, ◌<◌, ◌≤◌, [], ◌∷◌, length, MatchOption};
-ghost use Rattle.prio_pool.specs.Returning.{HasFirst, back_from, back_of, FirstTaken, NextTaken};
-ghost use Rattle.prio_pool.specs.Running.{RunsBack};
+// The tasks that are handed back.
+ghost use Rattle.std.specs.Prelude.{◌≡◌, ◌+◌, ◌<◌, ◌≤◌, [], ◌∷◌, length, MatchOption};
+ghost use Rattle.pool_runs.specs.Returning.{HasFirst, back_from, back_of, FirstTaken, NextTaken};
+ghost use Rattle.pool_runs.specs.Running.{Drained, RunsBack};
 
 use crate::placed::Placed;
-use crate::record::RunRecord;
+use crate::record::{RunRecord, append};
 use crate::run::run_task;
-use crate::settle::Rest;
 use job_trait::Job;
 use pool_model::Ticket;
+use std::alloc::Global;
 use std::collections::LinkedList;
 use std::marker::Model;
 use std::sync::Wait;
-use task_queue::Queued;
+use task_queue::{Packets, Queued};
 
-/// The records of the runs of a pool, and whether it was stopped. Only [`crate::Pool::join`] and [`crate::Pool::stop`] make one.
-#[derive(Drop)]
-pub struct Runs {
-    records: LinkedList<RunRecord>,
-    stopped: bool,
-}
-
-impl Model for Runs {
-    ghost use Rattle.pool_model.specs.Seen.{RunsSeen};
-
-    ghost Value = { RunsSeen };
-
-    ghost view = { λ r. record { records = r.records; stopped = r.stopped } };
-}
-
-impl Runs {
-    pub(crate) fn new(records: LinkedList<RunRecord>, stopped: bool) -> Runs
-        ensures { result ≡ record { records = records; stopped = stopped } }
-    {
-        Runs { records, stopped }
-    }
-
-    /// How many records are left.
-    pub fn len(&self) -> usize
-        ensures { result ≡ length self.now.records }
-    {
-        self.records.len()
-    }
-
-    /// The next record. None comes exactly where none is left.
-    pub fn pop(&mut self) -> Option<RunRecord>
-        ensures next { MatchOption result (self.old.records ≡ []) (λ r. self.old.records ≡ r ∷ self.new.records) }
-        ensures same { self.new.stopped ≡ self.old.stopped }
-        ensures none { MatchOption result (self.new.records ≡ []) (λ _. self.new.stopped ≡ self.old.stopped) }
-    {
-        self.records.pop_front()
-    }
-
-    /// Whether the pool was stopped.
-    pub fn stopped(&self) -> bool
-        ensures { result ≡ self.now.stopped }
-    {
-        self.stopped
-    }
-}
+/// What waits of one queue.
+pub type Rest<J> = Packets<Queued<Placed<J>>>;
 
 /// The tasks that are handed back, from the highest queue to the lowest, each in order of acceptance. Contracts see of each its
 /// ticket, its queue and its job.
@@ -71,7 +28,7 @@ pub struct Returned<J> {
 impl<J> Model for Returned<J> {
     ghost use Rattle.std.specs.Prelude.{◌≡◌, ◌≤◌, List, length};
     ghost use Rattle.pool_model.specs.Seen.{Returned};
-    ghost use Rattle.prio_pool.specs.Returning.{back_from};
+    ghost use Rattle.pool_runs.specs.Returning.{back_from};
 
     ghost Value = { List (Returned J) };
 
@@ -81,7 +38,7 @@ impl<J> Model for Returned<J> {
 }
 
 impl<J> Returned<J> {
-    pub(crate) fn new(rests: Vec<Rest<J>>, count: usize) -> Returned<J>
+    fn new(rests: Vec<Rest<J>>, count: usize) -> Returned<J>
         requires { (count ≡ length (back_from 0 rests.items)) × (length rests.items ≤ 256) }
         ensures { result ≡ back_from 0 rests.items }
     {
@@ -96,7 +53,7 @@ impl<J> Returned<J> {
     }
 
     // The next task, with its queue.
-    pub(crate) fn take(&mut self) -> Option<(u32, Queued<Placed<J>>)>
+    fn take(&mut self) -> Option<(u32, Queued<Placed<J>>)>
         ensures { MatchOption result ((self.old ≡ []) × (self.new ≡ [])) (λ t. self.old ≡ back_of t.0 t.1 ∷ self.new) }
     {
         let taken = take_next(&mut self.rests)?;
@@ -154,4 +111,35 @@ fn take_first<J>(rests: &mut Vec<Rest<J>>, number: usize) -> Option<Queued<Place
         return None;
     };
     Some(task)
+}
+
+/// What is handed back of what was left in the queues, where so many tasks were added and so many have a record.
+pub fn hand_back<J>(rests: Vec<Rest<J>>, accepted: u64, records: usize) -> Returned<J>
+    requires count { records + length (back_from 0 rests.items) ≡ accepted }
+    requires few { length rests.items ≤ 256 }
+    ensures { result ≡ back_from 0 rests.items }
+{
+    Returned::new(rests, (accepted - records as u64) as usize)
+}
+
+/// Runs all tasks that are left, in order, and gives their records.
+#[tactic(auto, using(crate::proofs::Draining::drained_all))]
+pub fn drain<J: Job<W>, W, R: Wait>(
+    rt: &R,
+    alloc: Global,
+    returned: &mut Returned<J>,
+    world: &mut W,
+) -> LinkedList<RunRecord>
+    requires few { length returned.old ≤ 281474976710656 }
+    ensures drained { Drained J.head J.runs returned.old result world.old world.new }
+    ensures as_many { length result ≡ length returned.old }
+    ensures empty { returned.new ≡ [] }
+{
+    let mut records = LinkedList::new(alloc);
+    while let Some(next) = returned.take() {
+        let (queue, task) = next;
+        let made = run_task(rt, queue, task, world);
+        append(&mut records, made);
+    }
+    records
 }

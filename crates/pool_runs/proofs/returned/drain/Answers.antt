@@ -1,6 +1,6 @@
 use Rattle.std.proofs.Common.{length, length-append, ap, arith}
-use Rattle.prio_pool.proofs.Draining.{drained_more}
-use Rattle.prio_pool.proofs.ending.drain.Goals as goal
+use Rattle.pool_runs.proofs.Draining.{drained_more}
+use Rattle.pool_runs.proofs.returned.drain.Goals as goal
 
 pub loop-next-preserved : goal.loop-next-preserved
 loop-next-preserved g c =

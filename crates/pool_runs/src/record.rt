@@ -22,7 +22,7 @@ pub struct RunRecord {
 
 impl Model for RunRecord {
     ghost use Rattle.pool_model.specs.Records.{Record};
-    ghost use Rattle.prio_pool.specs.Recorded.{mark_in};
+    ghost use Rattle.pool_runs.specs.Recorded.{mark_in};
 
     ghost Value = { Record };
 
@@ -109,8 +109,19 @@ impl Model for Place {
 }
 
 impl Place {
-    /// Takes the memory of a record.
-    pub fn new(alloc: Global, blank: RunRecord) -> Result<Place, Memory>
+    /// Takes the memory of the record of such a task.
+    pub fn of(
+        alloc: Global,
+        ticket: Ticket,
+        queue: u32,
+        exec: ExecId,
+        job: JobId,
+    ) -> Result<Place, Memory> {
+        let blank = RunRecord::new(ticket, queue, exec, job, Mark::Memory);
+        Place::new(alloc, blank)
+    }
+
+    fn new(alloc: Global, blank: RunRecord) -> Result<Place, Memory>
         ensures { IfOk result (λ p. p ≡ blank ∷ []) }
     {
         let mut list = LinkedList::new(alloc);
@@ -119,7 +130,7 @@ impl Place {
     }
 
     /// The record in its place.
-    pub fn fill(self, made: RunRecord) -> LinkedList<RunRecord>
+    pub(crate) fn fill(self, made: RunRecord) -> LinkedList<RunRecord>
         ensures { result ≡ made ∷ [] }
     {
         let Place { mut list } = self;

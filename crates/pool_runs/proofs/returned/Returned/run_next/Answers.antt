@@ -1,5 +1,5 @@
-use Rattle.prio_pool.proofs.Handing.{run_back}
-use Rattle.prio_pool.proofs.returned.Returned.run_next.Goals as goal
+use Rattle.pool_runs.proofs.Handing.{run_back}
+use Rattle.pool_runs.proofs.returned.Returned.run_next.Goals as goal
 
 pub returns : goal.returns
 returns g c =

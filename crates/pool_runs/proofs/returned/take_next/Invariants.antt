@@ -1,6 +1,6 @@
 use Rattle.std.proofs.Common.{◌≡◌, ◌≤◌, length}
-use Rattle.prio_pool.specs.Returning.{back_from}
-use Rattle.prio_pool.proofs.returned.take_next.Given as goal
+use Rattle.pool_runs.specs.Returning.{back_from}
+use Rattle.pool_runs.proofs.returned.take_next.Given as goal
 
 abbrev pub invariant-loop-rests : goal.invariant-loop-rests
 invariant-loop-rests g l = record {

@@ -1,0 +1,5 @@
+pub mod Lists
+pub mod Leading
+pub mod Handing
+pub mod Draining
+pub mod Crossings

@@ -1,0 +1,29 @@
+// A run of a task, with the record that it makes.
+ghost use Rattle.pool_runs.specs.Running.{RanOnce, task_in};
+
+use crate::placed::Placed;
+use crate::record::RunRecord;
+use job_trait::Job;
+use std::collections::LinkedList;
+use std::sync::Wait;
+use task_queue::Queued;
+
+/// Runs the task, which stood in this queue, and makes its record. It takes no memory of its own.
+pub fn run_task<J: Job<W>, W, R: Wait>(
+    rt: &R,
+    queue: u32,
+    task: Queued<Placed<J>>,
+    world: &mut W,
+) -> LinkedList<RunRecord>
+    ensures { RanOnce J.runs (task_in J.head queue task) world.old world.new result }
+{
+    let Queued {
+        ticket,
+        job: placed,
+    } = task;
+    let Placed { job, place } = placed;
+    let id = job.id();
+    let exec = job.exec();
+    let mark = job.run(rt, world);
+    place.fill(RunRecord::new(ticket, queue, exec, id, mark))
+}
