@@ -1,4 +1,3 @@
-pub mod Outcomes
 pub mod Sides
 pub mod Totals
 pub mod Starts

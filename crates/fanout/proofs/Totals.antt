@@ -16,8 +16,8 @@ use Rattle.run_notes.specs.declared.notes.PoolNote.{PoolNote}
 use Rattle.run_notes.specs.Counting.{HasCounted, totals_of}
 use Rattle.run_notes.specs.Told.{note_of, told_of}
 use Rattle.run_printing.specs.Ends.{IsWhole}
-use Rattle.fanout.specs.declared.run.FanEnd.{FanEnd}
-use Rattle.fanout.specs.Ends.{IsReported}
+use Rattle.run_ending.specs.declared.end.FanEnd.{FanEnd}
+use Rattle.run_ending.specs.Ends.{IsReported}
 
 pub on_true : (b : Bool) (P : Type 0) → P → OnTrue b P
 on_true true P p = p

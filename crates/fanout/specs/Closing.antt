@@ -1,5 +1,5 @@
 -- A run whose threads have ended, before it is closed.
-use Rattle.std.specs.Prelude.{List, Bool, true, false}
+use Rattle.std.specs.Prelude.{List}
 use Rattle.fan_model.specs.Report.{Asking}
 use Rattle.fan_parts.specs.declared.jobs.PrintJob.{PrintJob}
 use Rattle.fan_parts.specs.declared.run_name.RunName.{Ghosts}
@@ -8,10 +8,6 @@ use Rattle.run_setup.specs.Closing.{IsAllOf}
 use Rattle.run_setup.specs.Ids.{RunIds}
 use Rattle.run_setup.specs.declared.closing.Back.{Back}
 use Rattle.run_threads.specs.declared.gatherer.GatherSlot.{GatherSlot}
-use Rattle.run_printing.specs.declared.stage.PrintOutcome.{PrintOutcome}
-use Rattle.run_printing.specs.declared.stage.PrintOutcome.TheVariants as print
-use Rattle.fanout.specs.declared.run.FanOutcome.{FanOutcome}
-use Rattle.fanout.specs.declared.run.FanOutcome.TheVariants as outcome
 use Rattle.fanout.specs.declared.front.SideEnd.{SideEnd}
 use Rattle.fanout.specs.Fronts.{IsSideEnd}
 
@@ -20,10 +16,3 @@ module _ {N : Type 0} {g : Ghosts N} where
   pub record IsReadyToClose (asked : Asking) (ids : RunIds) (back : Back N) (gatherers : List (GatherSlot N g)) (printed : PrintStage (PrintJob N)) (end : SideEnd N) : Type 0 where
     pub side : IsSideEnd asked ids end
     pub all : IsAllOf asked ids back gatherers printed end.worlds.items end.left.ends.tasks end.left.ends.printer
-
--- how the run ended: as printing did, where nobody notes want of memory and all numbers agree; else with want of memory
-abbrev pub outcome_by : Bool → PrintOutcome → FanOutcome
-outcome_by false o = outcome.Memory
-outcome_by true print.Done = outcome.Done
-outcome_by true print.Memory = outcome.Memory
-outcome_by true print.WriteFault = outcome.WriteFault

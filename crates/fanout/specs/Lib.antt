@@ -1,4 +1,4 @@
-pub mod Ends
+pub mod Asked
 pub mod Plans
 pub mod Homes
 pub mod First

@@ -11,7 +11,7 @@ use Rattle.run_plan.specs.declared.turn.Turn.{Turn}
 use Rattle.run_phases.specs.Phases.{StopsAt}
 use Rattle.run_plan.specs.Turns.{AreTurnsOf}
 use Rattle.fanout.specs.declared.run.Knobs.{Knobs}
-use Rattle.fanout.specs.Ends.{AreKnobs}
+use Rattle.fanout.specs.Asked.{AreKnobs}
 
 -- the numbers fit where they are compared
 pub record AreFew (counted : Counted) : Type 0 where

@@ -1,27 +1,27 @@
-ghost use Rattle.std.specs.Prelude.{◌≡◌, ◌++◌, ◌∷◌, [], true, false};
+ghost use Rattle.std.specs.Prelude.{◌≡◌};
 ghost use Rattle.std.specs.Bool.{OnTrue};
 ghost use Rattle.fan_base.specs.Outside.{Shown};
 ghost use Rattle.fan_model.specs.Totals.{core_totals};
 ghost use Rattle.run_notes.specs.Counting.{ArePutBy, totals_of};
 ghost use Rattle.run_printing.specs.Ends.{HasPrinted};
 ghost use Rattle.run_setup.specs.Ids.{RunIds};
-ghost use Rattle.fanout.specs.Closing.{IsReadyToClose, outcome_by};
-ghost use Rattle.fanout.specs.Ends.{IsEndOf};
+ghost use Rattle.run_ending.specs.Ends.{IsEndOf};
+ghost use Rattle.fanout.specs.Closing.{IsReadyToClose};
 ghost use Rattle.fanout.specs.Plans.{IsPlanned};
 
 use crate::front::SideEnd;
 use crate::plan::RunPlan;
-use crate::run::{FanEnd, FanOutcome};
 use core_cells::CellPass;
 use core_word::Tally;
 use event_base::QueueNote;
 use fan_model::laws::each_query_has_a_reply;
 use fan_parts::{PrintJob, RunName};
+use run_ending::{FanEnd, is_fine, list_notes};
 use run_front::FrontEnds;
-use run_notes::{Notes, cores_agree, notes_are_those_of_the_run, puts_agree};
+use run_notes::{cores_agree, notes_are_those_of_the_run, puts_agree};
 use run_phases::FrontLeft;
 use run_plan::laws::turns_are_few;
-use run_printing::{PrintEnd, PrintOutcome, PrintStage};
+use run_printing::{PrintEnd, PrintStage};
 use run_setup::{Back, Closed, close_run, nothing_was_refused};
 use run_threads::GatherSlot;
 use std::alloc::Global;
@@ -75,12 +75,7 @@ pub(crate) fn put_together<'t, 'd, 'r: 'd, 'i: 'r, 'l, 'g, N: RunName, G, R: Wai
     let agrees = agree(plan, &tally, notes.as_slice());
     let (queues, listed) = list_notes(alloc, notes, queue);
     let fine = is_fine(agrees, listed, refused, missed);
-    FanEnd {
-        outcome: outcome_if(fine, outcome),
-        pool: Some(note),
-        queues,
-        tally,
-    }
+    FanEnd::of_run(fine, outcome, note, queues, tally)
 }
 
 /// Lets passes of cells go.
@@ -101,48 +96,4 @@ fn agree<'l, 'g, N: RunName, G>(
 {
     let shards = plan.shards.all().len() as u32;
     cores_agree(plan.counted, shards, tally) && puts_agree(plan.counted, shards, notes)
-}
-
-/// Whether all numbers agree, all notes are listed, and nobody notes want of memory.
-fn is_fine(agrees: bool, listed: bool, refused: bool, missed: bool) -> bool
-    ensures { OnTrue result ((agrees ≡ true) × (listed ≡ true) × (refused ≡ false) × (missed ≡ false)) }
-{
-    agrees && listed && !refused && !missed
-}
-
-/// How the run ended: as printing did, where all is fine; else with want of memory.
-fn outcome_if(fine: bool, outcome: PrintOutcome) -> FanOutcome
-    ensures { result ≡ outcome_by fine outcome }
-{
-    if !fine {
-        return FanOutcome::Memory;
-    }
-    match outcome {
-        PrintOutcome::Done => FanOutcome::Done,
-        PrintOutcome::Memory => FanOutcome::Memory,
-        PrintOutcome::WriteFault => FanOutcome::WriteFault,
-    }
-}
-
-/// These notes, and the printer's behind them, and whether there was memory for all.
-fn list_notes(alloc: Global, gatherers: Vec<QueueNote>, printer: QueueNote) -> (Notes, bool)
-    ensures { OnTrue result.1 (result.0 ≡ gatherers.items ++ printer ∷ []) }
-{
-    let mut notes = Notes::new(alloc);
-    let mut listed = true;
-    for note in gatherers {
-        put_note(&mut notes, note, &mut listed);
-    }
-    put_note(&mut notes, printer, &mut listed);
-    (notes, listed)
-}
-
-/// Puts a note behind the others, or tells that there was no memory for it.
-fn put_note(notes: &mut Notes, note: QueueNote, listed: &mut bool)
-    ensures { OnTrue listed.new ((listed.old ≡ true) × (notes.new ≡ notes.old ++ note ∷ [])) }
-{
-    match notes.push(note) {
-        Ok(()) => {}
-        Err(_) => *listed = false,
-    }
 }

@@ -7,14 +7,15 @@ ghost use Rattle.query_model.specs.Alike.{AreAlike};
 ghost use Rattle.query_model.specs.Documents.{IsWithinLimits, docs_of};
 ghost use Rattle.fan_model.specs.Answered.{answered_in, tops_in};
 ghost use Rattle.query_parts.specs.Parts.{AreShards};
-ghost use Rattle.fanout.specs.Ends.{AreKnobs, IsAskedBy, IsEndOf};
+ghost use Rattle.run_ending.specs.Ends.{IsEndOf};
+ghost use Rattle.fanout.specs.Asked.{AreKnobs, IsAskedBy};
 ghost use Rattle.run_desks.specs.Tables.{AreTablesOf};
 ghost use Rattle.fanout.specs.Homes.{AreEnough};
 ghost use Rattle.fanout.specs.Plans.{IsPlanned};
 
 use crate::inside::run_over_cells;
 use crate::plan::{RunPlan, counts_of_run, turns_of_run};
-use crate::run::{FanEnd, Knobs};
+use crate::run::Knobs;
 use core_cells::Cells;
 use core_word::Tally;
 use fan_base::{ExecId, Gate, Memory, Sink};
@@ -22,6 +23,7 @@ use fan_model::laws::comings_in_order;
 use fan_parts::{InnerKey, PartDesk, ReplyHome, ReplyKey, RunName, RunShards, TaskHome};
 use query_model::Lines;
 use run_desks::{DeskKeys, EmptySlots, OpenDesks, let_go_keys, open_desks};
+use run_ending::FanEnd;
 use run_homes::{
     close_desks, close_reply_homes, close_task_homes, empty_slots, keys_of, new_homes,
 };

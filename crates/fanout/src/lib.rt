@@ -21,4 +21,5 @@ mod run;
 
 pub use fan_parts::RunName;
 pub use levels::fan_run_named;
-pub use run::{FanEnd, FanOutcome, Knobs, fan_run};
+pub use run::{Knobs, fan_run};
+pub use run_ending::{FanEnd, FanOutcome};

@@ -1,15 +1,14 @@
 ghost use Rattle.std.specs.Prelude.{◌≡◌, ◌≤◌, None, length};
-ghost use Rattle.fan_base.specs.Outside.{Shown, shown};
-ghost use Rattle.fan_model.specs.Report.{Asking};
+ghost use Rattle.fan_base.specs.Outside.{shown};
 ghost use Rattle.query_model.specs.Documents.{IsWithinLimits, docs_of};
 ghost use Rattle.query_parts.specs.Parts.{AreShards};
-ghost use Rattle.fanout.specs.Ends.{AreKnobs, IsEndOf, Reports, TellsNoRun, Writes, asking_of};
+ghost use Rattle.run_ending.specs.Ends.{Reports, TellsNoRun};
+ghost use Rattle.fanout.specs.Asked.{AreKnobs, Writes, asking_of};
 
 use crate::levels::fan_run_named;
-use core_word::Tally;
 use fan_base::{Gate, Sink};
 use query_model::Input;
-use run_notes::{Notes, PoolNote};
+use run_ending::FanEnd;
 use shard_index::Shard;
 use std::alloc::Global;
 use std::marker::Brand;
@@ -22,26 +21,6 @@ pub struct Knobs {
     pub workers: u32,
     pub bases: u32,
     pub stop_at: Option<u64>,
-}
-
-/// How a run ended.
-#[derive(Clone, Copy, Debug, PartialEq, Eq)]
-pub enum FanOutcome {
-    /// All replies were written.
-    Done,
-    /// Memory ran out.
-    Memory,
-    /// A write failed. All work was done all the same.
-    WriteFault,
-}
-
-/// How a run ended, and what it tells of its pool, queues and cores.
-#[derive(Drop)]
-pub struct FanEnd {
-    pub outcome: FanOutcome,
-    pub pool: Option<PoolNote>,
-    pub queues: Notes,
-    pub tally: Tally,
 }
 
 /// Answers all queries of an input over these shards, which stand for its documents.
@@ -63,18 +42,4 @@ pub fn fan_run<K: Sink + Send, G: Gate, R: Threads + Wait + Sync>(
     ensures unmade { result.pool ≡ None → TellsNoRun result }
 {
     fan_run_named::<Brand, K, G, R>(rt, alloc, &input.lines, shards, knobs, sink, gate)
-}
-
-impl FanEnd {
-    /// The end of a run that found no memory before it had a pool. It has written nothing.
-    pub(crate) fn refused(alloc: Global) -> FanEnd
-        ensures { (asked : Asking) (start : Shown) → IsEndOf asked start start result }
-    {
-        FanEnd {
-            outcome: FanOutcome::Memory,
-            pool: None,
-            queues: Notes::new(alloc),
-            tally: Tally::new(),
-        }
-    }
 }

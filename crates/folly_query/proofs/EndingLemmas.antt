@@ -15,10 +15,11 @@ use Rattle.query_words.specs.declared.command.Settings.{Settings}
 use Rattle.fan_model.specs.Report.{Asking, IsReport}
 use Rattle.run_notes.specs.Counting.{totals_of}
 use Rattle.run_notes.specs.Told.{note_of, told_of}
-use Rattle.fanout.specs.declared.run.FanEnd.{FanEnd}
-use Rattle.fanout.specs.declared.run.FanOutcome.{FanOutcome}
-use Rattle.fanout.specs.declared.run.FanOutcome.TheVariants as outcome
-use Rattle.fanout.specs.Ends.{IsReported, Reports, ReportsAs, Writes}
+use Rattle.run_ending.specs.declared.end.FanEnd.{FanEnd}
+use Rattle.run_ending.specs.declared.end.FanOutcome.{FanOutcome}
+use Rattle.run_ending.specs.declared.end.FanOutcome.TheVariants as outcome
+use Rattle.run_ending.specs.Ends.{IsReported, Reports, ReportsAs}
+use Rattle.fanout.specs.Asked.{Writes}
 use Rattle.folly_query.specs.declared.report.Report.{Report}
 use Rattle.folly_query.specs.declared.report.Status.{Status}
 use Rattle.folly_query.specs.declared.report.Status.TheVariants as status

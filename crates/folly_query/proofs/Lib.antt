@@ -1,4 +1,3 @@
 pub mod CommandLemmas
 pub mod EndingLemmas
 pub mod LineLemmas
-pub mod UnbegunLemmas

@@ -7,8 +7,8 @@ use Rattle.fan_model.specs.Totals.{no_cores}
 use Rattle.run_notes.specs.declared.notes.PoolNote.{PoolNote}
 use Rattle.run_notes.specs.Counting.{totals_of}
 use Rattle.run_notes.specs.Told.{note_of, told_of}
-use Rattle.fanout.specs.declared.run.FanOutcome.{FanOutcome}
-use Rattle.fanout.specs.declared.run.FanOutcome.TheVariants as outcome
+use Rattle.run_ending.specs.declared.end.FanOutcome.{FanOutcome}
+use Rattle.run_ending.specs.declared.end.FanOutcome.TheVariants as outcome
 use Rattle.fanout.specs.declared.run.Knobs.{Knobs}
 use Rattle.folly_query.specs.declared.report.Report.{Report}
 use Rattle.folly_query.specs.declared.report.Status.{Status}

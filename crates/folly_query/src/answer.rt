@@ -4,18 +4,17 @@ ghost use Rattle.query_model.specs.Alike.{without_words};
 ghost use Rattle.query_model.specs.Documents.{IsWithinLimits, docs_of};
 ghost use Rattle.query_parts.specs.Parts.{AreShards};
 ghost use Rattle.query_words.specs.Laws.{AreSettingsInRange};
-ghost use Rattle.fanout.specs.Ends.{IsEndOf, Reports, TellsNoRun, Writes};
-ghost use Rattle.folly_query.specs.Reports.{asked_by};
+ghost use Rattle.run_ending.specs.Ends.{IsEndOf, Reports, TellsNoRun};
+ghost use Rattle.fanout.specs.Asked.{Writes};
+ghost use Rattle.folly_query.specs.Reports.{asked_by, knobs_of};
 
-use core_word::Tally;
 use fan_base::{Gate, Memory, Sink};
-use fanout::{FanEnd, FanOutcome, Knobs, RunName, fan_run_named};
+use fanout::{FanEnd, Knobs, RunName, fan_run_named};
 use line_table::LineTable;
 use query_model::Lines;
 use query_model::laws::{alike_lines, alike_lines_are_within_limits};
 use query_parts::build_shards_beside;
 use query_words::Settings;
-use run_notes::Notes;
 use shard_index::Shard;
 use std::alloc::Global;
 use std::marker::Brand;
@@ -56,26 +55,20 @@ fn answer_named<
     alike_lines_are_within_limits();
     let (lines, shards) = match with_shards(rt, alloc, table, settings.shards) {
         Ok(parts) => parts,
-        Err(Memory) => return no_memory(alloc),
+        Err(Memory) => return FanEnd::refused(alloc),
     };
-    let knobs = Knobs {
-        workers: settings.workers,
-        bases: settings.bases,
-        stop_at: settings.stop_at,
-    };
+    let knobs = knobs_of(settings);
     fan_run_named::<N, K, G, R>(rt, alloc, &lines, shards.as_slice(), knobs, sink, gate)
 }
 
-/// The end of a run that hasn't begun.
-fn no_memory(alloc: Global) -> FanEnd
-    ensures memory { result.outcome ≡ FanOutcome.Memory }
-    ensures nothing { TellsNoRun result }
+/// What these settings ask of a run.
+fn knobs_of(settings: Settings) -> Knobs
+    ensures { result ≡ knobs_of settings }
 {
-    FanEnd {
-        outcome: FanOutcome::Memory,
-        pool: None,
-        queues: Notes::new(alloc),
-        tally: Tally::new(),
+    Knobs {
+        workers: settings.workers,
+        bases: settings.bases,
+        stop_at: settings.stop_at,
     }
 }
 

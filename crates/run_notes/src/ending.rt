@@ -22,7 +22,7 @@ pub struct PoolNotes {
     pub ran: Runs,
     /// What was handed back, and then run.
     pub returned: RunRecords,
-    /// Whether a record found no memory. All tasks ran all the same.
+    /// Whether a record found no memory. The tasks ran all the same, which no clause says.
     pub missed: bool,
 }
 

@@ -69,7 +69,7 @@ fn note(turns: &mut Vec<Turn>, turn: Turn) -> Result<(), Memory>
     }
 }
 
-/// The turns of all queries, place by place. The lines are gone through once, with a timer base of this executor.
+/// The turns of all queries, place by place. The lines are gone through once, with a timer base of this executor (of which no clause speaks).
 pub fn plan<R: Wait>(
     rt: &R,
     alloc: Global,

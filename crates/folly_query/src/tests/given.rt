@@ -2,7 +2,7 @@
 ghost use Rattle.std.specs.Prelude.{◌≡◌, ◌≤◌, IfOk, length};
 ghost use Rattle.query_model.specs.Documents.{IsWithinLimits, docs_of};
 ghost use Rattle.query_parts.specs.Parts.{AreShards};
-ghost use Rattle.fanout.specs.Ends.{AreKnobs};
+ghost use Rattle.fanout.specs.Asked.{AreKnobs};
 
 use fan_base::{MemSink, Memory, OpenGate};
 use fanout::{FanOutcome, Knobs, fan_run};

@@ -1,8 +1,7 @@
-use Rattle.std.proofs.Common.{length, ◌≡◌, refl, sym, ◌∙◌, subst}
+use Rattle.std.proofs.Common.{length, ◌≡◌, ap, sym, ◌∙◌, subst}
 use Rattle.query_model.specs.Order.{replies_of}
-use Rattle.run_notes.specs.Counting.{ArePutBy}
+use Rattle.run_notes.specs.Counting.{ArePutBy, totals_of}
 use Rattle.run_printing.specs.Ends.{IsWhole}
-use Rattle.fanout.proofs.Outcomes.{ended}
 use Rattle.fanout.proofs.Totals.{held_true, printer_note, reported}
 use Rattle.fanout.proofs.ending.put_together.Goals as goal
 
@@ -14,7 +13,7 @@ returns g c = λ start now printed.
     let result = c.close_run-notes.result in
     let many = c.each_query_has_a_reply.ensures.replies asked.lines in
     let queries : length c.args.plan.now.turns.now ≡ length (replies_of asked.lines) = c.turns_are_few.ensures.as_many asked.lines c.args.plan.now.turns.now c.requires.plan.turns_are ∙ sym many in
-    ended start now asked _ c.is_fine-fine.result result.print.outcome c.outcome_if.ensures (closed.wrote start now printed queries)
+    c.of_run.ensures.ends asked start now (closed.wrote start now printed queries)
     (λ fine done.
     let all = held_true _ _ fine c.is_fine-fine.ensures in
     let agree = held_true _ _ all.0 c.agree-agrees.ensures.cores in
@@ -24,8 +23,7 @@ returns g c = λ start now printed.
     let worlds = c.nothing_was_refused.ensures.worlds c.args.gatherers.items c.args.end.worlds.items c.args.end.left.ends.tasks refused in
     let front = c.nothing_was_refused.ensures.front c.args.gatherers.items c.args.end.worlds.items c.args.end.left.ends.tasks refused in
     let whole = subst (λ x. IsWhole asked.lines x result.print.queue result.print.tally) ready.all.printed.exec (closed.whole start now printed queries done) in
-    reported asked _ c.args.end.left.note _ refl (ready.side.report all.2 front worlds) queues
+    reported asked _ c.args.end.left.note _ c.of_run.ensures.pool (ready.side.report all.2 front worlds) (c.of_run.ensures.queues ∙ queues)
     (c.notes_are_those_of_the_run.ensures asked.lines asked.shards asked.bases c.args.plan.now.counted.now result.notes.items result.print.queue c.requires.plan.counts
     (subst (λ l. ArePutBy asked.shards c.args.plan.now.counted.now.by_base.items l) c.as_slice.ensures.value puts) (closed.emptied all.3) (printer_note asked result.print.queue result.print.tally whole many))
-    agree)
-    (λ none. absurd (cc))
+    (ap totals_of c.of_run.ensures.cores ∙ agree))

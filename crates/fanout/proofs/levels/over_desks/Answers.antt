@@ -1,7 +1,7 @@
 use Rattle.std.proofs.Common.{sym, subst}
 use Rattle.fan_base.specs.Outside.{shown}
-use Rattle.fanout.specs.declared.run.FanEnd.{FanEnd}
-use Rattle.fanout.specs.Ends.{IsEndOf}
+use Rattle.run_ending.specs.declared.end.FanEnd.{FanEnd}
+use Rattle.run_ending.specs.Ends.{IsEndOf}
 use Rattle.fanout.proofs.levels.over_desks.Goals.{in-Ok-make_cells, in-Err-make_cells}
 use Rattle.fanout.proofs.levels.over_desks.Goals as goal
 

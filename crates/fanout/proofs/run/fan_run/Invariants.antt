@@ -1,5 +1,5 @@
 use Rattle.std.proofs.Common.{length}
-use Rattle.fanout.specs.Ends.{asking_of}
+use Rattle.fanout.specs.Asked.{asking_of}
 use Rattle.fanout.proofs.run.fan_run.Given as goal
 
 abbrev pub ghosts-fan_run_named : goal.ghosts-fan_run_named

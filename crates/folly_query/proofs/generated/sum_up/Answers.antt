@@ -1,6 +1,7 @@
 use Rattle.std.proofs.Common.{◌≡◌, List, Some, ap, ◌∙◌, subst}
 use Rattle.fan_base.specs.Outside.{shown}
-use Rattle.fanout.specs.Ends.{ReportsAs, Writes}
+use Rattle.run_ending.specs.Ends.{ReportsAs}
+use Rattle.fanout.specs.Asked.{Writes}
 use Rattle.query_model.specs.declared.line.Input.{Input}
 use Rattle.query_model.specs.declared.line.Line.{Line}
 use Rattle.query_model.specs.Generated.{generated_input}

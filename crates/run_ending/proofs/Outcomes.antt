@@ -10,11 +10,11 @@ use Rattle.reply_printer.specs.Printing.{text_of}
 use Rattle.run_printing.specs.declared.stage.PrintOutcome.{PrintOutcome}
 use Rattle.run_printing.specs.declared.stage.PrintOutcome.TheVariants as print
 use Rattle.run_printing.specs.Ends.{IsDone, Wrote}
-use Rattle.fanout.specs.declared.run.FanEnd.{FanEnd}
-use Rattle.fanout.specs.declared.run.FanOutcome.{FanOutcome}
-use Rattle.fanout.specs.declared.run.FanOutcome.TheVariants as outcome
-use Rattle.fanout.specs.Closing.{outcome_by}
-use Rattle.fanout.specs.Ends.{IsEndOf, IsReported, ReportsAs, TellsNoRun, WritesText}
+use Rattle.run_ending.specs.declared.end.FanEnd.{FanEnd}
+use Rattle.run_ending.specs.declared.end.FanOutcome.{FanOutcome}
+use Rattle.run_ending.specs.declared.end.FanOutcome.TheVariants as outcome
+use Rattle.run_ending.specs.Outcomes.{outcome_by}
+use Rattle.run_ending.specs.Ends.{IsEndOf, IsReported, ReportsAs, TellsNoRun, WritesText}
 
 -- all of a text is a front of it
 gains_front : (start now : Shown) (text : Bytes) → Gains start now text → GainsFront start now text
