@@ -10,7 +10,7 @@ use std::{array, mem};
 const BUNDLE: usize = 32;
 
 /// How many bundles of blocks wait for the adders at most. Those over are freed.
-const BUNDLES: usize = 256;
+const BUNDLES: usize = 2_048;
 
 /// A few empty blocks. Putting one in or taking one out touches no block's own memory, which another thread used last.
 #[derive(Drop)]
@@ -60,9 +60,14 @@ impl<X> Spares<X> {
 
     /// A block for an adder's next task: one of its own, or of those that takers gave back, or a new one.
     pub(crate) fn next<R: Wait>(&self, rt: &R, own: &mut Bundle<X>) -> Option<Block<X>> {
-        if let Some(block) = own.pop() {
-            return Some(block);
+        match own.pop() {
+            Some(block) => Some(block),
+            None => self.refill(rt, own),
         }
+    }
+
+    // A call of its own, since a bundle is large to move, and most tasks need none.
+    fn refill<R: Wait>(&self, rt: &R, own: &mut Bundle<X>) -> Option<Block<X>> {
         if let Some(bundle) = self.bundles.pop(rt) {
             *own = bundle;
             if let Some(block) = own.pop() {
@@ -75,10 +80,15 @@ impl<X> Spares<X> {
     /// A taker keeps the block of the task that it took, and gives back what it keeps once that is a bundle.
     pub(crate) fn keep<R: Wait>(&self, rt: &R, own: &mut Bundle<X>, block: Block<X>) {
         if let Some(block) = own.push(block) {
-            let bundle = mem::replace(own, Bundle::new());
-            let _freed = self.bundles.push(rt, bundle);
+            self.give_back(rt, own);
             let _none = own.push(block);
         }
+    }
+
+    // A call of its own, as `refill` is. Bundles over are freed.
+    fn give_back<R: Wait>(&self, rt: &R, own: &mut Bundle<X>) {
+        let bundle = mem::replace(own, Bundle::new());
+        let _freed = self.bundles.push(rt, bundle);
     }
 }
 
