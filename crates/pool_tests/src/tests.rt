@@ -403,67 +403,6 @@ fn each_once<R: Abort>(rt: &R, alloc: Global, ids: &[u64]) -> bool {
     counts.iter().all(|count| *count == 1)
 }
 
-#[test]
-fn a_worker_runs_a_thousand_tasks(rt: HostRuntime) {
-    let alloc = rt.alloc();
-    let Opened {
-        pool,
-        owner,
-        keep,
-        pass,
-        worker,
-    } = open_pool(&rt, alloc);
-    let worker = wrapped(&rt, alloc, worker);
-    let owner = wrapped(&rt, alloc, owner);
-    let keep = wrapped(&rt, alloc, keep);
-    let pass = wrapped(&rt, alloc, pass);
-    let shared = &pool;
-    let (end, joining) = join(
-        &rt,
-        move ||
-            requires { worker.pool ≡ shared.now.id }
-        { work(&rt, alloc, shared, worker.open()) },
-        move ||
-            requires owner { owner.count ≡ shared.now.count }
-            requires keep { keep.count ≡ shared.now.count }
-            requires pass { (pass.pool ≡ shared.now.id) × (adds_of pass ≡ []) }
-            requires one { (shared.now.adders ≡ 1) × (shared.now.exec.0 ≡ 7) }
-        { add_and_begin_join(&rt, alloc, shared, owner.open(), keep.open(), pass.open()) },
-    );
-    let ends = all_ends(&rt, alloc, &pool, end);
-    let mut world = Vec::new(alloc);
-    let PoolEnd {
-        accepted,
-        ran,
-        returned,
-    } = pool.join(&rt, joining, ends, Vec::new(alloc), &mut world);
-    assert_eq!(rt; (accepted, ran.len(), returned.len()), (1000, 1000, 0));
-    let ids = ids(&rt, alloc, ran);
-    assert!(rt; each_once(&rt, alloc, ids.as_slice()));
-}
-
-// Two workers, each on a thread.
-fn two_work<R: Abort + Wait + Threads + Sync>(
-    rt: &R,
-    alloc: Global,
-    pool: &Pool<Note>,
-    one: Parcel<WorkerPass<Note>>,
-    other: Parcel<WorkerPass<Note>>,
-) -> (WorkerEnd<Note>, WorkerEnd<Note>)
-    requires { (one.pool ≡ pool.now.id) × (other.pool ≡ pool.now.id) }
-    ensures { (result.0.pool ≡ pool.now.id) × (result.1.pool ≡ pool.now.id) }
-{
-    join(
-        rt,
-        move ||
-            requires { one.pool ≡ pool.now.id }
-        { work(rt, alloc, pool, one.open()) },
-        move ||
-            requires { other.pool ≡ pool.now.id }
-        { work(rt, alloc, pool, other.open()) },
-    )
-}
-
 // All ends of a pool with four workers.
 fn four_ends<R: Abort>(
     rt: &R,
@@ -526,46 +465,6 @@ fn large_pool<R: Abort>(rt: &R, alloc: Global) -> Large
         front: (first, second),
         back: (third, fourth),
     }
-}
-
-#[test]
-fn four_workers_run_a_thousand_tasks(rt: HostRuntime) {
-    let alloc = rt.alloc();
-    let Large {
-        pool,
-        owner,
-        keep,
-        pass,
-        front,
-        back,
-    } = large_pool(&rt, alloc);
-    let (first, second) = front;
-    let (third, fourth) = back;
-    let first = wrapped(&rt, alloc, first);
-    let second = wrapped(&rt, alloc, second);
-    let third = wrapped(&rt, alloc, third);
-    let fourth = wrapped(&rt, alloc, fourth);
-    let shared = &pool;
-    let joining = add_and_begin_join(&rt, alloc, shared, owner, keep, pass);
-    let (front, back) = join(
-        &rt,
-        move ||
-            requires { (first.pool ≡ shared.now.id) × (second.pool ≡ shared.now.id) }
-        { two_work(&rt, alloc, shared, first, second) },
-        move ||
-            requires { (third.pool ≡ shared.now.id) × (fourth.pool ≡ shared.now.id) }
-        { two_work(&rt, alloc, shared, third, fourth) },
-    );
-    let ends = four_ends(&rt, alloc, &pool, front, back);
-    let mut world = Vec::new(alloc);
-    let PoolEnd {
-        accepted,
-        ran,
-        returned,
-    } = pool.join(&rt, joining, ends, Vec::new(alloc), &mut world);
-    assert_eq!(rt; (accepted, ran.len(), returned.len()), (1000, 1000, 0));
-    let ids = ids(&rt, alloc, ran);
-    assert!(rt; each_once(&rt, alloc, ids.as_slice()));
 }
 
 // Adds a thousand tasks, lets the keep-alive go, and begins to stop.

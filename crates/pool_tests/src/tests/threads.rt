@@ -325,7 +325,7 @@ fn end_joined<R: Abort + Wait>(
 }
 
 #[test]
-fn no_task_is_slept_through(rt: HostRuntime) {
+fn four_workers_run_a_thousand_tasks(rt: HostRuntime) {
     let alloc = rt.alloc();
     let Large {
         pool,
@@ -336,86 +336,70 @@ fn no_task_is_slept_through(rt: HostRuntime) {
         back,
     } = large_pool(&rt, alloc);
     let passes = four_passes(&rt, alloc, &pool, front, back);
-    let passes = wrapped(&rt, alloc, passes);
-    let owner = wrapped(&rt, alloc, owner);
-    let keep = wrapped(&rt, alloc, keep);
-    let pass = wrapped(&rt, alloc, pass);
-    let counts = CountGate::new(&rt, alloc, u64::MAX, 5000);
-    let gate = &counts;
-    let shared = &pool;
-    let (ends, joining) = join(
-        &rt,
-        move ||
-            requires passes { All (λ w. w.pool ≡ shared.now.id) passes.items }
-            requires four { (length passes.items ≡ 4) × (shared.now.workers ≡ 4) }
-        { four_work_at(&rt, alloc, shared, gate, passes.open()) },
-        move ||
-            requires owner { owner.count ≡ shared.now.count }
-            requires keep { keep.count ≡ shared.now.count }
-            requires pass { (pass.pool ≡ shared.now.id) × (adds_of pass ≡ []) }
-            requires one { (shared.now.adders ≡ 1) × (shared.now.exec.0 ≡ 7) }
-        {
-            add_in_groups(
-                &rt,
-                alloc,
-                shared,
-                gate,
-                5000,
-                1,
-                owner.open(),
-                keep.open(),
-                pass.open(),
-            )
-        },
-    );
-    end_joined(&rt, alloc, pool, joining, ends, &counts, 5000);
+    let counts = CountGate::new(&rt, alloc, u64::MAX, 1000);
+    let joining = add_and_begin_join(&rt, alloc, &pool, owner, keep, pass);
+    let ends = four_work_at(&rt, alloc, &pool, &counts, passes);
+    let mut world = Vec::new(alloc);
+    let PoolEnd {
+        accepted,
+        ran,
+        returned,
+    } = pool.join(&rt, joining, ends, Vec::new(alloc), &mut world);
+    assert_eq!(rt; (accepted, ran.len(), returned.len()), (1000, 1000, 0));
+    assert_eq!(rt; counts.passed(), (1000, 0));
+    let ids = ids(&rt, alloc, ran);
+    assert!(rt; each_once(&rt, alloc, ids.as_slice()));
 }
 
+// One by one, and as a stream: groups of tasks, and how many each has.
 #[test]
-fn no_task_of_a_stream_is_slept_through(rt: HostRuntime) {
+fn no_task_is_slept_through(rt: HostRuntime) {
     let alloc = rt.alloc();
-    let Large {
-        pool,
-        owner,
-        keep,
-        pass,
-        front,
-        back,
-    } = large_pool(&rt, alloc);
-    let passes = four_passes(&rt, alloc, &pool, front, back);
-    let passes = wrapped(&rt, alloc, passes);
-    let owner = wrapped(&rt, alloc, owner);
-    let keep = wrapped(&rt, alloc, keep);
-    let pass = wrapped(&rt, alloc, pass);
-    let counts = CountGate::new(&rt, alloc, u64::MAX, 20_000);
-    let gate = &counts;
-    let shared = &pool;
-    let (ends, joining) = join(
-        &rt,
-        move ||
-            requires passes { All (λ w. w.pool ≡ shared.now.id) passes.items }
-            requires four { (length passes.items ≡ 4) × (shared.now.workers ≡ 4) }
-        { four_work_at(&rt, alloc, shared, gate, passes.open()) },
-        move ||
-            requires owner { owner.count ≡ shared.now.count }
-            requires keep { keep.count ≡ shared.now.count }
-            requires pass { (pass.pool ≡ shared.now.id) × (adds_of pass ≡ []) }
-            requires one { (shared.now.adders ≡ 1) × (shared.now.exec.0 ≡ 7) }
-        {
-            add_in_groups(
-                &rt,
-                alloc,
-                shared,
-                gate,
-                20,
-                1000,
-                owner.open(),
-                keep.open(),
-                pass.open(),
-            )
-        },
-    );
-    end_joined(&rt, alloc, pool, joining, ends, &counts, 20_000);
+    for (groups, size) in [(5000u64, 1u64), (20, 1000)] {
+        let Large {
+            pool,
+            owner,
+            keep,
+            pass,
+            front,
+            back,
+        } = large_pool(&rt, alloc);
+        let passes = four_passes(&rt, alloc, &pool, front, back);
+        let passes = wrapped(&rt, alloc, passes);
+        let owner = wrapped(&rt, alloc, owner);
+        let keep = wrapped(&rt, alloc, keep);
+        let pass = wrapped(&rt, alloc, pass);
+        let tasks = groups.saturating_mul(size);
+        let counts = CountGate::new(&rt, alloc, u64::MAX, tasks);
+        let gate = &counts;
+        let shared = &pool;
+        let (ends, joining) = join(
+            &rt,
+            move ||
+                requires passes { All (λ w. w.pool ≡ shared.now.id) passes.items }
+                requires four { (length passes.items ≡ 4) × (shared.now.workers ≡ 4) }
+            { four_work_at(&rt, alloc, shared, gate, passes.open()) },
+            move ||
+                requires owner { owner.count ≡ shared.now.count }
+                requires keep { keep.count ≡ shared.now.count }
+                requires pass { (pass.pool ≡ shared.now.id) × (adds_of pass ≡ []) }
+                requires one { (shared.now.adders ≡ 1) × (shared.now.exec.0 ≡ 7) }
+            {
+                add_in_groups(
+                    &rt,
+                    alloc,
+                    shared,
+                    gate,
+                    groups,
+                    size,
+                    owner.open(),
+                    keep.open(),
+                    pass.open(),
+                )
+            },
+        );
+        end_joined(&rt, alloc, pool, joining, ends, &counts, tasks);
+    }
 }
 
 // The gate lets 400 tasks begin, and holds each of the four workers at its next one until the stop has begun.
