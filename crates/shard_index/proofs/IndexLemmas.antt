@@ -7,19 +7,18 @@ use Rattle.std.proofs.lemmas.List.{length-map, take-map, length-take-le}
 use Rattle.fan_base.specs.declared.doc.Doc.{Doc}
 use Rattle.fan_base.specs.declared.word.Word.{Word}
 use Rattle.query_grammar.specs.Tree.{Tree}
-use Rattle.query_model.specs.Answers.{having, hits_of, ranked, ranks_before, times_in}
-use Rattle.query_model.specs.Sorting.{sorted_by}
+use Rattle.query_model.specs.Answers.{having, hits_of, ranked, times_in}
 use Rattle.query_model.specs.Parts.{weighted_score, weighted_top}
 use Rattle.shard_index.specs.declared.index.Index.{Index}
 use Rattle.shard_index.specs.Counting.{DifferentWords}
 use Rattle.word_table.specs.Told.{Tell, repeated}
 use Rattle.word_table.proofs.ToldLemmas.{each-above-0}
 use Rattle.shard_index.specs.Places.{front_of, has_word, holds_in, places_where, standing_of}
-use Rattle.shard_index.specs.Selections.{ScoresAt, hits_where}
+use Rattle.shard_index.specs.Selections.{hits_where}
 use Rattle.shard_index.specs.Standing.{Indexes}
 use Rattle.shard_index.proofs.NarrowLemmas.{stand-where}
-use Rattle.shard_index.proofs.PlaceLemmas.{below-standing, below-where, distinct-standing, front-replicate, length-places, pairs-at}
-use Rattle.shard_index.proofs.ScoreLemmas.{all-take, differ-take, score-fits, score-more, scores-of-some, zip-maps}
+use Rattle.shard_index.proofs.PlaceLemmas.{below-standing, below-where, distinct-standing, front-replicate, length-places}
+use Rattle.shard_index.proofs.ScoreLemmas.{all-take, differ-take, score-fits, score-more, zip-maps}
 use Rattle.shard_index.proofs.TotalLemmas.{all-rec}
 
 pub many-ids : (index : Index) (docs : List Doc) → Indexes index docs → length index.ids.items ≡ length docs
@@ -117,15 +116,6 @@ pub totals-more : (docs : List Doc) (words : List Word) (weights totals : List �
     → totals ≡ map (λ d. weighted_score (zip (take i words) (take i weights)) d + times_in d (get_or words i v) * get_or weights i 0) docs
     → totals ≡ map (weighted_score (zip (take (i + 1) words) (take (i + 1) weights))) docs
 totals-more docs words weights totals i v a b is = is ∙ (λ k. map (λ d. score-more d words weights i v a b k) docs)
-
-pub top-is : (k : ℕ) (docs : List Doc) (words : List Word) (weights ids totals places : List ℕ) → ids ≡ map (λ d. d.id) docs → totals ≡ map (weighted_score (zip words weights)) docs
-    → ScoresAt places words docs → take k (ranked (map (λ p. get_or (zip ids totals) p (0, 0)) places)) ≡ weighted_top k words weights docs
-unfolding weighted_top
-top-is k docs words weights ids totals places are is scored =
-    (λ i. take k (ranked (map (λ p. get_or (zip (are i) (is i)) p (0, 0)) (scored.at i))))
-    ∙ (ap (λ (all : List (ℕ × ℕ)). take k (ranked (map (λ p. get_or all p (0, 0)) (places_where scored.test docs)))) (zip-maps (weighted_score (zip words weights)) docs)
-    ∙ (ap (λ ps. take k (ranked ps)) (pairs-at (λ d. (d.id, weighted_score (zip words weights) d)) scored.test docs)
-    ∙ ap (λ ps. take k (sorted_by ranks_before ps)) (scores-of-some words weights scored.test docs scored.others)))
 
 pub top-of-all : (k : ℕ) (docs : List Doc) (words : List Word) (weights ids totals : List ℕ) → ids ≡ map (λ d. d.id) docs → totals ≡ map (weighted_score (zip words weights)) docs
     → take k (ranked (zip ids totals)) ≡ weighted_top k words weights docs

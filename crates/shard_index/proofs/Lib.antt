@@ -8,6 +8,7 @@ mod SelectionLemmas
 mod HitLemmas
 mod TotalLemmas
 mod ScoreLemmas
+mod ScoredLemmas
 mod PartLemmas
 mod IndexLemmas
 mod MergeLemmas

@@ -256,39 +256,3 @@ distinct-standing word docs = distinct-from word 0 [] docs tt
 pub places-none : (place : ℕ) (docs : List Doc) → places_from place (λ d. false) docs ≡ []
 places-none place [] = refl
 places-none place (d ∷ ds) = places-none (place + 1) ds
-
--- what stands in a list at the places of those that pass
-
-pair-middle : (xs ys : List (ℕ × ℕ)) (y : ℕ × ℕ) → get_or (xs ++ y ∷ ys) (length xs) (0, 0) ≡ y
-pair-middle [] ys y = refl
-pair-middle (x ∷ xs) ys y = pair-middle xs ys y
-
-pairs-from : (f : Doc → ℕ × ℕ) (before : List (ℕ × ℕ)) (place : ℕ) (test : Doc → Bool) (docs : List Doc) → place ≡ length before
-    → map (λ p. get_or (before ++ map f docs) p (0, 0)) (places_from place test docs) ≡ map f (filter test docs)
-pairs-from f before place test [] is = refl
-pairs-from f before place test (d ∷ ds) is =
-    by (test d) (ap (λ xs. map (λ p. get_or xs p (0, 0)) (places_from (place + 1) test ds)) longer ∙ pairs-from f (before ++ f d ∷ []) (place + 1) test ds many)
-  where
-    all : List (ℕ × ℕ)
-    all = before ++ f d ∷ map f ds
-
-    longer : all ≡ (before ++ f d ∷ []) ++ map f ds
-    longer = sym (append_assoc before (f d ∷ []) (map f ds))
-
-    grown : (xs : List (ℕ × ℕ)) → length xs + 1 ≡ length (xs ++ f d ∷ [])
-    grown [] = refl
-    grown (x ∷ xs) = (let e : suc (length xs) + 1 ≡ suc (length xs + 1) = omega arith in e) ∙ ap suc (grown xs)
-
-    many : place + 1 ≡ length (before ++ f d ∷ [])
-    many = ap (λ n. n + 1) is ∙ grown before
-
-    here : get_or all place (0, 0) ≡ f d
-    here = ap (λ n. get_or all n (0, 0)) is ∙ pair-middle before (map f ds) (f d)
-
-    by : (b : Bool) → map (λ p. get_or all p (0, 0)) (places_from (place + 1) test ds) ≡ map f (filter test ds)
-        → map (λ p. get_or all p (0, 0)) (cond b (place ∷ places_from (place + 1) test ds) (places_from (place + 1) test ds)) ≡ map f (cond b (d ∷ filter test ds) (filter test ds))
-    by true more = λ i. here i ∷ more i
-    by false more = more
-
-pub pairs-at : (f : Doc → ℕ × ℕ) (test : Doc → Bool) (docs : List Doc) → map (λ p. get_or (map f docs) p (0, 0)) (places_where test docs) ≡ map f (filter test docs)
-pairs-at f test docs = pairs-from f [] 0 test docs refl

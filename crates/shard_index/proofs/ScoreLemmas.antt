@@ -173,7 +173,7 @@ zip-maps score [] = refl
 zip-maps score (d ∷ ds) = ap (λ (ps : List (ℕ × ℕ)). (d.id, score d) ∷ ps) (zip-maps score ds)
 
 -- a document with none of the words has no score
-no-score : (d : Doc) (words : List Word) (weights : List ℕ) → has_one words d ≡ false → weighted_score (zip words weights) d ≡ 0
+pub no-score : (d : Doc) (words : List Word) (weights : List ℕ) → has_one words d ≡ false → weighted_score (zip words weights) d ≡ 0
 no-score d [] weights none = refl
 no-score d (w ∷ ws) [] none = refl
 no-score d (w ∷ ws) (g ∷ gs) none =

@@ -1,7 +1,6 @@
 -- Which documents a selection selects.
-use Rattle.std.specs.Prelude.{ℕ, ◌≡◌, ◌<◌, ◌^◌, List, Bool, false, not, length, take, map, filter}
+use Rattle.std.specs.Prelude.{ℕ, ◌≡◌, ◌<◌, ◌^◌, List, Bool, not, length, take, map, filter}
 use Rattle.fan_base.specs.declared.doc.Doc.{Doc}
-use Rattle.fan_base.specs.declared.word.Word.{Word}
 use Rattle.query_model.specs.declared.reply.Hits.{Hits}
 use Rattle.query_model.specs.Answers.{ids_of}
 use Rattle.query_model.specs.Limits.{most_listed}
@@ -9,7 +8,7 @@ use Rattle.shard_index.specs.declared.selection.Places.{Places}
 use Rattle.shard_index.specs.declared.selection.Places.TheVariants.{Lent, Made}
 use Rattle.shard_index.specs.declared.selection.Selection.{Selection}
 use Rattle.shard_index.specs.declared.selection.Selection.TheVariants.{Those, AllBut}
-use Rattle.shard_index.specs.Places.{has_one, places_where}
+use Rattle.shard_index.specs.Places.{places_where}
 
 -- the places that are lent or made
 abbrev pub places_in : Places → List ℕ
@@ -32,9 +31,3 @@ pub record AreSelected (ids : List ℕ) (selection : Selection) : Type 0 where
   pub few : length ids < 2 ^ 32
   pub ids_are : ids ≡ map (λ doc. doc.id) docs
   pub selects : Selects selection test docs
-
--- at these places stand all documents with one of the words, and maybe others
-pub record ScoresAt (places : List ℕ) (words : List Word) (docs : List Doc) : Type 0 where
-  pub test : Doc → Bool
-  pub at : places ≡ places_where test docs
-  pub others : (doc : Doc) → test doc ≡ false → has_one words doc ≡ false

@@ -1,4 +1,4 @@
-ghost use Rattle.std.specs.Prelude.{◌≡◌, ◌+◌, ◌*◌, ◌<◌, ◌≤◌, ◌^◌, ◌&&◌, ℕ, All, List, IfOk, length, map, not, take, true, zip, if◌then◌else◌};
+ghost use Rattle.std.specs.Prelude.{◌≡◌, ◌+◌, ◌*◌, ◌<◌, ◌≤◌, ◌^◌, ◌&&◌, ◌||◌, ℕ, All, Bool, List, IfOk, length, map, not, take, true, zip, if◌then◌else◌};
 ghost use Rattle.fan_base.specs.declared.doc.Doc.{Doc};
 ghost use Rattle.std.specs.List.{AllByRecursion};
 ghost use Rattle.std.specs.List.Sorted.{IsNonDecreasing};
@@ -10,18 +10,19 @@ ghost use Rattle.word_table.specs.Rows.{AreFewAndShort, lent};
 ghost use Rattle.word_table.specs.Told.{Tell};
 ghost use Rattle.shard_index.specs.Counting.{counts_of, DifferentWords};
 ghost use Rattle.shard_index.specs.Places.{has_one, has_word, holds_in, places_where, standing_of};
+ghost use Rattle.shard_index.specs.Scored.{AreScored, HasRoomIn};
 ghost use Rattle.shard_index.specs.Selections.{Selects};
 ghost use Rattle.shard_index.specs.Standing.{HasRoom, Indexes};
 
 use crate::counts::Counts;
 use crate::front::below;
 use crate::hits::hits;
-use crate::join::all;
 use crate::leaves::two_words;
 use crate::marks::{mark_at, no_marks};
 use crate::narrow::narrow;
+use crate::scored::{first_scores, with_places};
 use crate::selection::{Places, Selection, both};
-use crate::totals::{add_at, first_of_all, first_scores, zeros};
+use crate::totals::{add_at, first_of_all, zeros};
 use fan_base::{Numbers, Scores, Word};
 use query_grammar::{Expr, Node};
 use query_model::Hits;
@@ -221,15 +222,8 @@ impl Index {
         ensures { (docs : List Doc) → Indexes self.now docs
             → IfOk result (λ scores. scores ≡ weighted_top k words.now weights.now (take front docs)) }
     {
-        let totals = self.totals(alloc, front, words, weights)?;
-        let places = self.places_with_one(alloc, front, words)?;
-        first_scores(
-            alloc,
-            &self.ids[..front],
-            totals.as_slice(),
-            places.as_slice(),
-            k,
-        )
+        let scored = self.scored(alloc, front, words, weights)?;
+        first_scores(alloc, &self.ids[..front], scored.as_slice(), k)
     }
 
     /// The same, where all totals are looked at.
@@ -264,21 +258,44 @@ impl Index {
         times
     }
 
-    /// The places of the documents with one of these words, among the first.
-    fn places_with_one(
+    /// The places of the first documents with one of these words, with their scores.
+    fn scored(
         &self,
         alloc: Global,
         front: usize,
         words: &[Word],
-    ) -> Result<Vec<u32>, AllocError>
-        requires { (docs : List Doc) × Indexes self.now docs }
-        ensures { (docs : List Doc) → Indexes self.now docs → IfOk result (λ places. places.items ≡ places_where (has_one words.now) (take front docs)) }
+        weights: &[u64],
+    ) -> Result<Vec<(u32, u64)>, AllocError>
+        requires docs { (docs : List Doc) × Indexes self.now docs }
+        requires differ { DifferentWords words.now }
+        requires many { length weights.now ≡ length words.now }
+        requires low { All (λ weight. weight < 2 ^ 32) weights.now }
+        ensures { (docs : List Doc) → Indexes self.now docs
+            → IfOk result (λ scored. AreScored scored.items (has_one words.now) (weighted_score (zip words.now weights.now)) (take front docs)) }
     {
-        let mut places = Vec::new(alloc);
-        for word in words {
-            places = all(alloc, places.as_slice(), self.places_with(front, word))?;
+        let mut scored = Vec::new(alloc);
+        for i in 0..words.len() {
+            scored = self.with_word(alloc, scored.as_slice(), front, &words[i], weights[i])?;
         }
-        Ok(places)
+        Ok(scored)
+    }
+
+    /// The scores of the first documents with one word more.
+    fn with_word(
+        &self,
+        alloc: Global,
+        scored: &[(u32, u64)],
+        front: usize,
+        word: &Word,
+        weight: u64,
+    ) -> Result<Vec<(u32, u64)>, AllocError>
+        requires { HasRoomIn self.now front word.now weight scored.now }
+        ensures { (docs : List Doc) (test : Doc → Bool) (score : Doc → ℕ) → Indexes self.now docs → AreScored scored.now test score (take front docs)
+            → IfOk result (λ more. AreScored more.items (λ doc. test doc || has_word word.now doc) (λ doc. score doc + times_in doc word.now * weight) (take front docs)) }
+    {
+        let (places, times) = self.standing(word);
+        let places = below(places, front);
+        with_places(alloc, scored, places, &times[..places.len()], weight)
     }
 
     /// The scores of the documents, in their order.

@@ -40,6 +40,7 @@ mod merge;
 mod narrow;
 mod once;
 mod part;
+mod scored;
 mod selection;
 mod shard;
 mod shards;

@@ -1,4 +1,4 @@
-ghost use Rattle.std.specs.Prelude.{◌≡◌, ◌<◌, ◌^◌, All, IfOk, get_or, length, map, replicate, take, zip};
+ghost use Rattle.std.specs.Prelude.{◌≡◌, ◌<◌, ◌^◌, All, IfOk, length, replicate, take, zip};
 ghost use Rattle.query_model.specs.Answers.{ranked};
 ghost use Rattle.word_table.specs.Told.{repeated};
 ghost use Rattle.shard_index.specs.Totals.{added_at};
@@ -24,30 +24,6 @@ pub fn add_at(totals: &mut Vec<u64>, places: &[u32], times: &[u16], weight: u64)
     for i in 0..places.len() {
         totals[places[i] as usize] += u64::from(times[i]) * weight;
     }
-}
-
-/// The first `k` of the ids at these places with their totals, those above 0 alone, in the order of ranks.
-pub fn first_scores(
-    alloc: Global,
-    ids: &[u32],
-    totals: &[u64],
-    places: &[u32],
-    k: usize,
-) -> Result<Scores, AllocError>
-    requires many { length ids.now ≡ length totals.now }
-    requires places { All (λ place. place < length ids.now) places.now }
-    ensures { IfOk result (λ scores. scores ≡ take k (ranked (map (λ place. get_or (zip ids.now totals.now) place (0, 0)) places.now))) }
-{
-    let mut kept = Vec::with_capacity(alloc, places.len().min(k).saturating_add(1))?;
-    let mut least = 1;
-    for place in places {
-        let at = *place as usize;
-        if totals[at] >= least {
-            keep_score(&mut kept, k, (ids[at], totals[at]))?;
-            least = least_total(kept.as_slice(), k);
-        }
-    }
-    Ok(Scores::from_vec(kept))
 }
 
 /// The first `k` of all ids with their totals, those above 0 alone, in the order of ranks.
