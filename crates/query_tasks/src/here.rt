@@ -15,8 +15,8 @@ use run_notes::DirectRecords;
 use run_tasks::{ShardTask, TaskWorld};
 use std::sync::Wait;
 
-/// Runs the tasks of a query over all shards here, one after another, on the front's executor: behind the pool's end. No cell is helped for: a core is begun as soon as a cell is free. It ends at the first record that finds no memory; that
-/// record's task has run.
+/// Runs the tasks of a query over all shards here, one after another, on the front's executor: behind the pool's end. It helps with nothing: a
+/// core is begun as soon as a cell is free. It ends at the first record that finds no memory; that record's task has run, and none behind it.
 pub fn run_tasks_here<'c, 't, 'i: 't, N: RunName + 'static, R: Wait>(
     rt: &R,
     world: &mut TaskWorld<'c, 't, 'i, N>,

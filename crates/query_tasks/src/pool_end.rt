@@ -4,7 +4,8 @@ ghost use Rattle.pool_model.specs.declared.task.Ending.TheVariants.{Joins as Poo
 ghost use Rattle.pool_model.specs.Passes.{AreAllEnds, AreAllPasses};
 ghost use Rattle.prio_pool.specs.Begun.{HasBegun};
 ghost use Rattle.query_tasks.specs.Ends.{end_for, is_stop, seen_of};
-ghost use Rattle.run_notes.specs.Accounts.{AccountsFor, AllDone, SomeLed};
+ghost use Rattle.run_notes.specs.Accounts.{AccountsFor, AllDone, HaveAllRun, SomeLed};
+ghost use Rattle.run_tasks.specs.Heads.{task_head};
 ghost use Rattle.run_tasks.specs.Worlds.{Follows, TaskRan};
 
 use crate::pool::{TaskAdder, TaskPool};
@@ -45,7 +46,8 @@ pub fn begin_end<'t, 'i: 't, N: RunName + 'static, R: Wait>(
     }
 }
 
-/// Ends the pool with the ends of all workers and helpers. What still waits, or is handed back, is run on this world.
+/// Ends the pool with the ends of all workers and helpers. All that still waits, or is handed back, is run on this world, whether its records
+/// find memory or not.
 pub fn end_pool<'c, 't, 'i: 't, N: RunName + 'static, R: Wait>(
     rt: &R,
     alloc: Global,
@@ -60,6 +62,8 @@ pub fn end_pool<'c, 't, 'i: 't, N: RunName + 'static, R: Wait>(
     requires ends { AreAllEnds pool.id pool.workers ends.items }
     requires helped { AreAllEnds pool.id pool.helpers helped.items }
     ensures follows { Follows world.old world.new }
+    ensures all { is_stop ending.entry ≡ true →
+        HaveAllRun (task_head N.asked) TaskRan (seen_of ending.entry).passes result.ran.records world.old world.new }
     ensures account { world.new.refused ≡ false → AllDone (ends.entry.items ++ helped.entry.items) → result.missed ≡ false →
         AccountsFor (seen_of ending.entry).passes result }
     ensures stopped { result.ran.stopped ≡ is_stop ending.entry }
@@ -146,7 +150,7 @@ fn stop_all<'c, 't, 'i: 't, N: RunName + 'static, R: Wait>(
     requires stopping { AreAllPasses pool.id pool.adders stopping.passes }
     requires ends { AreAllEnds pool.id pool.workers ends.items }
     requires helped { AreAllEnds pool.id pool.helpers helped.items }
-    ensures led { SomeLed TaskRan world.old world.new }
+    ensures all { HaveAllRun (task_head N.asked) TaskRan stopping.entry.passes result.ran.records world.old world.new }
     ensures account { world.new.refused ≡ false → AllDone (ends.entry.items ++ helped.entry.items) → result.missed ≡ false →
         AccountsFor stopping.entry.passes result }
     ensures stopped { result.ran.stopped ≡ true }

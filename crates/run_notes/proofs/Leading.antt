@@ -5,12 +5,12 @@ use Rattle.std.proofs.lemmas.List.Elements.{All-nil, All-cons}
 use Rattle.fan_base.specs.declared.number.JobId.{JobId}
 use Rattle.fan_base.specs.declared.number.Mark.{Mark}
 use Rattle.job_trait.specs.declared.job.Head.{Head}
-use Rattle.job_trait.specs.Marks.{IsDone}
-use Rattle.job_trait.specs.Runs.{IsKnownBackwards, Leads, Ran, Through}
+use Rattle.job_trait.specs.Marks.{IsDone, IsMarkOf}
+use Rattle.job_trait.specs.Runs.{AreMarksOf, IsKnownBackwards, Leads, Ran, Through}
 use Rattle.pool_model.specs.Records.{AreRunsOf, IsRunOf, Record, ran_of}
 use Rattle.pool_model.specs.Seen.{Returned, task_of}
 use Rattle.pool_model.specs.Tasks.{Task}
-use Rattle.run_notes.specs.Accounts.{RanBack, RanBackSoFar, SomeLed}
+use Rattle.run_notes.specs.Accounts.{AllRanBack, HaveRunSoFar, RanBack, RanBackSoFar, SomeLed}
 use Rattle.run_notes.proofs.Accounting.{WasDone, runs_append}
 
 module _ {W : Type 0} (runs : JobId → W → Mark → W → Type 0) where
@@ -20,12 +20,6 @@ module _ {W : Type 0} (runs : JobId → W → Mark → W → Type 0) where
 
   pub leads_more : (w m v : W) (list : List Ran) (id : JobId) (mark : Mark) → Leads runs w list m → runs id m mark v → Leads runs w (list ++ (id, mark) ∷ []) v
   leads_more w m v list id mark led ran = record { through = through_more w m v list id mark led.through ran }
-
-  pub some_none : (w : W) → SomeLed runs w w
-  some_none w = ([], record { through = refl })
-
-  pub some_more : (w m v : W) (id : JobId) (mark : Mark) → SomeLed runs w m → runs id m mark v → SomeLed runs w v
-  some_more w m v id mark led ran = (led.0 ++ (id, mark) ∷ [], leads_more w m v led.0 id mark led.1 ran)
 
   -- a fact that each run tells backwards, and by which it was done
   pub known : (Fact : W → Type 0) → IsKnownBackwards runs Fact (λ _ mark. IsDone mark) → (w v : W) (rs : List Record) → Through runs w (ran_of rs) v → Fact v → Fact w × All WasDone rs
@@ -41,6 +35,13 @@ module _ {W : Type 0} (runs : JobId → W → Mark → W → Type 0) where
 
   pub known_some : (Fact : W → Type 0) → IsKnownBackwards runs Fact (λ _ mark. IsDone mark) → (w v : W) → SomeLed runs w v → Fact v → Fact w
   known_some Fact k w v led f = known_list Fact k w v led.0 led.1.through f
+
+-- one job more, with its mark
+marks_more : (hs : List Head) (list : List Ran) (h : Head) (id : JobId) (mark : Mark) → AreMarksOf hs list → id ≡ h.id → IsMarkOf h.number mark → AreMarksOf (hs ++ h ∷ []) (list ++ (id, mark) ∷ [])
+marks_more [] [] h id mark all is may = (is, may, tt)
+marks_more [] (r ∷ list) h id mark all is may = absurd all
+marks_more (x ∷ hs) [] h id mark all is may = absurd all
+marks_more (x ∷ hs) (r ∷ list) h id mark all is may = (all.0, all.1, marks_more hs list h id mark all.2 is may)
 
 module _ {J W : Type 0} (head : J → Head) (runs : JobId → W → Mark → W → Type 0) where
   pub back_none : (tasks : List (Returned J)) (w : W) → RanBackSoFar head runs tasks tasks [] w w
@@ -69,6 +70,29 @@ module _ {J W : Type 0} (head : J → Head) (runs : JobId → W → Mark → W �
   back_all tasks left records w v so_far none =
       let same : so_far.done ≡ tasks = sym (append-nil so_far.done) ∙ (ap (λ (l : List (Returned J)). so_far.done ++ l) (sym none) ∙ so_far.list) in
       subst (λ (l : List (Returned J)). RanBack head runs l records w v) same so_far.back
+
+  pub run_none : (tasks : List (Returned J)) (w : W) → HaveRunSoFar head runs tasks tasks w w
+  run_none tasks w = record { done = []; list = refl; back = record { list = []; marks = tt; leads = record { through = refl } } }
+
+  pub run_more : (tasks left more : List (Returned J)) (w m v : W) (b : Returned J) (r : Record) → HaveRunSoFar head runs tasks left w m
+      → left ≡ b ∷ more → IsRunOf (task_of head b) r → runs r.job m r.mark v → HaveRunSoFar head runs tasks more w v
+  run_more tasks left more w m v b r so_far next is ran =
+      let heads : map (λ (x : Returned J). head x.job) (so_far.done ++ b ∷ []) ≡ map (λ (x : Returned J). head x.job) so_far.done ++ head b.job ∷ [] = map-append (λ (x : Returned J). head x.job) so_far.done (b ∷ []) in
+      record {
+        done = so_far.done ++ b ∷ [];
+        list = one_over so_far.done left more tasks b so_far.list next;
+        back = record {
+          list = so_far.back.list ++ (r.job, r.mark) ∷ [];
+          marks = subst (λ (hs : List Head). AreMarksOf hs (so_far.back.list ++ (r.job, r.mark) ∷ [])) (sym heads)
+              (marks_more (map (λ (x : Returned J). head x.job) so_far.done) so_far.back.list (head b.job) r.job r.mark so_far.back.marks is.job is.mark);
+          leads = leads_more runs w m v so_far.back.list r.job r.mark so_far.back.leads ran;
+        };
+      }
+
+  pub run_all : (tasks left : List (Returned J)) (w v : W) → HaveRunSoFar head runs tasks left w v → left ≡ [] → AllRanBack head runs tasks w v
+  run_all tasks left w v so_far none =
+      let same : so_far.done ≡ tasks = sym (append-nil so_far.done) ∙ (ap (λ (l : List (Returned J)). so_far.done ++ l) (sym none) ∙ so_far.list) in
+      subst (λ (l : List (Returned J)). AllRanBack head runs l w v) same so_far.back
 
 -- one record more, or none more for want of memory: so many of all are missing
 pub fewer_more : (was is : Bool) (records after left rest all : ℕ) → (was ≡ true → records + left < all) → (was ≡ false → records + left ≡ all) → left ≡ suc rest

@@ -5,7 +5,8 @@ use Rattle.fan_base.specs.declared.number.JobId.{JobId}
 use Rattle.fan_base.specs.declared.number.Mark.{Mark}
 use Rattle.job_trait.specs.declared.job.Head.{Head}
 use Rattle.job_trait.specs.Marks.{IsDone}
-use Rattle.job_trait.specs.Runs.{Ran, Leads}
+use Rattle.job_trait.specs.Runs.{Ran, Leads, RunsAll}
+use Rattle.pool_model.specs.Accounts.{AllRunOrReturned}
 use Rattle.pool_model.specs.Passes.{adds_of, adds_total}
 use Rattle.pool_model.specs.Records.{Record, AreRunsOf, ran_of}
 use Rattle.pool_model.specs.Seen.{EndSeen, PassSeen, Returned, task_of}
@@ -32,6 +33,16 @@ abbrev pub SomeLed : {W : Type 0} → (JobId → W → Mark → W → Type 0) �
 SomeLed runs w v = (list : List Ran) × Leads runs w list v
 
 module _ {J W : Type 0} (head : J → Head) (runs : JobId → W → Mark → W → Type 0) where
+  -- all of these tasks ran, each once and in this order, which led from the world w to the world v, whether their records were kept or not
+  abbrev pub AllRanBack : List (Returned J) → W → W → Type 0
+  AllRanBack tasks w v = RunsAll runs (map (λ b. head b.job) tasks) w v
+
+  -- Each task that these passes added has run: those that have these records, and all others here, one after another, which led from w to v.
+  pub record HaveAllRun (passes : List PassSeen) (records : List Record) (w v : W) : Type 0 where
+    pub returned : List (Returned J)
+    pub all : AllRunOrReturned head passes records returned
+    pub back : AllRanBack returned w v
+
   -- These tasks ran, in order, which led from the world w to the world v, and these are their records.
   pub record RanBack (tasks : List (Returned J)) (records : List Record) (w v : W) : Type 0 where
     pub ran : AreRunsOf (map (task_of head) tasks) records
@@ -42,3 +53,9 @@ module _ {J W : Type 0} (head : J → Head) (runs : JobId → W → Mark → W �
     pub done : List (Returned J)
     pub list : done ++ left ≡ tasks
     pub back : RanBack done records w v
+
+  -- some of them did, whether their records were kept or not, and these are left
+  pub record HaveRunSoFar (tasks left : List (Returned J)) (w v : W) : Type 0 where
+    pub done : List (Returned J)
+    pub list : done ++ left ≡ tasks
+    pub back : AllRanBack done w v

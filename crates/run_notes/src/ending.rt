@@ -2,7 +2,7 @@ ghost use Rattle.std.specs.Prelude.{◌≡◌, ◌+◌, ◌<◌, ◌≤◌, ◌�
 ghost use Rattle.job_trait.specs.Marks.{IsDone};
 ghost use Rattle.job_trait.specs.Runs.{IsKnownBackwards};
 ghost use Rattle.pool_model.specs.Passes.{AreAllPasses, AreAllEnds};
-ghost use Rattle.run_notes.specs.Accounts.{AccountsFor, AllDone, RanBack, SomeLed};
+ghost use Rattle.run_notes.specs.Accounts.{AccountsFor, AllDone, AllRanBack, HaveAllRun, RanBack, SomeLed};
 
 use crate::notes::RunRecords;
 use job_trait::{Job, WorldFact};
@@ -22,7 +22,7 @@ pub struct PoolNotes {
     pub ran: Runs,
     /// What was handed back, and then run.
     pub returned: RunRecords,
-    /// Whether a record found no memory. The tasks ran all the same, which no clause says.
+    /// Whether a record found no memory. Its task has run all the same, and so have those behind it.
     pub missed: bool,
 }
 
@@ -59,7 +59,7 @@ pub fn end_joined<J: Job<W>, W, F: WorldFact<W>, R: Wait>(
     }
 }
 
-/// Ends a pool that is stopped. What is handed back is run on this world, in order.
+/// Ends a pool that is stopped. All that is handed back is run on this world, in order, whether its records find memory or not.
 pub fn end_stopped<J: Job<W>, W, F: WorldFact<W>, R: Wait>(
     rt: &R,
     alloc: Global,
@@ -74,7 +74,7 @@ pub fn end_stopped<J: Job<W>, W, F: WorldFact<W>, R: Wait>(
     requires ends { AreAllEnds pool.id pool.workers ends.items }
     requires helped { AreAllEnds pool.id pool.helpers helped.items }
     requires known { IsKnownBackwards J.runs F.holds (λ _ mark. IsDone mark) }
-    ensures led { SomeLed J.runs world.old world.new }
+    ensures all { HaveAllRun J.head J.runs stopping.passes result.ran.records world.old world.new }
     ensures fact { F.holds world.new → F.holds world.old }
     ensures account { F.holds world.new → AllDone (ends.items ++ helped.items) → result.missed ≡ false → AccountsFor stopping.passes result }
     ensures stopped { result.ran.stopped ≡ true }
@@ -102,7 +102,7 @@ fn run_back<J: Job<W>, W, R: Wait>(
     returned: &mut Returned<J>,
     world: &mut W,
 ) -> (RunRecords, bool)
-    ensures led { SomeLed J.runs world.old world.new }
+    ensures all { AllRanBack J.head J.runs returned.old world.old world.new }
     ensures back { result.1 ≡ false → RanBack J.head J.runs returned.old result.0 world.old world.new }
     ensures missed { result.1 ≡ true → length result.0 < length returned.old }
     ensures whole { result.1 ≡ false → length result.0 ≡ length returned.old }

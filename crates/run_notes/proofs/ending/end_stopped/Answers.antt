@@ -11,7 +11,8 @@ use Rattle.run_notes.proofs.ending.end_stopped.Goals as goal
 
 pub returns-clause-fact : goal.returns-clause-fact
 returns-clause-fact g c = λ f.
-    known_some g.J.Job.runs g.F.WorldFact.holds c.requires.known c.args.world.now c.run_back-records.new.world c.run_back-records.ensures.led f
+    let back = c.run_back-records.ensures.all in
+    known_some g.J.Job.runs g.F.WorldFact.holds c.requires.known c.args.world.now c.run_back-records.new.world (back.list, back.leads) f
 
 pub returns-clause-account : goal.returns-clause-account
 returns-clause-account g c =

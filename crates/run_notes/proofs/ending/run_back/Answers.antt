@@ -1,5 +1,5 @@
 use Rattle.std.proofs.Common.{◌∷◌, [], length, length-append, ap, arith}
-use Rattle.run_notes.proofs.Leading.{some_more, back_more, fewer_more}
+use Rattle.run_notes.proofs.Leading.{back_more, fewer_more, run_more}
 use Rattle.run_notes.proofs.ending.run_back.Goals as goal
 
 pub tasks-preserved : goal.tasks-preserved
@@ -8,7 +8,7 @@ tasks-preserved g c =
     let e = c.in-Some.ensures in
     let r = c.in-Some.record in
     record {
-      led = some_more g.J.Job.runs c.args.world.now c.tasks.world c.run_next.new.world r.job r.mark i.led e.3;
+      run = run_more g.J.Headed.head g.J.Job.runs c.args.returned.now c.tasks.returned c.run_next.new.self c.args.world.now c.tasks.world c.run_next.new.world e.0 r i.run e.1 e.2 e.3;
       so_far = λ kept.
           let k = c.keep.ensures.kept kept in
           back_more g.J.Headed.head g.J.Job.runs c.args.returned.now c.tasks.returned c.run_next.new.self c.tasks.records c.keep.new.records
