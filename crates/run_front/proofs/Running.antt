@@ -1,15 +1,19 @@
 -- The runs of queries that are begun, one query further.
-use Rattle.std.proofs.Common.{◌≡◌, ℕ, ◌+◌, List, [], ◌∷◌, ◌++◌, map, length, sym, ap, ◌∙◌, append-nil, arith, ◌≤◌, ℤ, w8, refl}
+use Rattle.std.proofs.Common.{◌≡◌, ℕ, zero, suc, ◌+◌, List, [], ◌∷◌, ◌++◌, map, take, drop, length, sym, ap, subst, ◌∙◌, append-nil, append_assoc, arith, ◌≤◌, ℤ, w8, refl}
 use Rattle.std.specs.List.{range_with_len}
-use Rattle.std.specs.Result.{OnOk}
+use Rattle.std.specs.Result.{OnErr, OnOk}
 use Rattle.std.specs.Prelude.{Result, Ok, Err}
 use Rattle.std.proofs.lemmas.List.{flat_map_more, length-append, map-append}
+use Rattle.std.proofs.lemmas.List.Elements.{filter_map-append}
+use Rattle.std.proofs.lemmas.Grind.{flat_map-append}
 use Rattle.std.proofs.lemmas.List.FromFn.{length-map-range_with_len}
 use Rattle.fan_base.specs.declared.number.ExecId.{ExecId}
 use mir.Val.{of_z, to_z}
+use Rattle.query_model.specs.declared.line.Line.{Line}
 use Rattle.query_model.specs.declared.line.Prio.{Prio}
 use Rattle.query_model.specs.declared.line.Prio.TheVariants as prio
 use Rattle.query_model.specs.Order.{Asked}
+use Rattle.fan_model.specs.Comings.{Coming, begun_by, comings_of}
 use Rattle.fan_model.specs.Report.{Asking}
 use Rattle.fan_model.specs.Tasks.{Run, queue_of, task_run, task_runs}
 use Rattle.pool_model.specs.Tasks.{Add}
@@ -18,8 +22,8 @@ use Rattle.prio_pool.specs.Priority.{queue_of as queue_with}
 use Rattle.fan_parts.specs.Seen.{AskSeen}
 use Rattle.query_tasks.specs.Starting.{adds_for, head_on_pool}
 use Rattle.run_notes.specs.Told.{run_of_add}
-use Rattle.run_plan.specs.Turns.{begun_between}
-use Rattle.run_front.specs.Fronts.{AreRunsTo}
+use Rattle.run_plan.specs.Turns.{begun_between, begun_in}
+use Rattle.run_front.specs.Fronts.{AreRunsTo, AreSomeOf, AreSomeRunsTo}
 use Rattle.run_front.specs.Turns.{pool_priority}
 
 -- the runs of one query
@@ -44,6 +48,91 @@ pub runs_same : (asked : Asking) (exec : ExecId) (start place : ℕ) (first runs
     → AreRunsTo asked exec start place first runs → AreRunsTo asked exec start (place + 1) first runs
 runs_same asked exec start place first runs behind so_far =
     record { are = so_far.are ∙ ap (λ (qs : List Asked). first ++ task_runs asked.lines asked.shards exec qs) (sym behind) }
+
+-- The same runs are some of those of one place more.
+pub some_same : (asked : Asking) (exec : ExecId) (start place : ℕ) (first runs : List Run) → begun_between asked.lines start (place + 1) ≡ begun_between asked.lines start place
+    → AreRunsTo asked exec start place first runs → AreSomeRunsTo asked exec start (place + 1) first runs
+some_same asked exec start place first runs behind so_far = record {
+  done = task_runs asked.lines asked.shards exec (begun_between asked.lines start place);
+  left = [];
+  are = so_far.are;
+  whole = append-nil (task_runs asked.lines asked.shards exec (begun_between asked.lines start place)) ∙ ap (λ (qs : List Asked). task_runs asked.lines asked.shards exec qs) (sym behind);
+}
+
+front_of_range : (f : ℕ → Run) (a count shards : ℕ) → count ≤ shards → (left : List Run) × (map f (range_with_len a count) ++ left ≡ map f (range_with_len a shards))
+front_of_range f a zero shards within = (map f (range_with_len a shards), refl)
+front_of_range f a (suc count) zero within = absurd (omega (arith, within))
+front_of_range f a (suc count) (suc shards) within =
+    let rest = front_of_range f (a + 1) count shards (omega (arith, within)) in
+    (rest.0, ap (λ (l : List Run). f a ∷ l) rest.1)
+
+-- Some of the next query's runs came, those of its first shards.
+pub some_more : (asked : Asking) (exec : ExecId) (start place count : ℕ) (query : Asked) (first old new : List Run)
+    → begun_between asked.lines start (place + 1) ≡ begun_between asked.lines start place ++ query ∷ [] → count ≤ asked.shards
+    → new ≡ old ++ map (task_run asked.lines asked.shards exec query) (range_with_len 0 count) → AreRunsTo asked exec start place first old → AreSomeRunsTo asked exec start (place + 1) first new
+some_more asked exec start place count query first old new behind within is so_far =
+    let before : List Run = task_runs asked.lines asked.shards exec (begun_between asked.lines start place) in
+    let some : List Run = map (task_run asked.lines asked.shards exec query) (range_with_len 0 count) in
+    let rest = front_of_range (task_run asked.lines asked.shards exec query) 0 count asked.shards within in
+    record {
+      done = before ++ some;
+      left = rest.0;
+      are = is ∙ (ap (λ (l : List Run). l ++ some) so_far.are ∙ append_assoc first before some);
+      whole = append_assoc before some rest.0 ∙ (ap (λ (l : List Run). before ++ l) rest.1
+          ∙ (flat_map_more (runs_of asked exec) [] (begun_between asked.lines start place) query
+          ∙ ap (λ (qs : List Asked). task_runs asked.lines asked.shards exec qs) (sym behind)));
+    }
+
+take_front : {X : Type 0} (xs : List X) (m n : ℕ) → m ≤ n → (rest : List X) × (take m xs ++ rest ≡ take n xs)
+take_front xs zero n within = (take n xs, refl)
+take_front xs (suc m) zero within = absurd (omega (arith, within))
+take_front [] (suc m) (suc n) within = ([], refl)
+take_front {X} (x ∷ xs) (suc m) (suc n) within =
+    let rest = take_front xs m n (omega (arith, within)) in
+    (rest.0, ap (λ (l : List X). x ∷ l) rest.1)
+
+drop_front : {X : Type 0} (xs ys : List X) (k : ℕ) → (more : List X) × (drop k xs ++ more ≡ drop k (xs ++ ys))
+drop_front xs ys zero = (ys, refl)
+drop_front [] ys (suc k) = (drop (suc k) ys, refl)
+drop_front (x ∷ xs) ys (suc k) = drop_front xs ys k
+
+-- the queries that are begun before a later place are those before an earlier one, and more
+between_front : (lines : List Line) (start m n : ℕ) → m ≤ n → (more : List Asked) × (begun_between lines start m ++ more ≡ begun_between lines start n)
+between_front lines start m n within =
+    let comings : List Coming = comings_of lines in
+    let taken = take_front comings m n within in
+    let dropped = drop_front (take m comings) taken.0 start in (
+      begun_in dropped.0,
+      sym (filter_map-append begun_by (drop start (take m comings)) dropped.0)
+          ∙ (ap (λ (l : List Coming). begun_in l) dropped.1 ∙ ap (λ (l : List Coming). begun_in (drop start l)) taken.1),
+    )
+
+-- some of those to one place are some of those to a later one
+pub some_to : (asked : Asking) (exec : ExecId) (start m n : ℕ) (first runs : List Run) → m ≤ n → AreSomeRunsTo asked exec start m first runs → AreSomeRunsTo asked exec start n first runs
+some_to asked exec start m n first runs within some =
+    let more = between_front asked.lines start m n within in
+    let others : List Run = task_runs asked.lines asked.shards exec more.0 in
+    record {
+      done = some.done;
+      left = some.left ++ others;
+      are = some.are;
+      whole = sym (append_assoc some.done some.left others)
+          ∙ (ap (λ (l : List Run). l ++ others) some.whole
+          ∙ (sym (flat_map-append (runs_of asked exec) (begun_between asked.lines start m) more.0)
+          ∙ ap (λ (qs : List Asked). task_runs asked.lines asked.shards exec qs) more.1));
+    }
+
+-- what some of all are holds of the same list by another name
+pub some_of : (first all other runs : List Run) → all ≡ other → AreSomeOf first all runs → AreSomeOf first other runs
+some_of first all other runs same some = subst (λ (l : List Run). AreSomeOf first l runs) same some
+
+pub on_err : {T E P : Type 0} (r : Result T E) → P → OnErr r P
+on_err (Ok x) p = tt
+on_err (Err e) p = p
+
+pub on_err_weaker : {T E P Q : Type 0} (r : Result T E) → (P → Q) → OnErr r P → OnErr r Q
+on_err_weaker (Ok x) f p = tt
+on_err_weaker (Err e) f p = f p
 
 pub added_runs : (old more new : List Add) (runs : List Run) → new ≡ old ++ more → map run_of_add more ≡ runs → map run_of_add new ≡ map run_of_add old ++ runs
 added_runs old more new runs is are = ap (map run_of_add) is ∙ (map-append run_of_add old more ∙ ap (λ (l : List Run). map run_of_add old ++ l) are)

@@ -17,6 +17,17 @@ module _ {N : Type 0} where
     pub countable : IsCountable asked
     pub printer : front.printer.exec ≡ printer_exec asked.bases
 
+-- Behind these first runs come the first of those, and nothing else.
+pub record AreSomeOf (first all runs : List Run) : Type 0 where
+  pub done : List Run
+  pub left : List Run
+  pub are : runs ≡ first ++ done
+  pub whole : done ++ left ≡ all
+
 -- Behind these first runs come those of the queries that are begun from one place on, and before another.
 pub record AreRunsTo (asked : Asking) (exec : ExecId) (start place : ℕ) (first runs : List Run) : Type 0 where
   pub are : runs ≡ first ++ task_runs asked.lines asked.shards exec (begun_between asked.lines start place)
+
+-- behind these first runs come the first of them, and nothing else
+abbrev pub AreSomeRunsTo : Asking → ExecId → ℕ → ℕ → List Run → List Run → Type 0
+AreSomeRunsTo asked exec start place first runs = AreSomeOf first (task_runs asked.lines asked.shards exec (begun_between asked.lines start place)) runs

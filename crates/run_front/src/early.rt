@@ -1,4 +1,4 @@
-ghost use Rattle.std.specs.Prelude.{◌≡◌, ◌+◌, ◌<◌, ◌≤◌, [], ℕ, List, OnOk, length, map, take, drop};
+ghost use Rattle.std.specs.Prelude.{◌≡◌, ◌+◌, ◌<◌, ◌≤◌, [], ℕ, List, OnErr, OnOk, length, map, take, drop};
 ghost use Rattle.fan_model.specs.Comings.{comings_of};
 ghost use Rattle.fan_model.specs.Tasks.{Run, pool_exec, task_runs};
 ghost use Rattle.fan_parts.specs.declared.jobs.PrintJob.{PrintJob};
@@ -9,7 +9,7 @@ ghost use Rattle.query_tasks.specs.Starting.{HasHelped};
 ghost use Rattle.run_notes.specs.Told.{run_of_add};
 ghost use Rattle.run_plan.specs.Turns.{AreTurnsOf, begun_in};
 ghost use Rattle.run_tasks.specs.Worlds.{told_of};
-ghost use Rattle.run_front.specs.Fronts.{AreRunsTo, IsFrontOf};
+ghost use Rattle.run_front.specs.Fronts.{AreRunsTo, AreSomeOf, AreSomeRunsTo, IsFrontOf};
 ghost use Rattle.run_front.specs.Posted.{HasPosted};
 ghost use Rattle.run_desks.specs.Turns.{IsTurnAt};
 
@@ -28,7 +28,7 @@ use run_plan::{BegunQuery, Turn};
 use std::sync::Wait;
 
 /// The turns before a place, all of whose queries are early: their tasks are added to the pool, which has three queues. It ends at the first
-/// turn that finds no memory.
+/// turn that finds no memory: no task behind it is added.
 pub fn early_turns<'c, 't, 'i: 't, N: RunName + 'static, G: Gate, R: Wait>(
     rt: &R,
     front: &mut Front<'c, 't, 'i, N>,
@@ -48,10 +48,12 @@ pub fn early_turns<'c, 't, 'i: 't, N: RunName + 'static, G: Gate, R: Wait>(
     requires queues { length pool.now.id.queues ≡ 3 }
     requires keep { keep.now.count ≡ pool.now.count }
     requires adder { adder.old.pool ≡ pool.now.id }
-    requires room { adds_of adder.old ≡ [] }
+    requires unused { adds_of adder.old ≡ [] }
     requires helper { helper.old.pool ≡ pool.now.id }
     ensures added { OnOk result (map run_of_add (adds_of adder.new)
         ≡ task_runs N.asked.lines N.asked.shards pool_exec (begun_in (take end (comings_of N.asked.lines)))) }
+    ensures some { OnErr result (AreSomeOf [] (task_runs N.asked.lines N.asked.shards pool_exec
+        (begun_in (take end (comings_of N.asked.lines)))) (map run_of_add (adds_of adder.new))) }
     ensures adder { (adder.new.pool ≡ adder.old.pool) × (adder.new.number ≡ adder.old.number) }
     ensures helped { HasHelped front.old.world helper.old front.new.world helper.new }
     ensures front { IsFrontOf N.asked front.new }
@@ -98,6 +100,8 @@ fn early_turn<'c, 't, 'i: 't, N: RunName + 'static, G: Gate, R: Wait>(
     requires helper { helper.old.pool ≡ pool.now.id }
     ensures added { (first : List Run) → AreRunsTo N.asked pool_exec 0 place first (map run_of_add (adds_of adder.old))
         → OnOk result (AreRunsTo N.asked pool_exec 0 (place + 1) first (map run_of_add (adds_of adder.new))) }
+    ensures some { (first : List Run) → AreRunsTo N.asked pool_exec 0 place first (map run_of_add (adds_of adder.old))
+        → OnErr result (AreSomeRunsTo N.asked pool_exec 0 (place + 1) first (map run_of_add (adds_of adder.new))) }
     ensures few { OnOk result (length (adds_of adder.new) ≤ length (adds_of adder.old) + 64) }
     ensures adder { (adder.new.pool ≡ adder.old.pool) × (adder.new.number ≡ adder.old.number) }
     ensures helped { HasHelped front.old.world helper.old front.new.world helper.new }
@@ -135,6 +139,8 @@ fn early_query<'c, 't, 'i: 't, N: RunName + 'static, G: Gate, R: Wait>(
     requires helper { helper.old.pool ≡ pool.now.id }
     ensures added { (first : List Run) → AreRunsTo N.asked pool_exec 0 place first (map run_of_add (adds_of adder.old))
         → OnOk result (AreRunsTo N.asked pool_exec 0 (place + 1) first (map run_of_add (adds_of adder.new))) }
+    ensures some { (first : List Run) → AreRunsTo N.asked pool_exec 0 place first (map run_of_add (adds_of adder.old))
+        → OnErr result (AreSomeRunsTo N.asked pool_exec 0 (place + 1) first (map run_of_add (adds_of adder.new))) }
     ensures few { OnOk result (length (adds_of adder.new) ≤ length (adds_of adder.old) + 64) }
     ensures adder { (adder.new.pool ≡ adder.old.pool) × (adder.new.number ≡ adder.old.number) }
     ensures helped { HasHelped front.old.world helper.old front.new.world helper.new }

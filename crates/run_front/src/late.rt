@@ -1,4 +1,4 @@
-ghost use Rattle.std.specs.Prelude.{◌≡◌, ◌+◌, ◌≤◌, ◌++◌, List, ℕ, false, OnOk, length, map, drop};
+ghost use Rattle.std.specs.Prelude.{◌≡◌, ◌+◌, ◌≤◌, ◌++◌, List, ℕ, false, OnErr, OnOk, length, map, drop};
 ghost use Rattle.fan_model.specs.Comings.{comings_of};
 ghost use Rattle.fan_model.specs.Tasks.{Run, front_exec, task_runs};
 ghost use Rattle.fan_parts.specs.declared.jobs.PrintJob.{PrintJob};
@@ -7,7 +7,7 @@ ghost use Rattle.query_opening.specs.Turns.{IsBegun};
 ghost use Rattle.run_notes.specs.Told.{run_of_direct};
 ghost use Rattle.run_plan.specs.Turns.{AreTurnsOf, begun_in};
 ghost use Rattle.run_tasks.specs.Worlds.{Follows, told_of};
-ghost use Rattle.run_front.specs.Fronts.{AreRunsTo, IsFrontOf};
+ghost use Rattle.run_front.specs.Fronts.{AreRunsTo, AreSomeOf, AreSomeRunsTo, IsFrontOf};
 ghost use Rattle.run_front.specs.Posted.{HasPosted};
 ghost use Rattle.run_desks.specs.Turns.{IsTurnAt};
 
@@ -26,7 +26,7 @@ use run_plan::{BegunQuery, Turn};
 use std::sync::Wait;
 
 /// The turns from a place on, all of whose queries are late: their tasks run here, one after another. It ends at the first turn that finds no
-/// memory.
+/// memory: no task behind it is run.
 pub fn late_turns<'c, 't, 'i: 't, N: RunName + 'static, R: Wait>(
     rt: &R,
     front: &mut Front<'c, 't, 'i, N>,
@@ -40,6 +40,8 @@ pub fn late_turns<'c, 't, 'i: 't, N: RunName + 'static, R: Wait>(
     requires front { IsFrontOf N.asked front.old }
     ensures direct { OnOk result (front.new.world.refused ≡ false → map run_of_direct direct.new ≡ map run_of_direct direct.old
         ++ task_runs N.asked.lines N.asked.shards (front_exec N.asked.bases) (begun_in (drop start (comings_of N.asked.lines)))) }
+    ensures some { OnErr result (front.new.world.refused ≡ false → AreSomeOf (map run_of_direct direct.old)
+        (task_runs N.asked.lines N.asked.shards (front_exec N.asked.bases) (begun_in (drop start (comings_of N.asked.lines)))) (map run_of_direct direct.new)) }
     ensures follows { Follows front.old.world front.new.world }
     ensures front { IsFrontOf N.asked front.new }
     ensures printer { told_of front.new.printer ≡ told_of front.old.printer }
@@ -68,6 +70,10 @@ fn late_turn<'c, 't, 'i: 't, N: RunName + 'static, R: Wait>(
         AreRunsTo N.asked (front_exec N.asked.bases) start place first (map run_of_direct direct.old) →
         OnOk result (front.new.world.refused ≡ false
         → AreRunsTo N.asked (front_exec N.asked.bases) start (place + 1) first (map run_of_direct direct.new)) }
+    ensures some { (start : ℕ) (first : List Run) → start ≤ place →
+        AreRunsTo N.asked (front_exec N.asked.bases) start place first (map run_of_direct direct.old) →
+        OnErr result (front.new.world.refused ≡ false
+        → AreSomeRunsTo N.asked (front_exec N.asked.bases) start (place + 1) first (map run_of_direct direct.new)) }
     ensures follows { Follows front.old.world front.new.world }
     ensures front { IsFrontOf N.asked front.new }
     ensures printer { told_of front.new.printer ≡ told_of front.old.printer }
@@ -95,6 +101,10 @@ fn late_query<'c, 't, 'i: 't, N: RunName + 'static, R: Wait>(
         AreRunsTo N.asked (front_exec N.asked.bases) start place first (map run_of_direct direct.old) →
         OnOk result (front.new.world.refused ≡ false
         → AreRunsTo N.asked (front_exec N.asked.bases) start (place + 1) first (map run_of_direct direct.new)) }
+    ensures some { (start : ℕ) (first : List Run) → start ≤ place →
+        AreRunsTo N.asked (front_exec N.asked.bases) start place first (map run_of_direct direct.old) →
+        OnErr result (front.new.world.refused ≡ false
+        → AreSomeRunsTo N.asked (front_exec N.asked.bases) start (place + 1) first (map run_of_direct direct.new)) }
     ensures follows { Follows front.old.world front.new.world }
     ensures front { IsFrontOf N.asked front.new }
     ensures printer { told_of front.new.printer ≡ told_of front.old.printer }

@@ -1,5 +1,5 @@
 -- The runs of a pool that has ended, and of what came behind its stop.
-use Rattle.std.proofs.Common.{◌≡◌, ℕ, List, [], ◌∷◌, ◌++◌, Bool, false, length, map, drop, refl, sym, ap, ◌∙◌, subst, length-append, arith}
+use Rattle.std.proofs.Common.{◌≡◌, ℕ, List, [], ◌∷◌, ◌++◌, Bool, false, length, map, drop, append-nil, refl, sym, ap, ◌∙◌, subst, length-append, arith}
 use Rattle.std.specs.Prelude.{Option, Some, None}
 use Rattle.std.specs.List.{sum_by}
 use Rattle.std.proofs.lemmas.List.{length-map}
@@ -17,6 +17,7 @@ use Rattle.run_notes.specs.declared.ending.PoolNotes.{PoolNotes}
 use Rattle.run_notes.specs.Told.{run_of, run_of_add, run_of_direct, told_of}
 use Rattle.run_plan.specs.declared.turn.Turn.{Turn}
 use Rattle.run_plan.specs.Turns.{begun_in}
+use Rattle.run_front.specs.Fronts.{AreSomeOf}
 use Rattle.run_phases.specs.Phases.{StopsAt}
 
 pub early_are : (asked : Asking) (queries : List Asked) → queries ≡ early_of asked.stop_at (answered_in asked.lines) → task_runs asked.lines asked.shards pool_exec queries ≡ early_runs asked.lines asked.shards asked.stop_at
@@ -59,3 +60,31 @@ pub is_unstopped : (asked : Asking) (turns : List Turn) (stop : Option ℕ) → 
 is_unstopped asked turns stop stops none =
     let at : StopsAt asked turns None = subst (λ (s : Option ℕ). StopsAt asked turns s) none stops in
     at.stopped
+
+-- all of them are some of them, and so are none
+pub some_all : (all runs : List Run) → runs ≡ all → AreSomeOf [] all runs
+some_all all runs are = record { done = runs; left = []; are = refl; whole = append-nil runs ∙ are }
+
+pub some_none : (all runs : List Run) → runs ≡ [] → AreSomeOf [] all runs
+some_none all runs none = record { done = []; left = all; are = none; whole = refl }
+
+pub none_ran : (asked : Asking) (direct : List DirectSeen) → direct ≡ [] → AreSomeOf [] (late_runs asked.lines asked.shards asked.bases asked.stop_at) (map run_of_direct direct)
+none_ran asked direct none = some_none _ _ (ap (map run_of_direct) none)
+
+pub early_some : (asked : Asking) (queries : List Asked) (runs : List Run) → queries ≡ early_of asked.stop_at (answered_in asked.lines) → AreSomeOf [] (task_runs asked.lines asked.shards pool_exec queries) runs
+    → AreSomeOf [] (early_runs asked.lines asked.shards asked.stop_at) runs
+early_some asked queries runs is some = subst (λ (l : List Run). AreSomeOf [] l runs) (early_are asked queries is) some
+
+-- where the late turns end before the last one, some of the late runs came
+pub late_front : (asked : Asking) (turns : List Turn) (stop : Option ℕ) (place : ℕ) (old new : List DirectSeen) → StopsAt asked turns stop → stop ≡ Some place → old ≡ []
+    → AreSomeOf (map run_of_direct old) (task_runs asked.lines asked.shards (front_exec asked.bases) (begun_in (drop place (comings_of asked.lines)))) (map run_of_direct new)
+    → AreSomeOf [] (late_runs asked.lines asked.shards asked.bases asked.stop_at) (map run_of_direct new)
+late_front asked turns stop place old new stops is none some =
+    let at : StopsAt asked turns (Some place) = subst (λ (s : Option ℕ). StopsAt asked turns s) is stops in
+    let late = late_are asked _ at.0.late in
+    record {
+      done = some.done;
+      left = some.left;
+      are = some.are ∙ ap (λ (l : List DirectSeen). map run_of_direct l ++ some.done) none;
+      whole = some.whole ∙ late;
+    }

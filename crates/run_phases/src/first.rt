@@ -1,4 +1,4 @@
-ghost use Rattle.std.specs.Prelude.{◌≡◌, ◌≤◌, ℕ, List, Some, false, length, take};
+ghost use Rattle.std.specs.Prelude.{◌≡◌, ◌≤◌, ℕ, List, [], false, length, take};
 ghost use Rattle.fan_model.specs.Answered.{answered_in, early_of, is_stopped};
 ghost use Rattle.fan_model.specs.Comings.{comings_of};
 ghost use Rattle.fan_model.specs.Tasks.{early_runs, pool_exec};
@@ -7,7 +7,7 @@ ghost use Rattle.front_walk.specs.Following.{IsInput};
 ghost use Rattle.pool_model.specs.Passes.{AreAllPasses};
 ghost use Rattle.query_tasks.specs.Ends.{is_stop, seen_of};
 ghost use Rattle.query_tasks.specs.Starting.{HasHelped};
-ghost use Rattle.run_front.specs.Fronts.{IsFrontOf};
+ghost use Rattle.run_front.specs.Fronts.{AreSomeOf, IsFrontOf};
 ghost use Rattle.run_front.specs.Posted.{HasPosted};
 ghost use Rattle.run_notes.specs.Accounts.{runs_added};
 ghost use Rattle.run_plan.specs.Turns.{AreTurnsOf, begun_in};
@@ -43,7 +43,7 @@ pub struct FrontMid<'c, 't, 'i: 't, N: RunName> {
 }
 
 /// Adds the tasks of all early queries to the pool, in the order of answers, and begins the pool's end. `stop` is the place behind which the
-/// pool is stopped; without it the pool is joined. Where memory runs out the end begins earlier.
+/// pool is stopped; without it the pool is joined. Where memory runs out the end begins earlier, and only the tasks before that were added.
 pub fn first_phase<'c, 't, 'i: 't, N: RunName + 'static, G: Gate, R: Wait>(
     rt: &R,
     pool: &TaskPool<'t, 'i, N>,
@@ -63,6 +63,7 @@ pub fn first_phase<'c, 't, 'i: 't, N: RunName + 'static, G: Gate, R: Wait>(
     requires one { pool.now.adders ≡ 1 }
     requires helper { start.helper.pool ≡ pool.now.id }
     ensures added { result.refused ≡ false → runs_added (seen_of result.ending).passes ≡ early_runs N.asked.lines N.asked.shards N.asked.stop_at }
+    ensures some { AreSomeOf [] (early_runs N.asked.lines N.asked.shards N.asked.stop_at) (runs_added (seen_of result.ending).passes) }
     ensures pool { (seen_of result.ending).pool ≡ pool.now.id }
     ensures passes { AreAllPasses pool.now.id pool.now.adders (seen_of result.ending).passes }
     ensures stops { is_stop result.ending ≡ is_stopped N.asked.stop_at (answered_in N.asked.lines) }
@@ -112,7 +113,6 @@ fn early_end<N: RunName>(turns: &[Turn], stop: Option<usize>) -> usize
     requires stop { StopsAt N.asked turns.now stop }
     ensures within { result ≤ length turns.now }
     ensures early { begun_in (take result (comings_of N.asked.lines)) ≡ early_of N.asked.stop_at (answered_in N.asked.lines) }
-    ensures place { (place : ℕ) → stop ≡ Some place → result ≡ place }
     ensures at { result ≡ early_place stop turns.now }
 {
     place_by_place();

@@ -8,7 +8,7 @@ ghost use Rattle.fan_parts.specs.declared.jobs.PrintJob.{PrintJob};
 ghost use Rattle.front_walk.specs.Following.{IsInput};
 ghost use Rattle.pool_model.specs.Passes.{AreAllEnds, AreAllPasses};
 ghost use Rattle.query_tasks.specs.Ends.{is_stop, seen_of};
-ghost use Rattle.run_front.specs.Fronts.{IsFrontOf};
+ghost use Rattle.run_front.specs.Fronts.{AreSomeOf, IsFrontOf};
 ghost use Rattle.run_front.specs.Posted.{HasPosted, cancelled_from};
 ghost use Rattle.run_notes.specs.Accounts.{AllDone, runs_added};
 ghost use Rattle.run_notes.specs.Told.{run_of_direct, told_of as told_by};
@@ -59,6 +59,8 @@ pub fn second_phase<'c, 't, 'i: 't, N: RunName + 'static, R: Wait>(
     requires added { mid.refused ≡ false → runs_added (seen_of mid.ending).passes ≡ early_runs N.asked.lines N.asked.shards N.asked.stop_at }
     requires stops { is_stop mid.ending ≡ is_stopped N.asked.stop_at (answered_in N.asked.lines) }
     ensures report { result.refused ≡ false → result.ends.tasks.refused ≡ false → AllDone (ends.entry.items ++ mid.entry.helper ∷ []) → IsPoolReport N.asked (told_by result.note) }
+    ensures late { result.ends.tasks.refused ≡ false →
+        AreSomeOf [] (late_runs N.asked.lines N.asked.shards N.asked.bases N.asked.stop_at) (map run_of_direct result.note.direct) }
     ensures refused { result.ends.tasks.refused ≡ false → mid.entry.front.world.refused ≡ false }
     ensures posters { AreEndsFor (map told_of mid.entry.front.world.posters) result.ends.tasks.posters.items }
     ensures pass { StaysPass mid.entry.front.world.pass result.ends.tasks.pass }
@@ -111,6 +113,8 @@ fn turns_behind<'c, 't, 'i: 't, N: RunName + 'static, R: Wait>(
     requires none { direct.old ≡ [] }
     ensures fine { OnTrue result (refused ≡ false) }
     ensures direct { OnTrue result (front.new.world.refused ≡ false → map run_of_direct direct.new ≡ late_runs N.asked.lines N.asked.shards N.asked.bases N.asked.stop_at) }
+    ensures some { front.new.world.refused ≡ false →
+        AreSomeOf [] (late_runs N.asked.lines N.asked.shards N.asked.bases N.asked.stop_at) (map run_of_direct direct.new) }
     ensures follows { Follows front.old.world front.new.world }
     ensures printer { told_of front.new.printer ≡ told_of front.old.printer }
     ensures posted { (place : ℕ) (first : List (PrintJob N)) → stop ≡ Some place → HasPosted N.asked place first front.old.printer →

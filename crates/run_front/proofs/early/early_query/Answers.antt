@@ -9,7 +9,7 @@ use Rattle.pool_model.specs.Passes.{adds_of}
 use Rattle.prio_pool.specs.Priority.{queue_in}
 use Rattle.query_tasks.specs.Starting.{adds_for}
 use Rattle.run_notes.specs.Told.{run_of_add}
-use Rattle.run_front.proofs.Running.{added_few, added_runs, queue_is, runs_more}
+use Rattle.run_front.proofs.Running.{added_few, added_runs, on_err_weaker, queue_is, runs_more, some_more}
 use Rattle.run_front.proofs.Posting.{posted_begun}
 use Rattle.run_front.proofs.Running.{on_ok}
 use Rattle.run_front.proofs.early.early_query.Goals as goal
@@ -56,6 +56,33 @@ returns-clause-added g c = λ first so_far.
     on_ok_weaker c.start_tasks.result (λ has.
     runs_more asked pool_exec 0 c.args.place b.query first _ _ (c.place_by_place.ensures.begun asked.lines 0 c.args.place b.query b.comes (omega arith))
     (added_runs (adds_of c.args.adder.now) (adds_for asked ask at shards) (adds_of c.start_tasks.new.adder) _ has.adds runs) so_far) c.start_tasks.ensures.added
+
+pub returns-clause-some : goal.returns-clause-some
+returns-clause-some g c = λ first so_far.
+    let asked = g.N.RunName.asked in
+    let b = c.requires.begun in
+    let ask = c.numbered_ask-ask.result in
+    let is_ask : IsAskOf asked ask.number ask.asks ask.before = c.number-number.ensures.is_ask in
+    let here : ask.number ≡ c.args.query.number = c.numbered_ask-ask.ensures.number_is in
+    let same : is_ask.query ≡ b.query =
+    c.begun_query_is_asked.ensures.same c.args.place c.args.query.number c.args.query.line c.args.query.documents b ask is_ask here in
+    let prio : c.prio_at.result ≡ b.query.query.prio =
+    c.prio_at.ensures b.query.query
+    (c.alike_lines_ask_the_same.ensures.at asked.lines c.args.front.now.lines.now c.args.query.line b.query.query (record { same = sym c.requires.front.lines.same })
+    (c.begun_query_is_asked.ensures.line c.args.place c.args.query.number c.args.query.line c.args.query.documents b)) in
+    let at : ℕ = queue_in c.args.pool.now.id (to_z w8 (of_z w8 c.priority_of-priority.result)) in
+    let queue : at ≡ queue_of is_ask.query.query.prio =
+    queue_is _ c.prio_at.result is_ask.query.query.prio c.priority_of-priority.result c.requires.queues c.priority_of-priority.ensures
+    (prio ∙ ap (λ (q : Asked). q.query.prio) (sym same)) in
+    on_err_weaker c.start_tasks.result (λ has.
+    let runs : map run_of_add (adds_for asked ask at has.count)
+    ≡ map (task_run asked.lines asked.shards pool_exec b.query) (range_with_len 0 has.count) =
+    ap (λ (k : ℕ). map run_of_add (adds_for asked ask k has.count)) queue
+    ∙ (c.tasks_are_runs.ensures.added asked ask is_ask has.count
+    ∙ ap (λ (q : Asked). map (task_run asked.lines asked.shards pool_exec q) (range_with_len 0 has.count)) same) in
+    let few : has.count ≤ asked.shards = let shards : c.args.front.now.shards ≡ asked.shards = c.requires.front.shards in omega (arith, has.within, shards) in
+    some_more asked pool_exec 0 c.args.place has.count b.query first _ _ (c.place_by_place.ensures.begun asked.lines 0 c.args.place b.query b.comes (omega arith)) few
+    (added_runs (adds_of c.args.adder.now) (adds_for asked ask at has.count) (adds_of c.start_tasks.new.adder) _ has.added.adds runs) so_far) c.start_tasks.ensures.some
 
 pub returns-clause-few : goal.returns-clause-few
 returns-clause-few g c =

@@ -1,9 +1,21 @@
-use Rattle.std.proofs.Common.{[], ◌∙◌, arith}
+use Rattle.std.proofs.Common.{List, [], ◌+◌, map, ap, ◌∙◌, arith}
+use Rattle.query_model.specs.Order.{Asked}
+use Rattle.fan_model.specs.Tasks.{pool_exec, task_runs}
+use Rattle.pool_model.specs.Passes.{adds_of}
+use Rattle.run_notes.specs.Told.{run_of_add}
 use Rattle.run_front.proofs.Helping.{helped_on}
+use Rattle.run_front.proofs.Running.{on_err, some_of, some_to}
 use Rattle.run_front.proofs.early.early_turns.Goals as goal
 
 pub returns-in_err-early_turn-clause-helped : goal.returns-in_err-early_turn-clause-helped
 returns-in_err-early_turn-clause-helped g c = helped_on _ _ _ _ _ _ c.loop-place.invariant.helped c.early_turn.ensures.helped
+
+pub returns-in_err-early_turn-clause-some : goal.returns-in_err-early_turn-clause-some
+returns-in_err-early_turn-clause-some g c =
+    let asked = g.N.RunName.asked in
+    let some = c.in_err-early_turn.ensures.some [] c.loop-place.invariant.runs in
+    let all = some_to asked pool_exec 0 (c.loop-place.place + 1) c.args.end [] (map run_of_add (adds_of c.early_turn.new.adder)) (omega arith) some in
+    on_err c.from_residual.result (some_of [] _ _ _ (ap (λ (qs : List Asked). task_runs asked.lines asked.shards pool_exec qs) (c.place_by_place.ensures.before asked.lines c.args.end)) all)
 
 pub loop-place-preserved : goal.loop-place-preserved
 loop-place-preserved g c =

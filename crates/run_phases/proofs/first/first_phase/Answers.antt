@@ -1,7 +1,9 @@
-use Rattle.std.proofs.Common.{ℕ, sym, ◌∙◌, subst, true≢false}
+use Rattle.std.proofs.Common.{ℕ, List, [], refl, sym, ◌∙◌, subst, true≢false}
+use Rattle.fan_model.specs.Tasks.{Run, early_runs}
+use Rattle.run_front.specs.Fronts.{AreSomeOf}
 use Rattle.run_front.specs.Posted.{HasPosted}
 use Rattle.run_phases.proofs.Adders.{runs_of_one, set_first}
-use Rattle.run_phases.proofs.Runs.{early_are}
+use Rattle.run_phases.proofs.Runs.{early_are, early_some, some_all}
 use Rattle.run_phases.proofs.first.first_phase.Goals.{in-Ok, in-Err}
 use Rattle.run_phases.proofs.first.first_phase.Goals as goal
 
@@ -9,6 +11,14 @@ pub returns-clause-added : goal.returns-clause-added
 returns-clause-added g c = elim c.match-added.branch [
   | in-Ok w ↦ λ _. runs_of_one _ _ _ (c.begin_end-ending.ensures.begun.passes_are ∙ set_first _ _ _ c.requires.adders.is) (w.in-Ok.ensures.added ∙ early_are g.N.RunName.asked _ c.early_end-end.ensures.early)
   | in-Err w ↦ λ e. absurd (true≢false (sym w.refused-is ∙ e))
+]
+
+pub returns-clause-some : goal.returns-clause-some
+returns-clause-some g c = elim c.match-added.branch [
+  | in-Ok w ↦ some_all _ _ (runs_of_one _ _ _ (c.begin_end-ending.ensures.begun.passes_are ∙ set_first _ _ _ c.requires.adders.is) (w.in-Ok.ensures.added ∙ early_are g.N.RunName.asked _ c.early_end-end.ensures.early))
+  | in-Err w ↦ subst (λ (l : List Run). AreSomeOf [] (early_runs g.N.RunName.asked.lines g.N.RunName.asked.shards g.N.RunName.asked.stop_at) l)
+      (sym (runs_of_one _ _ _ (c.begin_end-ending.ensures.begun.passes_are ∙ set_first _ _ _ c.requires.adders.is) refl))
+      (early_some g.N.RunName.asked _ _ c.early_end-end.ensures.early w.in-Err.ensures.some)
 ]
 
 pub returns-clause-posted : goal.returns-clause-posted

@@ -28,6 +28,9 @@ returns-clause-report g c fine tasks done = elim c.if-missed.branch [
       report_is g.N.RunName.asked _ c.end_pool-accepted.result _ _ accounts (c.requires.added unrefused) late c.end_pool-accepted.ensures.stopped c.requires.stops (λ none. (c.end_pool-accepted.ensures.joined none).0)
 ]
 
+pub returns-clause-late : goal.returns-clause-late
+returns-clause-late g c tasks = c.turns_behind-done.ensures.some (sym c.end-2.ensures.refused ∙ tasks)
+
 not_not : (b : Bool) → not (not b) ≡ b
 not_not true = refl
 not_not false = refl

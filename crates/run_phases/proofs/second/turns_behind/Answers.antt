@@ -1,4 +1,4 @@
-use Rattle.run_phases.proofs.Runs.{late_none, late_some}
+use Rattle.run_phases.proofs.Runs.{late_front, late_none, late_some, none_ran, some_all}
 use Rattle.run_phases.proofs.second.turns_behind.Goals as goal
 
 pub returns-in_default-clause-direct : goal.returns-in_default-clause-direct
@@ -6,3 +6,15 @@ returns-in_default-clause-direct g c down = late_none g.N.RunName.asked c.args.t
 
 pub returns-in-Ok-clause-direct : goal.returns-in-Ok-clause-direct
 returns-in-Ok-clause-direct g c down = late_some g.N.RunName.asked c.args.turns.now c.args.stop c.in-Some.place c.args.direct.now c.late_turns.new.direct c.requires.stop c.in-Some.is c.requires.none (c.in-Ok.ensures.direct down)
+
+pub returns-then-refused-clause-some : goal.returns-then-refused-clause-some
+returns-then-refused-clause-some g c down = none_ran g.N.RunName.asked c.args.direct.now c.requires.none
+
+pub returns-in_default-clause-some : goal.returns-in_default-clause-some
+returns-in_default-clause-some g c down = none_ran g.N.RunName.asked c.args.direct.now c.requires.none
+
+pub returns-in-Ok-clause-some : goal.returns-in-Ok-clause-some
+returns-in-Ok-clause-some g c down = some_all _ _ (late_some g.N.RunName.asked c.args.turns.now c.args.stop c.in-Some.place c.args.direct.now c.late_turns.new.direct c.requires.stop c.in-Some.is c.requires.none (c.in-Ok.ensures.direct down))
+
+pub returns-in-Err-clause-some : goal.returns-in-Err-clause-some
+returns-in-Err-clause-some g c down = late_front g.N.RunName.asked c.args.turns.now c.args.stop c.in-Some.place c.args.direct.now c.late_turns.new.direct c.requires.stop c.in-Some.is c.requires.none (c.in-Err.ensures.some down)
