@@ -1,5 +1,5 @@
 -- What was counted, and what a run has to count.
-use Rattle.std.proofs.Common.{◌≡◌, ℕ, Bool, true, false, List, length, map, ap, ◌∙◌, subst}
+use Rattle.std.proofs.Common.{◌≡◌, ℕ, Bool, true, List, length, map, ap, sym, ◌∙◌, subst}
 use Rattle.std.specs.Prelude.{Some}
 use Rattle.std.specs.Bool.{OnTrue}
 use Rattle.event_base.specs.Seen.{NoteSeen}
@@ -13,24 +13,35 @@ use Rattle.fan_model.specs.Tasks.{printer_exec}
 use Rattle.fan_model.specs.Totals.{Totals, core_totals, totals_by}
 use Rattle.run_notes.specs.declared.counting.Counted.{Counted}
 use Rattle.run_notes.specs.declared.notes.PoolNote.{PoolNote}
-use Rattle.run_notes.specs.Counting.{HasCounted, totals_of}
+use Rattle.run_notes.specs.Counting.{ArePutBy, HasCounted, totals_of}
 use Rattle.run_notes.specs.Told.{note_of, told_of}
 use Rattle.run_printing.specs.Ends.{IsWhole}
 use Rattle.run_ending.specs.declared.end.FanEnd.{FanEnd}
 use Rattle.run_ending.specs.Ends.{IsReported}
-
-pub on_true : (b : Bool) (P : Type 0) → P → OnTrue b P
-on_true true P p = p
-on_true false P p = tt
+use Rattle.fanout.specs.Closing.{DoAgree}
 
 pub held_true : (b : Bool) (P : Type 0) → b ≡ true → OnTrue b P → P
 held_true b P is on = subst (λ (x : Bool). OnTrue x P) is on
 
-pub cores_are : (asked : Asking) (counted : Counted) (shards : ℕ) (totals : Totals) → HasCounted asked.lines asked.bases counted → shards ≡ asked.shards → totals ≡ totals_by counted.answered counted.tops shards
-    → totals ≡ core_totals asked.lines asked.shards
+totals_are : (asked : Asking) (counted : Counted) (shards : ℕ) → HasCounted asked.lines asked.bases counted → shards ≡ asked.shards → totals_by counted.answered counted.tops shards ≡ core_totals asked.lines asked.shards
 unfolding core_totals
-cores_are asked counted shards totals counts as_many is =
-    is ∙ (ap (λ (n : ℕ). totals_by n counted.tops shards) counts.answered ∙ (ap (λ (n : ℕ). totals_by (length (answered_in asked.lines)) n shards) counts.tops ∙ ap (λ (n : ℕ). totals_by (length (answered_in asked.lines)) (tops_in (answered_in asked.lines)) n) as_many))
+totals_are asked counted shards counts as_many =
+    ap (λ (n : ℕ). totals_by n counted.tops shards) counts.answered ∙ (ap (λ (n : ℕ). totals_by (length (answered_in asked.lines)) n shards) counts.tops ∙ ap (λ (n : ℕ). totals_by (length (answered_in asked.lines)) (tops_in (answered_in asked.lines)) n) as_many)
+
+-- both comparisons agree
+pub both_agree : (asked : Asking) (counted : Counted) (shards : ℕ) (tally : Counts) (notes : List NoteSeen) → HasCounted asked.lines asked.bases counted → shards ≡ asked.shards
+    → totals_of tally ≡ totals_by counted.answered counted.tops shards → ArePutBy shards counted.by_base.items notes → DoAgree asked counted tally notes
+both_agree asked counted shards tally notes counts as_many cores puts = record {
+  cores = cores ∙ totals_are asked counted shards counts as_many;
+  puts = subst (λ (n : ℕ). ArePutBy n counted.by_base.items notes) as_many puts;
+}
+
+pub cores_of_both : (asked : Asking) (counted : Counted) (shards : ℕ) (tally : Counts) (notes : List NoteSeen) → HasCounted asked.lines asked.bases counted → shards ≡ asked.shards → DoAgree asked counted tally notes
+    → totals_of tally ≡ totals_by counted.answered counted.tops shards
+cores_of_both asked counted shards tally notes counts as_many both = both.cores ∙ sym (totals_are asked counted shards counts as_many)
+
+pub puts_of_both : (asked : Asking) (counted : Counted) (shards : ℕ) (tally : Counts) (notes : List NoteSeen) → shards ≡ asked.shards → DoAgree asked counted tally notes → ArePutBy shards counted.by_base.items notes
+puts_of_both asked counted shards tally notes as_many both = subst (λ (n : ℕ). ArePutBy n counted.by_base.items notes) (sym as_many) both.puts
 
 -- the printer's note is that of a queue that gave a message for each query
 pub printer_note : (asked : Asking) (n : NoteSeen) (counts : Counts) → IsWhole asked.lines (printer_exec asked.bases) n counts → length (replies_of asked.lines) ≡ length (queries_of asked.lines)

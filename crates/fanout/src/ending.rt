@@ -1,12 +1,9 @@
-ghost use Rattle.std.specs.Prelude.{◌≡◌};
-ghost use Rattle.std.specs.Bool.{OnTrue};
+ghost use Rattle.std.specs.Prelude.{◌≡◌, ◌↔◌, IsTrue};
 ghost use Rattle.fan_base.specs.Outside.{Shown};
-ghost use Rattle.fan_model.specs.Totals.{core_totals};
-ghost use Rattle.run_notes.specs.Counting.{ArePutBy, totals_of};
 ghost use Rattle.run_printing.specs.Ends.{HasPrinted};
 ghost use Rattle.run_setup.specs.Ids.{RunIds};
 ghost use Rattle.run_ending.specs.Ends.{IsEndOf};
-ghost use Rattle.fanout.specs.Closing.{IsReadyToClose};
+ghost use Rattle.fanout.specs.Closing.{DoAgree, IsReadyToClose};
 ghost use Rattle.fanout.specs.Plans.{IsPlanned};
 
 use crate::front::SideEnd;
@@ -91,8 +88,7 @@ fn agree<'l, 'g, N: RunName, G>(
     notes: &[QueueNote],
 ) -> bool
     requires plan { IsPlanned N.asked plan.now.lines.now plan.now.turns.now plan.now.counted.now plan.now.stop plan.now.knobs }
-    ensures cores { OnTrue result (totals_of tally.now ≡ core_totals N.asked.lines N.asked.shards) }
-    ensures puts { OnTrue result (ArePutBy N.asked.shards plan.now.counted.now.by_base.items notes.now) }
+    ensures { IsTrue result ↔ DoAgree N.asked plan.now.counted.now tally.now notes.now }
 {
     let shards = plan.shards.all().len() as u32;
     cores_agree(plan.counted, shards, tally) && puts_agree(plan.counted, shards, notes)

@@ -16,8 +16,7 @@ returns g c = λ start now printed.
     c.of_run.ensures.ends asked start now (closed.wrote start now printed queries)
     (λ fine done.
     let all = held_true _ _ fine c.is_fine-fine.ensures in
-    let agree = held_true _ _ all.0 c.agree-agrees.ensures.cores in
-    let puts = held_true _ _ all.0 c.agree-agrees.ensures.puts in
+    let agree = c.agree-agrees.ensures.0 all.0 in
     let queues = held_true _ _ all.1 c.list_notes-queues.ensures in
     let refused = sym closed.refused ∙ all.3 in
     let worlds = c.nothing_was_refused.ensures.worlds c.args.gatherers.items c.args.end.worlds.items c.args.end.left.ends.tasks refused in
@@ -25,5 +24,5 @@ returns g c = λ start now printed.
     let whole = subst (λ x. IsWhole asked.lines x result.print.queue result.print.tally) ready.all.printed.exec (closed.whole start now printed queries done) in
     reported asked _ c.args.end.left.note _ c.of_run.ensures.pool (ready.side.report all.2 front worlds) (c.of_run.ensures.queues ∙ queues)
     (c.notes_are_those_of_the_run.ensures asked.lines asked.shards asked.bases c.args.plan.now.counted.now result.notes.items result.print.queue c.requires.plan.counts
-    (subst (λ l. ArePutBy asked.shards c.args.plan.now.counted.now.by_base.items l) c.as_slice.ensures.value puts) (closed.emptied all.3) (printer_note asked result.print.queue result.print.tally whole many))
-    (ap totals_of c.of_run.ensures.cores ∙ agree))
+    (subst (λ l. ArePutBy asked.shards c.args.plan.now.counted.now.by_base.items l) c.as_slice.ensures.value agree.puts) (closed.emptied all.3) (printer_note asked result.print.queue result.print.tally whole many))
+    (ap totals_of c.of_run.ensures.cores ∙ agree.cores))
