@@ -32,7 +32,8 @@ pub fn answer<K: Sink + Send, G: Gate, R: Threads + Wait + Sync>(
 ) -> FanEnd
     requires limits { IsWithinLimits table settings.shards }
     requires settings { AreSettingsInRange settings }
-    ensures writes { Writes (record { lines = table }) (shown (K.holds sink.old) (K.faults sink.old)) (shown (K.holds sink.new) (K.faults sink.new)) result.outcome }
+    ensures writes { Writes (record { lines = table }) (shown (K.holds sink.old) (K.faults sink.old))
+        (shown (K.holds sink.new) (K.faults sink.new)) result.outcome }
     ensures reports { Reports (asked_by settings table) result }
     ensures unmade { result.pool ≡ None → TellsNoRun result }
 {

@@ -55,7 +55,8 @@ impl FanEnd {
         ensures pool { result.pool ≡ Some note }
         ensures queues { result.queues ≡ queues }
         ensures cores { result.tally ≡ tally }
-        ensures ends { (asked : Asking) (start now : Shown) → Wrote asked.lines start now outcome → (fine ≡ true → IsDone outcome → IsReported asked result) → IsEndOf asked start now result }
+        ensures ends { (asked : Asking) (start now : Shown) → Wrote asked.lines start now outcome →
+            (fine ≡ true → IsDone outcome → IsReported asked result) → IsEndOf asked start now result }
     {
         FanEnd {
             outcome: outcome_if(fine, outcome),
