@@ -1,4 +1,4 @@
-ghost use Rattle.std.specs.Prelude.{◌≡◌, ◌+◌, ◌≤◌, length};
+ghost use Rattle.std.specs.Prelude.{◌≡◌, ◌+◌, ◌≤◌, List, length};
 ghost use Rattle.core_cells.specs.Seen.{AreAll};
 ghost use Rattle.fan_base.specs.Outside.{shown};
 ghost use Rattle.run_printing.specs.Ends.{HasPrinted, IsBaseOf, IsNewBase};
@@ -8,7 +8,10 @@ ghost use Rattle.run_threads.specs.Beside.{HasRunAll, MayRunAll};
 ghost use Rattle.run_threads.specs.Slots.{HasGatheredIn, HasWorked, IsReadyToGather, IsReadyToWork};
 ghost use Rattle.run_setup.specs.Ids.{RunIds};
 ghost use Rattle.run_setup.specs.Opening.{IsSetup};
+ghost use Rattle.run_setup.specs.Slots.{HaveTables};
 ghost use Rattle.run_desks.specs.Tables.{AreTablesOf};
+ghost use Rattle.run_gathering.specs.Awaited.{TableSeen};
+ghost use Rattle.run_gathering.specs.Dealt.{AreAllDealt};
 ghost use Rattle.fanout.specs.Beside.{CanEndFront, HasBegunFront, HasEndedFront, IsReadyFront};
 ghost use Rattle.run_ending.specs.Ends.{IsEndOf};
 ghost use Rattle.fanout.specs.Plans.{IsPlanned};
@@ -19,7 +22,7 @@ use crate::plan::RunPlan;
 use core_word::Tally;
 use event_base::EventBase;
 use fan_base::{Gate, Memory, Sink};
-use fan_parts::{PrintJob, RunName, RunShards};
+use fan_parts::{PrintJob, RunName};
 use prio_pool::{Pool, new_passes_are_unused};
 use run_ending::FanEnd;
 use run_front::Front;
@@ -62,11 +65,12 @@ pub(crate) fn run_over_cells<
     requires passes { length passes.items ≡ plan.now.knobs.workers + 1 }
     requires all { AreAll cells.now passes.items }
     requires tables { AreTablesOf N.asked tables.items }
+    requires dealt { AreAllDealt N.asked tables.items }
     ensures { IsEndOf N.asked (shown (K.holds sink.old) (K.faults sink.old)) (shown (K.holds sink.new) (K.faults sink.new)) result }
 {
     let workers = plan.knobs.workers;
     let bases = plan.knobs.bases;
-    let shards = RunShards::new(&*plan.shards.all());
+    let shards = plan.shards.again();
     match open_run(rt, alloc, cells, passes, &shards, tables, workers, bases) {
         Ok(setup) => run_opened(rt, alloc, plan, setup, tally, sink),
         Err(Memory) => FanEnd::refused(alloc),
@@ -96,6 +100,7 @@ fn run_opened<
 ) -> FanEnd
     requires plan { IsPlanned N.asked plan.now.lines.now plan.now.turns.now plan.now.counted.now plan.now.stop plan.now.knobs }
     requires setup { (ids : RunIds) × (ids.workers ≡ plan.now.knobs.workers) × IsSetup N.asked ids setup }
+    requires tables { (tables : List TableSeen) × HaveTables setup.gatherers.items tables × AreAllDealt N.asked tables }
     ensures { IsEndOf N.asked (shown (K.holds sink.old) (K.faults sink.old)) (shown (K.holds sink.new) (K.faults sink.new)) result }
 {
     let Setup {
@@ -194,11 +199,14 @@ fn run_stages<
     requires printer { IsNewBase printer }
     requires gatherers { AllReady (IsReadyToGather N.asked) gatherers.items }
     requires workers { AllReady (IsReadyToWork pool.id) workers.items }
-    requires front { MayRunAll (IsReadyFront N.asked) (HasBegunFront N.asked) (CanEndFront N.asked) (HasWorked TaskRan) front pool workers.items }
-    ensures printed { HasPrinted N.asked.lines (shown (K.holds sink.old) (K.faults sink.old)) (shown (K.holds sink.new) (K.faults sink.new)) result.printed }
+    requires front { MayRunAll (IsReadyFront N.asked) (HasBegunFront N.asked) (CanEndFront N.asked) (HasWorked TaskRan)
+        front pool workers.items }
+    ensures printed { HasPrinted N.asked.lines (shown (K.holds sink.old) (K.faults sink.old))
+        (shown (K.holds sink.new) (K.faults sink.new)) result.printed }
     ensures base { IsBaseOf printer result.printed.base }
     ensures gatherers { AllRan HasGatheredIn gatherers.entry.items result.gatherers.items }
-    ensures front { HasRunAll (HasBegunFront N.asked) (HasEndedFront N.asked) (HasWorked TaskRan) front.entry pool.entry workers.entry.items result.front }
+    ensures front { HasRunAll (HasBegunFront N.asked) (HasEndedFront N.asked) (HasWorked TaskRan)
+        front.entry pool.entry workers.entry.items result.front }
 {
     let mut gatherers = gatherers;
     let mut front = front;

@@ -10,7 +10,8 @@ ghost use Rattle.query_parts.specs.Parts.{AreShards};
 ghost use Rattle.run_ending.specs.Ends.{IsEndOf};
 ghost use Rattle.fanout.specs.Asked.{AreKnobs, IsAskedBy};
 ghost use Rattle.run_desks.specs.Tables.{AreTablesOf};
-ghost use Rattle.fanout.specs.Homes.{AreEnough};
+ghost use Rattle.run_gathering.specs.Dealt.{AreAllDealt};
+ghost use Rattle.fanout.specs.Homes.{AreEnough, cells_of};
 ghost use Rattle.fanout.specs.Plans.{IsPlanned};
 
 use crate::inside::run_over_cells;
@@ -22,7 +23,7 @@ use fan_base::{ExecId, Gate, Memory, Sink};
 use fan_model::laws::comings_in_order;
 use fan_parts::{InnerKey, PartDesk, ReplyHome, ReplyKey, RunName, RunShards, TaskHome};
 use query_model::Lines;
-use run_desks::{DeskKeys, EmptySlots, OpenDesks, let_go_keys, open_desks};
+use run_desks::{DeskKeys, EmptySlots, OpenDesks, known_turns, let_go_keys, open_desks};
 use run_ending::FanEnd;
 use run_homes::{
     close_desks, close_reply_homes, close_task_homes, empty_slots, keys_of, new_homes,
@@ -115,7 +116,7 @@ fn over_inner_keys<
     let made: MadeReplyHomes<'i, N> = new_homes(alloc, plan.counted.answered as usize);
     match made {
         Ok(mut homes) => {
-            let end = over_reply_homes(rt, alloc, &*plan, homes.as_mut_slice(), inners, sink);
+            let end = over_reply_homes(rt, alloc, plan, homes.as_mut_slice(), inners, sink);
             close_reply_homes(homes);
             end
         }
@@ -151,7 +152,7 @@ fn over_reply_homes<
     ensures { IsEndOf N.asked (shown (K.holds sink.old) (K.faults sink.old)) (shown (K.holds sink.new) (K.faults sink.new)) result }
 {
     match keys_of(alloc, homes) {
-        Ok(replies) => over_reply_keys(rt, alloc, &*plan, replies, inners, sink),
+        Ok(replies) => over_reply_keys(rt, alloc, plan, replies, inners, sink),
         Err(Memory) => FanEnd::refused(alloc),
     }
 }
@@ -195,7 +196,7 @@ fn over_reply_keys<
                 alloc,
                 tally: Tally::new(),
             };
-            let end = over_slots(rt, alloc, &*plan, keys, sink);
+            let end = over_slots(rt, alloc, plan, keys, sink);
             close_desks(slots);
             end
         }
@@ -229,8 +230,9 @@ fn over_slots<
     ensures { IsEndOf N.asked (shown (K.holds sink.old) (K.faults sink.old)) (shown (K.holds sink.new) (K.faults sink.new)) result }
 {
     comings_in_order();
+    known_turns::<N>();
     match open_desks(rt, plan.turns, keys) {
-        Ok(desks) => over_desks(rt, alloc, &*plan, desks, sink),
+        Ok(desks) => over_desks(rt, alloc, plan, desks, sink),
         Err(Memory) => FanEnd::refused(alloc),
     }
 }
@@ -255,13 +257,14 @@ fn over_desks<
 ) -> FanEnd
     requires plan { IsPlanned N.asked plan.now.lines.now plan.now.turns.now plan.now.counted.now plan.now.stop plan.now.knobs }
     requires desks { AreTablesOf N.asked desks.tables.items }
+    requires dealt { AreAllDealt N.asked desks.tables.items }
     ensures { IsEndOf N.asked (shown (K.holds sink.old) (K.faults sink.old)) (shown (K.holds sink.new) (K.faults sink.new)) result }
 {
     let made: MadeTaskHomes<N> = new_homes(alloc, plan.cells());
     match made {
         Ok(mut tasks) => {
             let end = match make_cells(rt, alloc, tasks.as_mut_slice(), plan.knobs.workers + 1) {
-                Ok(made) => over_cells(rt, alloc, &*plan, made, desks, sink),
+                Ok(made) => over_cells(rt, alloc, plan, made, desks, sink),
                 Err(Memory) => {
                     desks.give_up();
                     FanEnd::refused(alloc)
@@ -325,11 +328,12 @@ fn over_cells<
     requires passes { length made.passes.items ≡ plan.now.knobs.workers + 1 }
     requires all { AreAll made.cells made.passes.items }
     requires desks { AreTablesOf N.asked desks.tables.items }
+    requires dealt { AreAllDealt N.asked desks.tables.items }
     ensures { IsEndOf N.asked (shown (K.holds sink.old) (K.faults sink.old)) (shown (K.holds sink.new) (K.faults sink.new)) result }
 {
     let MadeCells { cells, passes } = made;
     let OpenDesks { tables, tally } = desks;
-    let end = run_over_cells(rt, alloc, &*plan, &cells, passes, tables, tally, sink);
+    let end = run_over_cells(rt, alloc, plan, &cells, passes, tables, tally, sink);
     let_go(cells);
     end
 }
@@ -342,7 +346,9 @@ fn let_go<'h, T, C, P>(cells: Cells<'h, T, C, P>) {
 impl<'l, 'g, N: RunName, G> RunPlan<'l, 'g, N, G> {
     /// How many homes the cores of tasks get: as many as there are tasks, 1 to 1,024.
     fn cells(&self) -> usize
-        ensures { (0 < result) × (result ≤ 1024) }
+        requires { IsPlanned N.asked self.now.lines.now self.now.turns.now self.now.counted.now self.now.stop self.now.knobs }
+        ensures number { result ≡ cells_of N.asked }
+        ensures few { (0 < result) × (result ≤ 1024) }
     {
         let shards = self.shards.all().len() as u64;
         let tasks = self.counted.answered.saturating_mul(shards);

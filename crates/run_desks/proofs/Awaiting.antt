@@ -11,7 +11,8 @@ use Rattle.fan_model.specs.Report.{Asking}
 use Rattle.fan_parts.specs.Seen.{EndSeen}
 use Rattle.query_opening.specs.Turns.{IsDeskOf}
 use Rattle.run_gathering.specs.Awaited.{AwaitedSeen, TableSeen, awaited_at, place_of, with_part}
-use Rattle.run_desks.specs.Tables.{AreDealt, AwaitsBegun, AwaitsQuery, arrival_for, with_arrivals}
+use Rattle.run_gathering.specs.Dealt.{AreDealt, AwaitsBegun, AwaitsQuery, arrival_for}
+use Rattle.run_desks.specs.Tables.{with_arrivals}
 use Rattle.run_desks.proofs.Places.{has_place, same_number, same_or_not, same_row}
 
 arrivals_bases : (desk : DeskId EndSeen) (n k : ℕ) (t : TableSeen) → (with_arrivals desk n k t).bases ≡ t.bases

@@ -49,6 +49,7 @@ pub(crate) fn open_query<'d, 'r: 'd, 'i: 'r, N: RunName + 'static, R: Wait>(
         documents,
     } = query;
     let ask = numbered_ask(keys.lines, place, number, line, documents);
+    // (for what it says of the ask)
     let _number = ask.number();
     let end = begin_end(rt, keys, place, ask.again());
     let slot = keys.desks.next();

@@ -7,7 +7,8 @@ ghost use Rattle.query_opening.specs.Turns.{IsBegun};
 ghost use Rattle.run_plan.specs.Turns.{AreTurnsOf};
 ghost use Rattle.run_desks.specs.Counted.{HasMade};
 ghost use Rattle.run_desks.specs.Keys.{AreKeysOf, HasKeysFor};
-ghost use Rattle.run_desks.specs.Tables.{AreDealt, AreTablesOf};
+ghost use Rattle.run_gathering.specs.Dealt.{AreDealt};
+ghost use Rattle.run_desks.specs.Tables.{AreTablesOf};
 ghost use Rattle.run_desks.specs.Turns.{IsTurnAt};
 
 use crate::keys::DeskKeys;

@@ -2,7 +2,8 @@
 ghost use Rattle.std.specs.Prelude.{◌≡◌, ◌≤◌, IfOk, length};
 ghost use Rattle.fan_model.specs.Comings.{comings_of};
 ghost use Rattle.query_opening.specs.Turns.{IsDeskOf};
-ghost use Rattle.run_desks.specs.Tables.{AreDealt, with_arrivals};
+ghost use Rattle.run_gathering.specs.Dealt.{AreDealt};
+ghost use Rattle.run_desks.specs.Tables.{with_arrivals};
 
 use collect_ops::Arrivals;
 use fan_base::Memory;

@@ -4,6 +4,7 @@ ghost use Rattle.event_base.specs.Closing.{AreOn, held_by};
 ghost use Rattle.event_base.specs.Looping.{HoldsNoCallback};
 ghost use Rattle.fan_model.specs.Tasks.{printer_exec};
 ghost use Rattle.fan_parts.specs.Heads.{gather_head};
+ghost use Rattle.run_gathering.specs.Dealt.{AwaitsAll};
 ghost use Rattle.run_gathering.specs.Gathering.{HoldsScorings, TookIn};
 ghost use Rattle.run_gathering.specs.Stages.{CameTo, IsSameBase};
 
@@ -37,7 +38,8 @@ pub struct GatherEnd<N: RunName> {
 }
 
 /// Runs a gathering base until all its posters have ended and nothing is left, or until a round finds no memory, and ends its poster to
-/// the printer's base. `table` has the arrivals for the parts of its queries: those whose parts haven't come are spent. It may wait.
+/// the printer's base. `table` is the table of this base, with the arrivals for all parts of its queries, so that each part that is posted to it finds
+/// its own: those whose parts haven't come are spent. It may wait.
 pub fn gather<'d, 'r: 'd, 'i: 'r, N: RunName + 'static, R: Wait>(
     rt: &R,
     alloc: Global,
@@ -48,6 +50,7 @@ pub fn gather<'d, 'r: 'd, 'i: 'r, N: RunName + 'static, R: Wait>(
 ) -> GatherStage<N>
     requires exec { printer.exec ≡ printer_exec N.asked.bases }
     requires holds { HoldsScorings base.agenda }
+    requires table { AwaitsAll N.asked base.agenda.exec table }
     ensures base { IsSameBase base result.base }
     ensures did { CameTo base result.base printer.sender result.printer result.tally result.refused }
     ensures closed { result.refused ≡ false → IsDry result.base.queue × HoldsNoCallback result.base.agenda }

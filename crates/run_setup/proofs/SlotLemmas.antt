@@ -1,5 +1,5 @@
 -- Slots before and after the threads.
-use Rattle.std.proofs.Common.{◌≡◌, ℕ, ◌+◌, ◌-◌, ◌<◌, ◌||◌, List, [], ◌∷◌, Bool, true, false, true≢false, length, get_or, map, refl, sym, ap, ◌∙◌, subst, arith}
+use Rattle.std.proofs.Common.{◌≡◌, ℕ, zero, suc, ◌+◌, ◌-◌, ◌<◌, ◌||◌, List, [], ◌∷◌, Bool, true, false, true≢false, length, get_or, map, slice_get, Some, refl, sym, ap, ◌∙◌, subst, arith}
 use Rattle.std.specs.List.{All, list_any}
 use Rattle.std.proofs.lemmas.List.Elements.{All-cons, All-nil}
 use Rattle.std.proofs.lemmas.Option.{same_Some}
@@ -16,6 +16,8 @@ use Rattle.notify_queue.specs.Ends.{QueueId, Sending}
 use Rattle.pool_model.specs.Passes.{AreAllEnds}
 use Rattle.pool_model.specs.Seen.{EndSeen, PoolId, WorkerSeen}
 use Rattle.run_bases.specs.Columns.{exec_at}
+use Rattle.run_gathering.specs.Awaited.{TableSeen}
+use Rattle.run_gathering.specs.Dealt.{AreAllDealt, AwaitsAll}
 use Rattle.run_notes.specs.Accounts.{AllDone}
 use Rattle.run_stages.specs.Stages.{AllRan, AllReady}
 use Rattle.run_tasks.specs.declared.stage.WorkerStage.{WorkerStage}
@@ -28,7 +30,7 @@ use Rattle.run_threads.specs.Slots.{HasGatheredIn, HasWorked, IsReadyToGather, I
 use Rattle.run_setup.specs.Closing.{AreEndsOf, AreGathered, AreTaskEnds, AreWorldEnds, HaveWorked, IsGatheredSlot, IsPrinterEnd, some_refused}
 use Rattle.run_setup.specs.Ids.{RunIds}
 use Rattle.run_setup.specs.Rows.{row_of}
-use Rattle.run_setup.specs.Slots.{AreGatherSlots, AreWorkers, IsGatherSlot, IsNewWorld, IsWorker, new_printer_poster}
+use Rattle.run_setup.specs.Slots.{AreGatherSlots, AreWorkers, HaveTables, IsGatherSlot, IsNewWorld, IsWorker, new_printer_poster}
 
 module _ {N : Type 0} where
   pub printer-end : (asked : Asking) (ids : RunIds) (number : ℕ) (e : Sending (PrintJob N)) → e.queue ≡ ids.printer → e.number ≡ number → IsPrinterEnd asked ids number e
@@ -40,21 +42,36 @@ module _ {J : Type 0} where
   base-new exec senders queue base is = subst (λ (b : BaseSeen J). b ≡ new_base b.agenda.exec 0 b.queue.queue b.queue.senders) (sym is) refl
 
 module _ {N : Type 0} {g : Ghosts N} where
-  ready-to-gather : (asked : Asking) (ids : RunIds) (k : ℕ) (slot : GatherSlot N g) → IsGatherSlot asked ids k slot → IsReadyToGather asked slot
-  ready-to-gather asked ids k slot is = record {
+  ready-to-gather : (asked : Asking) (ids : RunIds) (k : ℕ) (slot : GatherSlot N g) (t : TableSeen) → IsGatherSlot asked ids k slot → slot.table ≡ Some t → AwaitsAll asked (exec_at 1 k) t → IsReadyToGather asked slot
+  ready-to-gather asked ids k slot t is has awaits = record {
     base = new_base (exec_at 1 k) 0 (get_or ids.queues k ids.printer) (ids.workers + 1);
     has_base = is.base ids.printer;
     holds = record { before = refl; timers = refl; loops = λ n d below. absurd (omega (arith, below)); later = λ n d below. absurd (omega (arith, below)) };
     printer = new_printer_poster asked ids (asked.bases - k);
     has_printer = is.printer;
     exec = refl;
-    table = is.table;
-    has_table = is.has_table;
+    table = t;
+    has_table = has;
+    awaits = awaits;
     none = is.none;
   }
 
-  pub all-ready-to-gather : (asked : Asking) (ids : RunIds) (slots : List (GatherSlot N g)) → AreGatherSlots asked ids slots → AllReady (IsReadyToGather asked) slots
-  all-ready-to-gather asked ids slots are = record { each = λ k d below. ready-to-gather asked ids k (get_or slots k d) (are.each k d (omega (arith, below, are.as_many))) }
+  -- the table of the slot at a place is the one at that place
+  table_at : (slots : List (GatherSlot N g)) (tables : List TableSeen) (k : ℕ) (d : GatherSlot N g) → map (λ (slot : GatherSlot N g). slot.table) slots ≡ map (λ (table : TableSeen). Some table) tables → k < length slots
+      → (t : TableSeen) × (slice_get tables k ≡ Some t) × ((get_or slots k d).table ≡ Some t)
+  table_at [] tables k d same below = absurd (omega (arith, below))
+  table_at (s ∷ slots) [] k d same below = absurd cc
+  table_at (s ∷ slots) (t ∷ tables) zero d same below = let here : s.table ≡ Some t = cc in (t, refl, here)
+  table_at (s ∷ slots) (t ∷ tables) (suc k) d same below =
+      let rest : map (λ (slot : GatherSlot N g). slot.table) slots ≡ map (λ (table : TableSeen). Some table) tables = cc in
+      table_at slots tables k d rest (omega (arith, below))
+
+  pub all-ready-to-gather : (asked : Asking) (ids : RunIds) (slots : List (GatherSlot N g)) (tables : List TableSeen) → AreGatherSlots asked ids slots → HaveTables slots tables → AreAllDealt asked tables → AllReady (IsReadyToGather asked) slots
+  all-ready-to-gather asked ids slots tables are have dealt = record {
+    each = λ k d below.
+        let at = table_at slots tables k d have.are below in
+        ready-to-gather asked ids k (get_or slots k d) at.0 (are.each k d (omega (arith, below, are.as_many))) at.2 (dealt.each k at.0 at.1);
+  }
 
 module _ {N : Type 0} where
   pub all-ready-to-work : (ids : RunIds) (pool : PoolId) (slots : List (WorkerSlot TaskSeen (WorldSeen N))) → AreWorkers ids pool slots → AllReady (IsReadyToWork pool) slots

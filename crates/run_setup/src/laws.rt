@@ -7,6 +7,8 @@ ghost use Rattle.fan_parts.specs.declared.jobs.PrintJob.{PrintJob};
 ghost use Rattle.notify_queue.specs.Ends.{Sending};
 ghost use Rattle.pool_model.specs.Passes.{AreAllEnds};
 ghost use Rattle.pool_model.specs.Seen.{EndSeen, PoolId};
+ghost use Rattle.run_gathering.specs.Awaited.{TableSeen};
+ghost use Rattle.run_gathering.specs.Dealt.{AreAllDealt};
 ghost use Rattle.run_notes.specs.Accounts.{AllDone};
 ghost use Rattle.run_printing.specs.Ends.{IsBaseOf, IsNewBase};
 ghost use Rattle.run_stages.specs.Stages.{AllRan, AllReady};
@@ -18,14 +20,14 @@ ghost use Rattle.run_threads.specs.declared.worker.WorkerSlot.{WorkerSlot};
 ghost use Rattle.run_threads.specs.Slots.{HasGatheredIn, HasWorked, IsReadyToGather, IsReadyToWork};
 ghost use Rattle.run_setup.specs.Closing.{AreEndsOf, AreGathered, AreTaskEnds, AreWorldEnds, HaveWorked, IsPrinterBase, IsPrinterEnd, some_refused};
 ghost use Rattle.run_setup.specs.Ids.{RunIds};
-ghost use Rattle.run_setup.specs.Slots.{AreGatherSlots, AreWorkers, IsNewWorld};
+ghost use Rattle.run_setup.specs.Slots.{AreGatherSlots, AreWorkers, HaveTables, IsNewWorld};
 
 use fan_parts::RunName;
 
-/// The slots of a new run are ready for their threads, and its printer's base is new.
+/// The slots of a new run are ready for their threads, where each base has its own table, and its printer's base is new.
 pub fn a_setup_is_ready<N: RunName>()
-    ensures gatherers { (ids : RunIds) (slots : List (GatherSlot N N.RunName)) → AreGatherSlots N.asked ids slots
-        → AllReady (IsReadyToGather N.asked) slots }
+    ensures gatherers { (ids : RunIds) (slots : List (GatherSlot N N.RunName)) (tables : List TableSeen) → AreGatherSlots N.asked ids slots
+        → HaveTables slots tables → AreAllDealt N.asked tables → AllReady (IsReadyToGather N.asked) slots }
     ensures workers { (ids : RunIds) (pool : PoolId) (slots : List (WorkerSlot TaskSeen (WorldSeen N))) → AreWorkers ids pool slots
         → AllReady (IsReadyToWork pool) slots }
     ensures printer { (ids : RunIds) (base : BaseSeen (PrintJob N))

@@ -21,6 +21,7 @@ use Rattle.fan_parts.specs.declared.run_name.RunName.{Ghosts}
 use Rattle.fan_parts.specs.Seen.{PosterSeen}
 use Rattle.run_gathering.specs.declared.looping.GatherStage.{GatherStage}
 use Rattle.run_gathering.specs.Awaited.{TableSeen}
+use Rattle.run_gathering.specs.Dealt.{AwaitsAll}
 use Rattle.run_gathering.specs.Gathering.{HoldsScorings}
 use Rattle.run_gathering.specs.Stages.{CameTo, IsSameBase}
 use Rattle.run_printing.specs.declared.stage.PrintStage.{PrintStage}
@@ -55,7 +56,7 @@ module _ {N K : Type 0} where
     pub stage_loan : new.stage.ghost_name ≡ old.stage.ghost_name
 
 module _ {N : Type 0} {g : Ghosts N} where
-  -- it has a base that holds nothing but scorings, a poster to the printer's base, and the arrivals for the parts of its queries, and has not run
+  -- it has a base that holds nothing but scorings, a poster to the printer's base, and the base's table, with the arrivals for all parts of its queries, and has not run
   pub record IsReadyToGather (asked : Asking) (slot : GatherSlot N g) : Type 0 where
     pub base : BaseSeen (GatherJob N)
     pub has_base : slot.base ≡ Some base
@@ -65,6 +66,7 @@ module _ {N : Type 0} {g : Ghosts N} where
     pub exec : printer.exec ≡ printer_exec asked.bases
     pub table : TableSeen
     pub has_table : slot.table ≡ Some table
+    pub awaits : AwaitsAll asked base.agenda.exec table
     pub none : slot.stage ≡ None
 
   -- its base and its poster were spent on a stage, which says what they came to

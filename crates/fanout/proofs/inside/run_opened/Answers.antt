@@ -11,7 +11,7 @@ pub run_stages-printed-requires-clause-printer : goal.run_stages-printed-require
 run_stages-printed-requires-clause-printer g c κs within = c.a_setup_is_ready.ensures.printer c.requires.setup.0 c.args.setup.printer c.requires.setup.2.printer
 
 pub run_stages-printed-requires-clause-gatherers : goal.run_stages-printed-requires-clause-gatherers
-run_stages-printed-requires-clause-gatherers g c κs within = c.a_setup_is_ready.ensures.gatherers c.requires.setup.0 c.args.setup.gatherers.items c.requires.setup.2.gatherers
+run_stages-printed-requires-clause-gatherers g c κs within = c.a_setup_is_ready.ensures.gatherers c.requires.setup.0 c.args.setup.gatherers.items c.requires.tables.0 c.requires.setup.2.gatherers c.requires.tables.1 c.requires.tables.2
 
 pub run_stages-printed-requires-clause-workers : goal.run_stages-printed-requires-clause-workers
 run_stages-printed-requires-clause-workers g c κs within = c.a_setup_is_ready.ensures.workers c.requires.setup.0 c.args.setup.pool.id c.args.setup.workers.items c.requires.setup.2.workers

@@ -1,6 +1,7 @@
-use Rattle.std.proofs.Common.{List, ◌≤◌, length, sym, subst}
+use Rattle.std.proofs.Common.{List, ℕ, ◌≤◌, length, sym, subst}
 use Rattle.query_model.specs.Order.{Asked}
 use Rattle.fan_model.specs.Answered.{tops_in}
+use Rattle.run_gathering.specs.Dealt.{AreDealt}
 use Rattle.fanout.proofs.levels.over_slots.Goals as goal
 
 pub open_desks-requires-clause-keys : goal.open_desks-requires-clause-keys
@@ -12,6 +13,11 @@ open_desks-requires-clause-keys g c κs within =
       desks = subst (λ (l : List Asked). length l ≤ keys.desks) begun c.requires.keys.desks;
       inners = subst (λ (l : List Asked). tops_in l ≤ length keys.inners.items) begun c.requires.keys.inners;
     }
+
+pub over_desks-requires-clause-dealt : goal.over_desks-requires-clause-dealt
+over_desks-requires-clause-dealt g c κs within =
+    let many = c.known_turns.ensures.as_many c.args.plan.now.turns.now c.requires.plan.turns_are in
+    subst (λ (n : ℕ). AreDealt g.N.RunName.asked n c.in-Ok.desks.tables.items) many c.in-Ok.ensures.dealt
 
 pub returns-in-Err : goal.returns-in-Err
 returns-in-Err g c = c.refused.ensures _ _

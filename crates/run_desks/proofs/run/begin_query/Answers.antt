@@ -3,7 +3,7 @@ use Rattle.std.proofs.lemmas.Option.{slice_get_read}
 use Rattle.fan_model.specs.Comings.{Coming, comings_of}
 use Rattle.query_opening.specs.Turns.{IsDeskOf}
 use Rattle.run_gathering.specs.Awaited.{TableSeen}
-use Rattle.run_desks.specs.Tables.{AreDealt}
+use Rattle.run_gathering.specs.Dealt.{AreDealt}
 use Rattle.run_desks.proofs.Awaiting.{base_is, dealt_begun, put_is}
 use Rattle.run_desks.proofs.Counting.{counted_begun}
 use Rattle.run_desks.proofs.run.begin_query.Goals as goal

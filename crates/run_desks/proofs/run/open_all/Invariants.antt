@@ -2,7 +2,8 @@ use Rattle.std.proofs.Common.{drop}
 use Rattle.fan_model.specs.Comings.{comings_of}
 use Rattle.run_desks.specs.Counted.{HasMade}
 use Rattle.run_desks.specs.Keys.{AreKeysOf, HasKeysFor}
-use Rattle.run_desks.specs.Tables.{AreDealt, AreTablesOf}
+use Rattle.run_gathering.specs.Dealt.{AreDealt}
+use Rattle.run_desks.specs.Tables.{AreTablesOf}
 use Rattle.run_desks.proofs.run.open_all.Given as goal
 
 abbrev pub invariant-loop-place : goal.invariant-loop-place

@@ -1,5 +1,5 @@
 use Rattle.std.proofs.Common.{◌≡◌, ◌-◌, ◌≤◌, length, vec_capacity}
-use Rattle.run_desks.specs.Tables.{AreDealt}
+use Rattle.run_gathering.specs.Dealt.{AreDealt}
 use Rattle.run_desks.proofs.tables.new_tables.Given as goal
 
 abbrev pub invariant-making : goal.invariant-making
