@@ -9,29 +9,10 @@ use Rattle.prio_pool.specs.declared.pool.Helped.TheVariants.{Ran, Empty}
 use Rattle.prio_pool.specs.Ends.{HelpDid}
 use Rattle.run_tasks.specs.Seen.{WorldSeen}
 use Rattle.run_tasks.specs.Worlds.{Follows, TaskRan}
+use Rattle.run_tasks.proofs.WorldLemmas.{follows-itself, follows-on}
 use Rattle.query_tasks.specs.Starting.{HasHelped}
 
 module _ {N : Type 0} where
-  follows_same : (w : WorldSeen N) → Follows w w
-  follows_same w = record {
-    posters = refl;
-    cells = refl;
-    pass = record { cells = refl; homes = refl; passes = refl };
-    refused = λ down. down;
-  }
-
-  pub follows_join : (w m v : WorldSeen N) → Follows w m → Follows m v → Follows w v
-  follows_join w m v first second = record {
-    posters = second.posters ∙ first.posters;
-    cells = second.cells ∙ first.cells;
-    pass = record {
-      cells = second.pass.cells ∙ first.pass.cells;
-      homes = second.pass.homes ∙ first.pass.homes;
-      passes = second.pass.passes ∙ first.pass.passes;
-    };
-    refused = λ down. first.refused (second.refused down);
-  }
-
   -- a world that follows, without help
   pub unhelped : (w v : WorldSeen N) (old : EndSeen) → Follows w v → HasHelped w old v old
   unhelped w v old follows = record {
@@ -44,11 +25,11 @@ module _ {N : Type 0} where
   }
 
   pub helped_none : (w : WorldSeen N) (old : EndSeen) → HasHelped w old w old
-  helped_none w old = unhelped w w old (follows_same w)
+  helped_none w old = unhelped w w old (follows-itself w)
 
   pub helped_more : (w m v : WorldSeen N) (old between new : EndSeen) → HasHelped w old m between → HasHelped m between v new → HasHelped w old v new
   helped_more w m v old between new first second = record {
-    follows = follows_join w m v first.follows second.follows;
+    follows = follows-on w m v first.follows second.follows;
     pool = second.pool ∙ first.pool;
     number = second.number ∙ first.number;
     more = first.more ++ second.more;
@@ -69,7 +50,7 @@ module _ {N : Type 0} where
     done = λ down. All-cons (λ (r : Record). IsDone r.mark) did.entry [] (did.led.done down) (All-nil (λ (r : Record). IsDone r.mark));
   }
   helped_once w v old new Empty pool number did = record {
-    follows = subst (λ (u : WorldSeen N). Follows w u) (sym did.world) (follows_same w);
+    follows = subst (λ (u : WorldSeen N). Follows w u) (sym did.world) (follows-itself w);
     pool = pool;
     number = number;
     more = [];

@@ -1,2 +1,2 @@
-mod Helping
+pub mod Helping
 mod Loops

@@ -1,3 +1,2 @@
 mod Running
-mod Helping
 mod Posting

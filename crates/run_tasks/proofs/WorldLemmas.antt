@@ -79,10 +79,10 @@ module _ {N : Type 0} where
       subst (λ (xs : List (Sending (GatherJob N))). AreEndsFor all xs) (sym (append_assoc ends (e ∷ []) es))
       (so_far (e ∷ es) (ap (λ (s : Sending (GatherJob N)). s.queue) is, ap (λ (s : Sending (GatherJob N)). s.number) is, on, rest))
 
-  follows-itself : (w : WorldSeen N) → Follows w w
+  pub follows-itself : (w : WorldSeen N) → Follows w w
   follows-itself w = record { posters = refl; cells = refl; pass = record { cells = refl; homes = refl; passes = refl }; refused = λ down. down }
 
-  follows-on : (w m v : WorldSeen N) → Follows w m → Follows m v → Follows w v
+  pub follows-on : (w m v : WorldSeen N) → Follows w m → Follows m v → Follows w v
   follows-on w m v first second = record {
     posters = second.posters ∙ first.posters;
     cells = second.cells ∙ first.cells;

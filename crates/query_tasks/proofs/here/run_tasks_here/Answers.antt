@@ -1,6 +1,6 @@
 use Rattle.std.proofs.Common.{rules}
 use Rattle.query_tasks.specs.Starting.{runs_for}
-use Rattle.query_tasks.proofs.Helping.{follows_join}
+use Rattle.run_tasks.proofs.WorldLemmas.{follows-on}
 use Rattle.query_tasks.proofs.Loops.{on_err, one_more_ran, ran_some}
 use Rattle.query_tasks.proofs.here.run_tasks_here.Goals as goal
 
@@ -13,7 +13,7 @@ returns-in_err-push-clause-some g c =
 
 pub loop-shard-preserved : goal.loop-shard-preserved
 loop-shard-preserved g c = record {
-  follows = follows_join _ _ _ c.loop-shard.invariant.follows c.run_task_here-record.ensures.follows;
+  follows = follows-on _ _ _ c.loop-shard.invariant.follows c.run_task_here-record.ensures.follows;
   direct = one_more_ran g.N.RunName.asked c.args.ask.now c.args.queue c.args.front c.loop-shard.shard
       c.loop-shard.world c.run_task_here-record.new.world c.args.direct.now c.loop-shard.direct c.push.new.self c.run_task_here-record.result
       c.loop-shard.invariant.direct c.run_task_here-record.ensures.follows (search rules) (search rules);

@@ -3,12 +3,12 @@ use Rattle.query_model.specs.Order.{Asked}
 use Rattle.fan_model.specs.Tasks.{pool_exec, task_runs}
 use Rattle.pool_model.specs.Passes.{adds_of}
 use Rattle.run_notes.specs.Told.{run_of_add}
-use Rattle.run_front.proofs.Helping.{helped_on}
+use Rattle.query_tasks.proofs.Helping.{helped_more}
 use Rattle.run_front.proofs.Running.{on_err, some_of, some_to}
 use Rattle.run_front.proofs.early.early_turns.Goals as goal
 
 pub returns-in_err-early_turn-clause-helped : goal.returns-in_err-early_turn-clause-helped
-returns-in_err-early_turn-clause-helped g c = helped_on _ _ _ _ _ _ c.loop-place.invariant.helped c.early_turn.ensures.helped
+returns-in_err-early_turn-clause-helped g c = helped_more _ _ _ _ _ _ c.loop-place.invariant.helped c.early_turn.ensures.helped
 
 pub returns-in_err-early_turn-clause-some : goal.returns-in_err-early_turn-clause-some
 returns-in_err-early_turn-clause-some g c =
@@ -27,7 +27,7 @@ loop-place-preserved g c =
       few = omega (arith, ok.few, i.few);
       pool = e.adder.0 ∙ i.pool;
       number = e.adder.1 ∙ i.number;
-      helped = helped_on _ _ _ _ _ _ i.helped e.helped;
+      helped = helped_more _ _ _ _ _ _ i.helped e.helped;
       front = e.front;
       printer = e.printer ∙ i.printer;
       posted = λ first so_far. ok.posted first (i.posted first so_far);
