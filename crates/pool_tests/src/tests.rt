@@ -467,75 +467,10 @@ fn large_pool<R: Abort>(rt: &R, alloc: Global) -> Large
     }
 }
 
-// Adds a thousand tasks, lets the keep-alive go, and begins to stop.
-fn add_and_begin_stop<R: Abort + Wait>(
-    rt: &R,
-    alloc: Global,
-    pool: &Pool<Note>,
-    owner: KeepOwner,
-    keep: KeepAlive,
-    mut pass: PoolPass<Note>,
-) -> Stopping<Note>
-    requires owner { owner.count ≡ pool.now.count }
-    requires keep { keep.count ≡ pool.now.count }
-    requires pass { (pass.pool ≡ pool.now.id) × (adds_of pass ≡ []) }
-    requires one { (pool.now.adders ≡ 1) × (pool.now.exec.0 ≡ 7) }
-    ensures passes { AreAllPasses pool.now.id pool.now.adders result.passes }
-    ensures pool { result.pool ≡ pool.now.id }
-{
-    for id in 0..1000 {
-        let priority = if id % 2 == 0 { 0 } else { 127 };
-        let _ = add(rt, pool, &keep, &mut pass, priority, id);
-    }
-    let _ = keep.release();
-    let passes = all_passes(rt, alloc, pool, pass);
-    pool.begin_stop(rt, owner, passes)
-}
-
 // The ids of the tasks that were handed back, behind those that are there.
 fn put_back_ids<R: Abort>(rt: &R, ids: &mut Vec<u64>, mut returned: Returned<Note>) {
     for _ in 0..returned.len() {
         let (_, note) = returned.pop().expect(rt, "a task");
         ids.push(note.0.id.0).expect(rt, "memory");
     }
-}
-
-#[test]
-fn a_stop_among_a_thousand_tasks_loses_none(rt: HostRuntime) {
-    let alloc = rt.alloc();
-    let Opened {
-        pool,
-        owner,
-        keep,
-        pass,
-        worker,
-    } = open_pool(&rt, alloc);
-    let worker = wrapped(&rt, alloc, worker);
-    let owner = wrapped(&rt, alloc, owner);
-    let keep = wrapped(&rt, alloc, keep);
-    let pass = wrapped(&rt, alloc, pass);
-    let shared = &pool;
-    let (end, stopping) = join(
-        &rt,
-        move ||
-            requires { worker.pool ≡ shared.now.id }
-        { work(&rt, alloc, shared, worker.open()) },
-        move ||
-            requires owner { owner.count ≡ shared.now.count }
-            requires keep { keep.count ≡ shared.now.count }
-            requires pass { (pass.pool ≡ shared.now.id) × (adds_of pass ≡ []) }
-            requires one { (shared.now.adders ≡ 1) × (shared.now.exec.0 ≡ 7) }
-        { add_and_begin_stop(&rt, alloc, shared, owner.open(), keep.open(), pass.open()) },
-    );
-    let ends = all_ends(&rt, alloc, &pool, end);
-    let PoolEnd {
-        accepted,
-        ran,
-        returned,
-    } = pool.stop(&rt, stopping, ends, Vec::new(alloc));
-    assert_eq!(rt; (accepted, ran.stopped()), (1000, true));
-    let mut all = ids(&rt, alloc, ran);
-    put_back_ids(&rt, &mut all, returned);
-    assert_eq!(rt; all.len(), 1000);
-    assert!(rt; each_once(&rt, alloc, all.as_slice()));
 }

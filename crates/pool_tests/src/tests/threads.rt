@@ -267,7 +267,7 @@ fn add_in_groups<R: Abort + Wait>(
     pool.begin_join(rt, owner, passes)
 }
 
-// Adds a thousand tasks, waits until so many have begun, begins to stop, and then opens the gate.
+// Adds a thousand tasks, waits until so many have begun where the gate holds any, begins to stop, and then opens the gate.
 fn add_and_stop<R: Abort + Wait>(
     rt: &R,
     alloc: Global,
@@ -288,7 +288,9 @@ fn add_and_stop<R: Abort + Wait>(
         let priority = if id % 2 == 0 { 0 } else { 127 };
         let _ = add(rt, pool, &keep, &mut pass, priority, id);
     }
-    await_count(&gate.begun, gate.most.saturating_add(4));
+    if gate.most < u64::MAX {
+        await_count(&gate.begun, gate.most.saturating_add(4));
+    }
     let _ = keep.release();
     let passes = all_passes(rt, alloc, pool, pass);
     let stopping = pool.begin_stop(rt, owner, passes);
@@ -402,60 +404,70 @@ fn no_task_is_slept_through(rt: HostRuntime) {
     }
 }
 
-// The gate lets 400 tasks begin, and holds each of the four workers at its next one until the stop has begun.
+// The gate lets 400 tasks begin, and holds each of the four workers at its next one until the stop has begun; or it holds none.
 #[test]
-fn a_stopped_worker_takes_nothing_more(rt: HostRuntime) {
+fn a_stop_among_a_thousand_tasks_loses_none(rt: HostRuntime) {
     let alloc = rt.alloc();
-    let Large {
-        pool,
-        owner,
-        keep,
-        pass,
-        front,
-        back,
-    } = large_pool(&rt, alloc);
-    let passes = four_passes(&rt, alloc, &pool, front, back);
-    let passes = wrapped(&rt, alloc, passes);
-    let owner = wrapped(&rt, alloc, owner);
-    let keep = wrapped(&rt, alloc, keep);
-    let pass = wrapped(&rt, alloc, pass);
-    let counts = CountGate::new(&rt, alloc, 400, 1000);
-    let gate = &counts;
-    let shared = &pool;
-    let (ends, stopping) = join(
-        &rt,
-        move ||
-            requires passes { All (λ w. w.pool ≡ shared.now.id) passes.items }
-            requires four { (length passes.items ≡ 4) × (shared.now.workers ≡ 4) }
-        { four_work_at(&rt, alloc, shared, gate, passes.open()) },
-        move ||
-            requires owner { owner.count ≡ shared.now.count }
-            requires keep { keep.count ≡ shared.now.count }
-            requires pass { (pass.pool ≡ shared.now.id) × (adds_of pass ≡ []) }
-            requires one { (shared.now.adders ≡ 1) × (shared.now.exec.0 ≡ 7) }
-        {
-            add_and_stop(
-                &rt,
-                alloc,
-                shared,
-                gate,
-                owner.open(),
-                keep.open(),
-                pass.open(),
-            )
-        },
-    );
-    let PoolEnd {
-        accepted,
-        ran,
-        returned,
-    } = pool.stop(&rt, stopping, ends, Vec::new(alloc));
-    assert_eq!(rt;
-        (accepted, ran.len(), ran.stopped(), returned.len()),
-        (1000, 404, true, 596)
-    );
-    assert_eq!(rt; counts.passed(), (404, 0));
-    let mut all = ids(&rt, alloc, ran);
-    put_back_ids(&rt, &mut all, returned);
-    assert!(rt; each_once(&rt, alloc, all.as_slice()));
+    for most in [400, u64::MAX] {
+        let Large {
+            pool,
+            owner,
+            keep,
+            pass,
+            front,
+            back,
+        } = large_pool(&rt, alloc);
+        let passes = four_passes(&rt, alloc, &pool, front, back);
+        let passes = wrapped(&rt, alloc, passes);
+        let owner = wrapped(&rt, alloc, owner);
+        let keep = wrapped(&rt, alloc, keep);
+        let pass = wrapped(&rt, alloc, pass);
+        let counts = CountGate::new(&rt, alloc, most, 1000);
+        let gate = &counts;
+        let shared = &pool;
+        let (ends, stopping) = join(
+            &rt,
+            move ||
+                requires passes { All (λ w. w.pool ≡ shared.now.id) passes.items }
+                requires four { (length passes.items ≡ 4) × (shared.now.workers ≡ 4) }
+            { four_work_at(&rt, alloc, shared, gate, passes.open()) },
+            move ||
+                requires owner { owner.count ≡ shared.now.count }
+                requires keep { keep.count ≡ shared.now.count }
+                requires pass { (pass.pool ≡ shared.now.id) × (adds_of pass ≡ []) }
+                requires one { (shared.now.adders ≡ 1) × (shared.now.exec.0 ≡ 7) }
+            {
+                add_and_stop(
+                    &rt,
+                    alloc,
+                    shared,
+                    gate,
+                    owner.open(),
+                    keep.open(),
+                    pass.open(),
+                )
+            },
+        );
+        let PoolEnd {
+            accepted,
+            ran,
+            returned,
+        } = pool.stop(&rt, stopping, ends, Vec::new(alloc));
+        let records = ran.len();
+        assert_eq!(rt;
+            (
+                accepted,
+                ran.stopped(),
+                records.saturating_add(returned.len())
+            ),
+            (1000, true, 1000)
+        );
+        if most == 400 {
+            assert_eq!(rt; records, 404);
+        }
+        assert_eq!(rt; counts.passed(), (records as u64, 0));
+        let mut all = ids(&rt, alloc, ran);
+        put_back_ids(&rt, &mut all, returned);
+        assert!(rt; each_once(&rt, alloc, all.as_slice()));
+    }
 }

@@ -2,7 +2,7 @@ use Rattle.std.proofs.vec.Vec.TheSendSync as list
 use Rattle.pool_tests.proofs.Crossings.{inwards, outwards}
 use Rattle.pool_tests.proofs.tests.Note.TheSendSync as job
 use Rattle.pool_tests.proofs.tests.threads.CountGate.TheSendSync as gate
-use Rattle.pool_tests.proofs.tests.threads.a_stopped_worker_takes_nothing_more.Goals as goal
+use Rattle.pool_tests.proofs.tests.threads.a_stop_among_a_thousand_tasks_loses_none.Goals as goal
 
 pub join-ends-requires-send-F : goal.join-ends-requires-send-F
 join-ends-requires-send-F g c κs = search (job.the_send, list.the_send, gate.the_sync, inwards) depth 60 fits 20000

@@ -1,9 +1,0 @@
-use Rattle.pool_tests.proofs.Crossings.{inwards, outwards}
-use Rattle.pool_tests.proofs.tests.Note.TheSendSync as job
-use Rattle.pool_tests.proofs.tests.a_stop_among_a_thousand_tasks_loses_none.Goals as goal
-
-pub join-end-requires-send-F : goal.join-end-requires-send-F
-join-end-requires-send-F g c κs = search (job.the_send, inwards) depth 60 fits 20000
-
-pub join-end-requires-send-A : goal.join-end-requires-send-A
-join-end-requires-send-A g c κs = search (job.the_send, outwards) depth 60 fits 20000
