@@ -1,5 +1,6 @@
 -- The lines of a table and its documents, one by one.
-use Rattle.std.proofs.Common.{◌≡◌, List, [], ◌∷◌, ◌++◌, length, map, refl, ap, ◌∙◌, sym, append-nil, arith}
+use Rattle.std.proofs.Common.{◌≡◌, List, [], ◌∷◌, ◌++◌, map, refl, ap, ◌∙◌, sym, append-nil, arith}
+use Rattle.std.proofs.lemmas.List.{nil_from_length}
 use Rattle.std.specs.Vec.Iter.{into_iter_items, into_iter_len}
 use Rattle.std.specs.declared.vec.IntoIter.{IntoIter}
 use Rattle.std.specs.List.{AllByRecursion, filter_map}
@@ -14,11 +15,7 @@ use Rattle.line_table.specs.Numbered.{HasNumbers, bare_line, line_by, numbered_d
 -- what was yielded is all, once nothing is to come
 pub all-yielded : {X Z : Type 0} (yielded : List X) (left : IntoIter X Z) (items : List X) → yielded ++ into_iter_items left ≡ items → into_iter_len left ≡ 0 → yielded ≡ items
 all-yielded {X} yielded left items whole none =
-    sym (append-nil yielded) ∙ (ap (λ (xs : List X). yielded ++ xs) (sym (nothing (into_iter_items left) (omega (arith, none, left.rest.ok)))) ∙ whole)
-  where
-    nothing : (xs : List X) → length xs ≡ 0 → xs ≡ []
-    nothing [] e = refl
-    nothing (x ∷ xs) e = absurd (omega (arith, e))
+    sym (append-nil yielded) ∙ (ap (λ (xs : List X). yielded ++ xs) (sym (nil_from_length (into_iter_items left) (omega (arith, none, left.rest.ok)))) ∙ whole)
 
 pub docs-numbers : (words : List Word) (ts : List TableLine) → AllByRecursion (HasNumbers words) ts → AllByRecursion (AreNumbers words) (filter_map numbered_doc ts)
 docs-numbers words [] all = tt

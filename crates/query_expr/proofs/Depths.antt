@@ -17,15 +17,15 @@ one_depth (t ∷ tokens) m n (inr a) (inl b) = absurd (a.0 b.0)
 one_depth (t ∷ tokens) m n (inr a) (inr b) = one_depth tokens m n a.1 b.1
 
 -- Nothing in a phrase is open.
-word_opens : (w : _) → ¬ IsOpener (token.Word w)
+pub word_opens : (w : _) → ¬ IsOpener (token.Word w)
 word_opens w (inl e) = cc
 word_opens w (inr e) = cc
 
-right_opens : ¬ IsOpener token.Right
+pub right_opens : ¬ IsOpener token.Right
 right_opens (inl e) = cc
 right_opens (inr e) = cc
 
-bar_opens : ¬ IsOpener token.Bar
+pub bar_opens : ¬ IsOpener token.Bar
 bar_opens (inl e) = cc
 bar_opens (inr e) = cc
 
@@ -49,12 +49,12 @@ HasDepth-phrase (bar e b) rest n h =
 
 -- No fact begins with nothing, none is whole behind a bang and no whole fact, and none at a bracket behind which no bracket
 -- is left over.
-no_fact_in_nothing : HasNoFact []
+pub no_fact_in_nothing : HasNoFact []
 no_fact_in_nothing (word w) more h = cc
 no_fact_in_nothing (bang f) more h = cc
 no_fact_in_nothing (brackets e) more h = cc
 
-no_fact_at_bang : (tokens : List Token) → HasNoFact tokens → HasNoFact (token.Bang ∷ tokens)
+pub no_fact_at_bang : (tokens : List Token) → HasNoFact tokens → HasNoFact (token.Bang ∷ tokens)
 no_fact_at_bang tokens none (word w) more h = cc
 no_fact_at_bang tokens none (bang f) more h = let e : tokens_of f ++ more ≡ tokens = cc in none f more e
 no_fact_at_bang tokens none (brackets p) more h = cc

@@ -13,7 +13,7 @@ use Rattle.query_grammar.specs.Faults.{Accepts, IsFaultlessTo, Refuses}
 use Rattle.query_expr.proofs.Machine.{State, start, next, run, run_whole, frame_of}
 use Rattle.query_expr.proofs.Texts.{text, text-next}
 use Rattle.query_expr.proofs.Answering.{CanGoOn-text, one_phrase}
-use Rattle.query_expr.proofs.Depths.{frames_depth, HasDepth-text}
+use Rattle.query_expr.proofs.Depths.{frames_depth, HasDepth-text, word_opens, right_opens, bar_opens}
 
 -- Tokens from which an expression goes on take the machine to a state.
 run-append : (o : Option State) (xs ys : List Token) → run o (xs ++ ys) ≡ run (run o xs) ys
@@ -123,18 +123,6 @@ unexpected_ends tokens i h faultless = h.2 faultless.goes_on
 -- the token at a place
 at_place : (tokens : List Token) (i : ℕ) → i < length tokens → take (i + 1) tokens ≡ take i tokens ++ get_or tokens i token.Bar ∷ []
 at_place tokens i lt = take_more tokens i token.Bar lt
-
-word_opens : (w : _) → ¬ IsOpener (token.Word w)
-word_opens w (inl e) = cc
-word_opens w (inr e) = cc
-
-right_opens : ¬ IsOpener token.Right
-right_opens (inl e) = cc
-right_opens (inr e) = cc
-
-bar_opens : ¬ IsOpener token.Bar
-bar_opens (inl e) = cc
-bar_opens (inr e) = cc
 
 too_deep_at : (tokens : List Token) (i : ℕ) (t : Token) → IsFaultlessTo tokens i → HasDepth (take i tokens ++ t ∷ []) 65 → ¬ IsOpener t → ⊥
 too_deep_at tokens i t faultless deep none =

@@ -7,9 +7,9 @@ use Rattle.query_grammar.specs.declared.token.Token.{Token}
 use Rattle.query_grammar.specs.declared.token.Token.TheVariants as token
 use Rattle.query_grammar.specs.Tree.{Tree}
 use Rattle.query_grammar.specs.Grammar.{Kind, Phrase, tokens_of, tree_of, CanGoOn}
-use Rattle.query_grammar.specs.Depth.{IsOpener, HasNoFact, HasDepth, IsWithinDepth}
+use Rattle.query_grammar.specs.Depth.{HasNoFact, HasDepth, IsWithinDepth}
 use Rattle.query_grammar.specs.Faults as grammar
-use Rattle.query_expr.proofs.Depths.{one_depth, HasDepth-phrase, no_fact_at_left}
+use Rattle.query_expr.proofs.Depths.{one_depth, HasDepth-phrase, no_fact_at_left, word_opens, right_opens, bar_opens, no_fact_in_nothing, no_fact_at_bang}
 use Rattle.query_expr.proofs.Answered.{some_depth}
 use Rattle.query_expr.proofs.Firsts.{state_of}
 use Rattle.query_grammar.specs.Canonical.{phrases_of, canonical_tokens}
@@ -23,29 +23,6 @@ nest (Phrase.one_fact f) = nest f
 nest (Phrase.beside b f) = max (nest b) (nest f)
 nest (Phrase.one_both b) = nest b
 nest (Phrase.bar e b) = max (nest e) (nest b)
-
--- what opens nothing
-word_opens : (w : _) → ¬ IsOpener (token.Word w)
-word_opens w (inl e) = cc
-word_opens w (inr e) = cc
-
-right_opens : ¬ IsOpener token.Right
-right_opens (inl e) = cc
-right_opens (inr e) = cc
-
-bar_opens : ¬ IsOpener token.Bar
-bar_opens (inl e) = cc
-bar_opens (inr e) = cc
-
-no_fact_in_nothing : HasNoFact []
-no_fact_in_nothing (Phrase.word w) more h = cc
-no_fact_in_nothing (Phrase.bang f) more h = cc
-no_fact_in_nothing (Phrase.brackets e) more h = cc
-
-no_fact_at_bang : (tokens : List Token) → HasNoFact tokens → HasNoFact (token.Bang ∷ tokens)
-no_fact_at_bang tokens none (Phrase.word w) more h = cc
-no_fact_at_bang tokens none (Phrase.bang f) more h = let e : tokens_of f ++ more ≡ tokens = cc in none f more e
-no_fact_at_bang tokens none (Phrase.brackets p) more h = cc
 
 -- the first tokens of two lists
 take-past : (xs ys : List Token) (k : ℕ) → take (length xs + k) (xs ++ ys) ≡ xs ++ take k ys
@@ -257,7 +234,7 @@ is_least (Phrase.bar e b) =
     }
 
 -- a phrase has a token, and the canonical phrases have the tree
-some_tokens : {kind : Kind} (p : Phrase kind) → 0 < length (tokens_of p)
+pub some_tokens : {kind : Kind} (p : Phrase kind) → 0 < length (tokens_of p)
 some_tokens (Phrase.word w) = omega arith
 some_tokens (Phrase.bang f) = omega arith
 some_tokens (Phrase.brackets e) = omega arith

@@ -19,7 +19,7 @@ use Rattle.query_model.specs.Output.{output, error_text, IsTextOf}
 use Rattle.query_model.proofs.ReadingLaws.{StandFor-push, StandFor-none, kept-push}
 
 -- there are at least as many tokens as the depth behind them
-depth_le : (tokens : List Token) (n : ℕ) → HasDepth tokens n → n ≤ length tokens
+pub depth_le : (tokens : List Token) (n : ℕ) → HasDepth tokens n → n ≤ length tokens
 depth_le [] n h = omega arith
 depth_le (t ∷ tokens) n (inl h) = let less = depth_le tokens h.1.0 h.1.2 in omega (arith, h.1.1)
 depth_le (t ∷ tokens) n (inr h) = let less = depth_le tokens n h.1 in omega arith

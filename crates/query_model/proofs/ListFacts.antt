@@ -1,5 +1,6 @@
 -- Reading a list by place.
 use Rattle.std.proofs.Common.{◌≡◌, ℕ, zero, suc, ◌<◌, List, [], ◌∷◌, ◌++◌, length, take, drop, Option, Some, None, Result, Ok, Err, refl, ap, ◌∙◌, arith}
+use Rattle.std.proofs.lemmas.List.Elements.{filter_map-append}
 use Rattle.std.specs.List.{slice_get, filter_map, cons_option}
 use Rattle.std.specs.Option.{option_to_list}
 use Rattle.std.specs.Result.{result_ok}
@@ -43,15 +44,10 @@ module _ {A : Type 0} where
   ok_from_some (Err e) x h = absurd cc
 
 module _ {A B : Type 0} (h : A → Option B) where
-  cons_option-append : (o : Option B) (xs ys : List B) → cons_option o (xs ++ ys) ≡ cons_option o xs ++ ys
-  cons_option-append None xs ys = refl
-  cons_option-append (Some x) xs ys = refl
-
   cons_option-alone : (o : Option B) → cons_option o [] ≡ option_to_list o
   cons_option-alone None = refl
   cons_option-alone (Some x) = refl
 
   -- one more item behind the others
   pub filter_map-push : (xs : List A) (x : A) → filter_map h (xs ++ x ∷ []) ≡ filter_map h xs ++ option_to_list (h x)
-  filter_map-push [] x = cons_option-alone (h x)
-  filter_map-push (y ∷ ys) x = ap (λ zs. cons_option (h y) zs) (filter_map-push ys x) ∙ cons_option-append (h y) (filter_map h ys) (option_to_list (h x))
+  filter_map-push xs x = filter_map-append h xs (x ∷ []) ∙ ap (λ zs. filter_map h xs ++ zs) (cons_option-alone (h x))

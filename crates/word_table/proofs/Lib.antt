@@ -1,6 +1,6 @@
 mod NumberLemmas
 mod PlaceLemmas
-mod PairLemmas
+pub mod PairLemmas
 mod RowLemmas
 pub mod ToldLemmas
 mod DocLemmas

@@ -5,7 +5,7 @@ use Rattle.std.specs.declared.cmp.Ordering.{Ordering}
 use Rattle.std.specs.declared.cmp.Ordering.TheVariants.{Less, Equal, Greater}
 use Rattle.std.specs.Cmp.Lexicographic.{pointwise, slice_cmp, bytes_decides}
 use Rattle.std.specs.BTreeMap.{get, is_at}
-use Rattle.std.proofs.lemmas.Bool.{cases_lt}
+use Rattle.std.proofs.lemmas.Bool.{cases_lt, eq-eqb, le-ltb, lt-ltb, ne_eqb}
 use Rattle.std.proofs.lemmas.Bool.Decides.{nat_tests}
 use Rattle.std.proofs.lemmas.List.{get_or_append_left, get_or_push, length_push, take_more}
 use Rattle.fan_base.specs.declared.word.Word.{Word}
@@ -33,24 +33,12 @@ same_word v w e = (bytes_decides v w).0 e
 itself : (w : Word) → pointwise eqb w w ≡ true
 itself w = (bytes_decides w w).1 refl
 
-pub lt-true : (x y : ℕ) → x < y → ltb x y ≡ true
-lt-true x y h = grind (arith, nat_tests)
-
-pub ge-false : (x y : ℕ) → y ≤ x → ltb x y ≡ false
-ge-false x y h = grind (arith, nat_tests)
-
-pub eq-true : (x y : ℕ) → x ≡ y → eqb x y ≡ true
-eq-true x y h = grind (arith, nat_tests)
-
-pub neq-false : (x y : ℕ) → (x ≡ y → ⊥) → eqb x y ≡ false
-neq-false x y h = grind (arith, nat_tests)
-
 eqb-suc : (x y : ℕ) → eqb (suc x) (suc y) ≡ eqb x y
 eqb-suc x y = elim (cases_lt x y) [
-  | inl less ↦ neq-false (suc x) (suc y) (λ e. omega (arith, e, less)) ∙ sym (neq-false x y (λ e. omega (arith, e, less)))
+  | inl less ↦ ne_eqb (suc x) (suc y) (λ e. omega (arith, e, less)) ∙ sym (ne_eqb x y (λ e. omega (arith, e, less)))
   | inr more ↦ elim (cases_lt y x) [
-    | inl less ↦ neq-false (suc x) (suc y) (λ e. omega (arith, e, less)) ∙ sym (neq-false x y (λ e. omega (arith, e, less)))
-    | inr same ↦ eq-true (suc x) (suc y) (omega (arith, more, same)) ∙ sym (eq-true x y (omega (arith, more, same)))
+    | inl less ↦ ne_eqb (suc x) (suc y) (λ e. omega (arith, e, less)) ∙ sym (ne_eqb x y (λ e. omega (arith, e, less)))
+    | inr same ↦ eq-eqb (suc x) (suc y) (omega (arith, more, same)) ∙ sym (eq-eqb x y (omega (arith, more, same)))
   ]
 ]
 
@@ -112,18 +100,18 @@ same-number (u ∷ us) x w h = by (pointwise eqb u x) (pointwise eqb u w) refl r
     by : (a b : Bool) → pointwise eqb u x ≡ a → pointwise eqb u w ≡ b → cond a zero (suc (number_in us x)) < suc (length us)
         → (number_in us x < length us → eqb (number_in us x) (number_in us w) ≡ pointwise eqb x w)
         → eqb (cond a zero (suc (number_in us x))) (cond b zero (suc (number_in us w))) ≡ pointwise eqb x w
-    by true true p q h rest = eq-true zero zero refl ∙ sym (first p ∙ q)
-    by true false p q h rest = neq-false zero (suc (number_in us w)) (λ e. omega (arith, e)) ∙ sym (first p ∙ q)
-    by false true p q h rest = neq-false (suc (number_in us x)) zero (λ e. omega (arith, e)) ∙ sym (other (pointwise eqb x w) refl p q)
+    by true true p q h rest = eq-eqb zero zero refl ∙ sym (first p ∙ q)
+    by true false p q h rest = ne_eqb zero (suc (number_in us w)) (λ e. omega (arith, e)) ∙ sym (first p ∙ q)
+    by false true p q h rest = ne_eqb (suc (number_in us x)) zero (λ e. omega (arith, e)) ∙ sym (other (pointwise eqb x w) refl p q)
     by false false p q h rest = eqb-suc (number_in us x) (number_in us w) ∙ rest (omega (arith, h))
 
 -- what the map finds
 
 found-some : (words : List Word) (w : Word) (n : ℕ) → number_in words w ≡ n → n < length words → found_in words w ≡ Some n
-found-some words w n is h = (λ i. cond (ltb (is i) (length words)) (Some (is i)) None) ∙ ap (λ (b : Bool). cond b (Some n) None) (lt-true n (length words) h)
+found-some words w n is h = (λ i. cond (ltb (is i) (length words)) (Some (is i)) None) ∙ ap (λ (b : Bool). cond b (Some n) None) (lt-ltb n (length words) h)
 
 found-none : (words : List Word) (w : Word) → length words ≤ number_in words w → found_in words w ≡ None
-found-none words w h = ap (λ (b : Bool). cond b (Some (number_in words w)) None) (ge-false (number_in words w) (length words) h)
+found-none words w h = ap (λ (b : Bool). cond b (Some (number_in words w)) None) (le-ltb (number_in words w) (length words) h)
 
 pub none-found : (words : List Word) (w : Word) → found_in words w ≡ None → number_in words w ≡ length words
 none-found words w none = elim (cases_lt (number_in words w) (length words)) [
@@ -154,10 +142,10 @@ found-push words x w new = elim (cases_lt (number_in words w) (length words)) [
     by false is = sym (found-none (words ++ x ∷ []) w (omega (arith, length_push words x, is)))
 
 pub with-old : (words : List Word) (w : Word) → number_in words w < length words → with_word words w ≡ words
-with-old words w h = ap (λ (b : Bool). cond b words (words ++ w ∷ [])) (lt-true (number_in words w) (length words) h)
+with-old words w h = ap (λ (b : Bool). cond b words (words ++ w ∷ [])) (lt-ltb (number_in words w) (length words) h)
 
 pub with-new : (words : List Word) (w : Word) → length words ≤ number_in words w → with_word words w ≡ words ++ w ∷ []
-with-new words w h = ap (λ (b : Bool). cond b words (words ++ w ∷ [])) (ge-false (number_in words w) (length words) h)
+with-new words w h = ap (λ (b : Bool). cond b words (words ++ w ∷ [])) (le-ltb (number_in words w) (length words) h)
 
 pub hint-right : (d : Dictionary) (words : List Word) (n : ℕ) (w : Word) → Knows d words → IsAt d.words.items n w → n ≡ number_in words w
 hint-right d words n w knows at = sym (knows.differ n w (subst (λ (ws : List Word). IsAt ws n w) knows.words_are at))
