@@ -2,7 +2,7 @@
 use Rattle.std.proofs.Common.{◌≡◌, ℕ, [], ◌∷◌, ◌++◌, length, take, drop, get_or, Bool, true, false, ◌||◌, eqb, true≢false, sym, refl, ap, ◌∙◌, arith, append-nil}
 use Rattle.std.specs.List.{All, AllByRecursion, onto_first, flat_map}
 use Rattle.std.specs.Prelude.{filter, find, not}
-use Rattle.std.proofs.lemmas.Bool.{lt-ltb, eqb-true}
+use Rattle.std.proofs.lemmas.Bool.{lt-ltb, eqb-true, or_from, or_parts}
 use Rattle.std.proofs.lemmas.List.Concat.{flat_map-append}
 use Rattle.std.proofs.lemmas.List.Elements.{recursion_from_All, All-from_recursion, All-weaker}
 use Rattle.std.proofs.lemmas.List.Splits.{slice_split_none, slice_split_at}
@@ -28,10 +28,6 @@ pieces_last bytes (b ∷ bs) some clear whole = rw whole (last_piece b bs (recur
 
 pub pieces_cut : (bytes front after : Bytes) → All (λ b. eqb b line_feed ≡ false) front → bytes ≡ front ++ line_feed ∷ after → pieces bytes ≡ front ∷ pieces after
 pieces_cut bytes front after clear whole = rw whole (first_piece front after (recursion_from_All _ front clear))
-
-or_false : (a b : Bool) → (a || b) ≡ false → (a ≡ false) × (b ≡ false)
-or_false true b e = absurd (true≢false e)
-or_false false b e = (refl, e)
 
 -- spaces before a text give no field and no part, and tell nothing
 behind_spaces : {A : Type 0} (f : Bytes → A) → ((bs : Bytes) → f (space ∷ bs) ≡ f bs) → (front rest : Bytes) → AllByRecursion (λ b. b ≡ space) front → f (front ++ rest) ≡ f rest
@@ -148,7 +144,7 @@ sign_cut line front (b ∷ bs) spaces whole some sign = parts_behind line front 
 apart_run : (run : Bytes) → AllByRecursion (λ b. ends_run b ≡ false) run → flat_map apart run ≡ run
 apart_run [] clear = refl
 apart_run (b ∷ bs) clear =
-    ap (λ xs. xs ++ flat_map apart bs) (apart-other b (or_false (eqb b space) (is_sign b) clear.0).1) ∙ ap (λ xs. b ∷ xs) (apart_run bs clear.1)
+    ap (λ xs. xs ++ flat_map apart bs) (apart-other b (or_parts (eqb b space) (is_sign b) clear.0).1) ∙ ap (λ xs. b ∷ xs) (apart_run bs clear.1)
 
 left_of : (x y : Bool) → y ≡ false → (x || y) ≡ x
 left_of true y f = refl
@@ -168,11 +164,11 @@ parts-run : (run after : Bytes) → is_some_text run ≡ true → All (λ b. end
 unfolding parts
 parts-run run [] some clear stops =
     ap fields (ap (flat_map apart) (append-nil run) ∙ apart_run run (recursion_from_All _ run clear))
-    ∙ (field_at_end run some (All-weaker _ (λ b. eqb b space ≡ false) (λ b e. (or_false (eqb b space) (is_sign b) e).0) run clear) ∙ ap (λ fs. run ∷ fs) (sym no_fields))
+    ∙ (field_at_end run some (All-weaker _ (λ b. eqb b space ≡ false) (λ b e. (or_parts (eqb b space) (is_sign b) e).0) run clear) ∙ ap (λ fs. run ∷ fs) (sym no_fields))
 parts-run run (d ∷ ds) some clear stops =
     let end = end_of_run d ds stops in
     ap fields (flat_map-append apart run (d ∷ ds) ∙ (ap (λ xs. xs ++ flat_map apart (d ∷ ds)) (apart_run run (recursion_from_All _ run clear)) ∙ ap (λ xs. run ++ xs) end.1))
-    ∙ (field_before run end.0 some (All-weaker _ (λ b. eqb b space ≡ false) (λ b e. (or_false (eqb b space) (is_sign b) e).0) run clear)
+    ∙ (field_before run end.0 some (All-weaker _ (λ b. eqb b space ≡ false) (λ b e. (or_parts (eqb b space) (is_sign b) e).0) run clear)
     ∙ ap (λ fs. run ∷ fs) (sym (ap fields end.1 ∙ fields-space end.0)))
 
 some_run : (rest run after : Bytes) → HasNoSpaceFirst rest → eqb (length rest) 0 ≡ false → is_sign (get_or rest 0 0) ≡ false → rest ≡ run ++ after → IsAtEndOfRun after → is_some_text run ≡ true
@@ -181,11 +177,7 @@ some_run [] [] after first some other whole stops = absurd (true≢false some)
 some_run (r ∷ rs) [] [] first some other whole stops = absurd cc
 some_run (r ∷ rs) [] (d ∷ ds) first some other whole stops =
     let same : r ≡ d = cc in
-    absurd (true≢false (sym (ap ends_run same ∙ stops) ∙ both_false (eqb r space) (is_sign r) first other))
-  where
-    both_false : (x y : Bool) → x ≡ false → y ≡ false → (x || y) ≡ false
-    both_false true y a b = absurd (true≢false a)
-    both_false false y a b = b
+    absurd (true≢false (sym (ap ends_run same ∙ stops) ∙ or_from (eqb r space) (is_sign r) first other))
 
 pub run_cut : (line front rest run after : Bytes) → All (λ b. b ≡ space) front → line ≡ front ++ rest → HasNoSpaceFirst rest → eqb (length rest) 0 ≡ false
     → is_sign (get_or rest 0 0) ≡ false → All (λ b. ends_run b ≡ false) run → rest ≡ run ++ after → IsAtEndOfRun after → parts line ≡ run ∷ parts after

@@ -1,5 +1,5 @@
 -- How far the reading of an input has come.
-use Rattle.std.proofs.Common.{◌≡◌, ℕ, ◌+◌, ◌<◌, ◌≤◌, List, [], ◌∷◌, ◌++◌, length, Bool, true, false, cond, eqb, Option, Some, None, Result, Ok, Err, refl, sym, ap, ◌∙◌, arith, append_assoc, append-nil, length-append, subst}
+use Rattle.std.proofs.Common.{◌≡◌, ℕ, ◌+◌, ◌<◌, ◌≤◌, List, [], ◌∷◌, ◌++◌, length, Bool, true, false, cond, eqb, Option, Result, Ok, Err, refl, sym, ap, ◌∙◌, arith, append_assoc, append-nil, length-append, subst}
 use Rattle.std.specs.List.{onto_first}
 use Rattle.std.specs.Option.{option_to_list}
 use Rattle.std.specs.Result.{IfOk}
@@ -12,14 +12,9 @@ use Rattle.query_model.specs.Pieces.{Bytes, pieces, line_feed}
 use Rattle.query_model.specs.Lines.{LineBehind}
 use Rattle.query_model.specs.Reading.{kept, StandFor, Accepts, Refuses}
 use Rattle.query_model.specs.Laws.{IsDecided}
+use Rattle.query_model.proofs.ReadingLaws.{kept-push}
 use Rattle.query_text.specs.Progress.{HasRead}
 use Rattle.query_text.specs.Outcomes.{AreLinesOf, IsRefusal}
-
-kept-push : (marks : List (Option Line)) (mark : Option Line) → kept (marks ++ mark ∷ []) ≡ kept marks ++ option_to_list mark
-kept-push [] None = refl
-kept-push [] (Some l) = refl
-kept-push (None ∷ ms) mark = kept-push ms mark
-kept-push (Some l ∷ ms) mark = ap (λ ls. l ∷ ls) (kept-push ms mark)
 
 pub read_none : (shards : ℕ) (all : List Bytes) → StandFor shards [] [] → HasRead shards all all [] 0
 read_none shards all none = record { done = []; marks = []; cut = refl; stand = none; lines_are = refl; number_is = refl }

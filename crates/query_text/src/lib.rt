@@ -2,7 +2,8 @@
 //!
 //! - `read_input`, `read_lines`: an input, or its lines alone with their documents as numbers; or the first bad line with its number and
 //!   kind, and where an expression is at fault, the place (`BadInput`). A line ends with a line feed; empty lines count and say nothing.
-//! - `write_input`: the text of an input. `input_law`: what is written is read back as it was.
+//! - `write_input`: the text of an input, which is accepted as that input.
+//! - `input_law`: bytes are accepted as one input or refused with one line and kind, never both.
 //! - `reply_line`, `error_line`: the line of a reply, and that of a bad input.
 //!
 //! A line is cut at its spaces into fields (`Fields`), and its first one tells its kind. Each reader answers what a definition over the

@@ -1,5 +1,5 @@
 -- What the plain program may conclude of all its tokens.
-use Rattle.std.proofs.Common.{◌≡◌, ℕ, zero, suc, ◌+◌, ◌<◌, ◌≤◌, List, [], ◌∷◌, ◌++◌, length, take, Bool, true, false, IsTrue, ◌↔◌, Some, None, refl, sym, ap, ◌∙◌, subst, arith, inl, inr, below_more, append_assoc, length-append}
+use Rattle.std.proofs.Common.{◌≡◌, ℕ, zero, suc, ◌+◌, ◌<◌, ◌≤◌, List, [], ◌∷◌, ◌++◌, length, take, Bool, true, false, IsTrue, ◌↔◌, Some, None, refl, sym, ap, ◌∙◌, subst, arith, below_more, append_assoc, length-append}
 use Rattle.std.proofs.lemmas.List.{take_all, length-take}
 use Rattle.fan_base.specs.declared.word.Word.{Word}
 use Rattle.query_grammar.specs.declared.token.Token.{Token}
@@ -7,7 +7,7 @@ use Rattle.query_grammar.specs.declared.token.Token.TheVariants as token
 use Rattle.query_grammar.specs.declared.fault.ExprFault.TheVariants as fault
 use Rattle.query_grammar.specs.Tree.{Tree}
 use Rattle.query_grammar.specs.Grammar.{Kind, word, tokens_of, CanGoOn}
-use Rattle.query_grammar.specs.Depth.{HasDepth, IsWithinDepth}
+use Rattle.query_grammar.specs.Depth.{IsWithinDepth}
 use Rattle.query_grammar.specs.Faults.{AreSome, Accepts, Refuses}
 use Rattle.text_tests.specs.Slow.{Finds, rights, closed}
 use Rattle.query_expr.proofs.Machine.{Frame, State, start}
@@ -15,6 +15,7 @@ use Rattle.query_expr.proofs.Texts.{text, frame_text, below_text}
 use Rattle.query_expr.proofs.Answering.{completed, tokens_of-completed, CanGoOn-text}
 use Rattle.query_expr.proofs.Answering as from_answering
 use Rattle.query_expr.proofs.Firsts.{state_of}
+use Rattle.query_model.proofs.Building.{depth_le}
 
 pub CanGoOn-nothing : CanGoOn []
 CanGoOn-nothing = CanGoOn-text start
@@ -58,13 +59,8 @@ pub no_if : (P : Type 0) → ¬ P → IsTrue false ↔ P
 no_if P none = (λ (e : IsTrue false). cc, λ p. absurd (none p))
 
 -- Few tokens are nowhere too deep.
-HasDepth-length : (tokens : List Token) (n : ℕ) → HasDepth tokens n → n ≤ length tokens
-HasDepth-length [] n h = omega (arith, h)
-HasDepth-length (t ∷ tokens) n (inl h) = omega (arith, h.1.1, HasDepth-length tokens h.1.0 h.1.2)
-HasDepth-length (t ∷ tokens) n (inr h) = omega (arith, HasDepth-length tokens n h.1)
-
 few_shallow : (tokens : List Token) → length tokens ≤ 64 → IsWithinDepth 64 tokens
-few_shallow tokens few place n h = omega (arith, HasDepth-length (take place tokens) n h, length-take place tokens)
+few_shallow tokens few place n h = omega (arith, depth_le (take place tokens) n h, length-take place tokens)
 
 front_shallow : (tokens : List Token) (place : ℕ) → length tokens ≤ 64 → IsWithinDepth 64 (take place tokens)
 front_shallow tokens place few = few_shallow (take place tokens) (omega (arith, length-take place tokens))

@@ -7,16 +7,7 @@ use Rattle.query_grammar.specs.declared.token.Token.TheVariants as token
 use Rattle.query_grammar.specs.Tree.{Tree}
 use Rattle.query_grammar.specs.Grammar.{Kind, Phrase, word, bang, brackets, one_fact, beside, one_both, bar, tokens_of, tree_of}
 use Rattle.text_tests.specs.Slow.{Finds, FindsBeside, FindsBar}
-
--- A phrase has some tokens.
-some_tokens : {kind : Kind} (p : Phrase kind) → 0 < length (tokens_of p)
-some_tokens (word w) = omega arith
-some_tokens (bang f) = omega arith
-some_tokens (brackets e) = omega arith
-some_tokens (one_fact f) = some_tokens f
-some_tokens (beside b f) = omega (arith, some_tokens b, length-append (tokens_of b) (tokens_of f))
-some_tokens (one_both b) = some_tokens b
-some_tokens (bar e b) = omega (arith, some_tokens e, length-append (tokens_of e) (token.Bar ∷ tokens_of b))
+use Rattle.query_expr.proofs.Nesting.{some_tokens}
 
 pub nothing_is_no_fact : (tokens : List Token) → length tokens ≡ 0 → Finds Kind.fact tokens None
 nothing_is_no_fact tokens none p e = let some : 0 < length (tokens_of p) = some_tokens p in absurd (omega (arith, ap length e))

@@ -1,0 +1,27 @@
+use Rattle.std.proofs.Common.{◌≡◌, ℕ, ◌+◌, ◌≤◌, Bool, List, eqb, not, cond, length, take, drop, sym, ap, ◌∙◌, arith, add_assoc}
+use Rattle.std.proofs.lemmas.Bool.{cond-true, eq-eqb}
+use Rattle.std.proofs.lemmas.List.Folds.{prefix_len-append}
+use Rattle.std.proofs.lemmas.Simd.{chunk-drop, length-chunk}
+use Rattle.std.specs.List.{prefix_len, position_or_len}
+use Rattle.query_text.proofs.cut.before.Goals as goal
+
+-- how many pass from i on, by how many of the first n there
+by_group : (p : ℕ → Bool) (xs : List ℕ) (i n : ℕ) → i + n ≤ length xs
+    → prefix_len p (drop i xs) ≡ cond (eqb (prefix_len p (take n (drop i xs))) n) (n + prefix_len p (drop (i + n) xs)) (prefix_len p (take n (drop i xs)))
+by_group p xs i n room =
+    ap (prefix_len p) (chunk-drop i n xs)
+    ∙ (prefix_len-append p (take n (drop i xs)) (drop (i + n) xs)
+    ∙ ap (λ m. cond (eqb (prefix_len p (take n (drop i xs))) m) (m + prefix_len p (drop (i + n) xs)) (prefix_len p (take n (drop i xs)))) (length-chunk i n xs room))
+
+pub groups-preserved : goal.groups-preserved
+groups-preserved c =
+    let bytes = c.args.bytes.now in
+    let p : ℕ → Bool = λ byte. eqb byte c.args.at in
+    let whole : c.lanes_before-passed.result ≡ 16 = c.if-passed-ne-LANES.false in
+    let all : position_or_len p (take 16 (drop c.groups.from bytes)) ≡ 16 = sym c.lanes_before-passed.ensures ∙ whole in
+    let more : position_or_len p (drop c.groups.from bytes) ≡ 16 + position_or_len p (drop (c.groups.from + 16) bytes) =
+    by_group (λ byte. not (p byte)) bytes c.groups.from 16 (omega arith) ∙ cond-true _ _ _ (eq-eqb _ _ all) in
+    record {
+      within = omega arith;
+      passed = c.groups.invariant.passed ∙ (ap (λ n. c.groups.from + n) more ∙ sym (add_assoc c.groups.from 16 _));
+    }
