@@ -1,37 +1,23 @@
 -- What is drawn as a word is one.
-use Rattle.std.proofs.Common.{refl, ◌≡◌, ◌≢◌, ◌↔◌, ◌<◌, ◌≤◌, ℕ, List, [], ◌∷◌, ◌++◌, length, codes, Bool, true, false, ◌&&◌, ◌||◌, nat_le, arith, rules, le-leb, Result, Err}
+use Rattle.std.proofs.Common.{refl, ◌≡◌, ◌≢◌, ◌↔◌, ◌<◌, ◌≤◌, ℕ, List, [], ◌∷◌, ◌++◌, length, codes, true, false, ◌&&◌, nat_le, arith, rules, le-leb, Result, Err}
 use Rattle.std.specs.Fmt.{decimal}
 use Rattle.std.specs.Char.{is_ascii_digit, is_ascii_lowercase}
 use Rattle.std.specs.List.{list_all}
 use Rattle.std.specs.Str.{all_ascii_digits}
 use Rattle.std.proofs.lemmas.Fmt.{digits_decimal, length-decimal-le}
 use Rattle.std.proofs.lemmas.Str.Parse.{numerals_by_value, tells_all_ascii_digits}
+use Rattle.std.proofs.lemmas.Bool.{and_from, or_right}
 use Rattle.fan_base.specs.Word.{IsWord, is_word_byte}
 use Rattle.fan_base.specs.declared.word.Word.{Word}
 use Rattle.fan_base.specs.declared.word.WordFault.{WordFault}
 use Rattle.fan_base.specs.declared.word.WordFault.TheVariants.{BadWord, Memory}
-
-either : (a b : Bool) → b ≡ true → (a || b) ≡ true
-either true b h = refl
-either false b h = h
-
-both : (a b : Bool) → a ≡ true → b ≡ true → (a && b) ≡ true
-both true b h k = k
-both false b h k = h
-
-first : (a b : Bool) → (a && b) ≡ true → a ≡ true
-first true b h = refl
-first false b h = h
-
-second : (a b : Bool) → (a && b) ≡ true → b ≡ true
-second true b h = h
-second false b h = grind rules
+use Rattle.fan_base.proofs.Words.{first_of_all, rest_of_all}
 
 digits_are_word_bytes : (ds : List ℕ) → all_ascii_digits ds ≡ true → list_all is_word_byte ds ≡ true
 digits_are_word_bytes [] h = refl
 digits_are_word_bytes (c ∷ cs) h =
-    both (is_word_byte c) (list_all is_word_byte cs) (either (is_ascii_lowercase c) (is_ascii_digit c) (first (is_ascii_digit c) (all_ascii_digits cs) h))
-    (digits_are_word_bytes cs (second (is_ascii_digit c) (all_ascii_digits cs) h))
+    and_from (is_word_byte c) (list_all is_word_byte cs) (or_right (is_ascii_lowercase c) (is_ascii_digit c) (first_of_all (is_ascii_digit c) (all_ascii_digits cs) h))
+    (digits_are_word_bytes cs (rest_of_all (is_ascii_digit c) (all_ascii_digits cs) h))
 
 pub drawn_is_word : (n : ℕ) → n < 500 → IsWord (codes "w" ++ decimal n)
 drawn_is_word n h =
@@ -40,8 +26,8 @@ drawn_is_word n h =
     let ds : List ℕ = decimal n in
     let some : nat_le 1 (length (119 ∷ ds)) ≡ true = le-leb 1 (length (119 ∷ ds)) (omega arith) in
     let fits : nat_le (length (119 ∷ ds)) 32 ≡ true = le-leb (length (119 ∷ ds)) 32 (omega (arith, few)) in
-    both (nat_le 1 (length (119 ∷ ds))) (nat_le (length (119 ∷ ds)) 32 && list_all is_word_byte (119 ∷ ds)) some
-    (both (nat_le (length (119 ∷ ds)) 32) (list_all is_word_byte (119 ∷ ds)) fits (digits_are_word_bytes ds digits))
+    and_from (nat_le 1 (length (119 ∷ ds))) (nat_le (length (119 ∷ ds)) 32 && list_all is_word_byte (119 ∷ ds)) some
+    (and_from (nat_le (length (119 ∷ ds)) 32) (list_all is_word_byte (119 ∷ ds)) fits (digits_are_word_bytes ds digits))
 
 pub is_never_refused : (made : Result Word WordFault) (bytes : List ℕ) (fault : WordFault) → IsWord bytes
     → ((made ≡ Err BadWord) ↔ (¬ IsWord bytes)) → (made ≢ Err Memory) → made ≡ Err fault → ⊥

@@ -1,10 +1,9 @@
 -- The parts of all shards together.
-use Rattle.std.proofs.Common.{◌≡◌, ℕ, zero, suc, ◌+◌, ◌-◌, ◌/◌, ◌<◌, ◌≤◌, ◌^◌, List, [], ◌∷◌, ◌++◌, length, Bool, true, false, cond, eqb, get_or, refl, sym, ap, ◌∙◌, arith, zero-add, length-drop, map, filter, take, drop, sum}
+use Rattle.std.proofs.Common.{◌≡◌, ℕ, zero, suc, ◌+◌, ◌-◌, ◌<◌, ◌≤◌, ◌^◌, List, [], ◌∷◌, ◌++◌, length, Bool, true, false, cond, get_or, refl, sym, ap, ◌∙◌, arith, zero-add, length-drop, map, take, drop, sum}
 use Rattle.std.specs.List.{range_with_len, filter_map, sum_by}
-use Rattle.std.proofs.lemmas.List.{drop_more, length-map, length-take, length-take-le, take_all}
-use Rattle.std.proofs.lemmas.List.FromFn.{get_or-map-range_with_len, length-map-range_with_len, map-range_with_len_more}
-use Rattle.std.proofs.lemmas.List.Sums.{count_by-le-length, length-filter, sum_by-cons, sum_by_more_le, sum-map}
-use Rattle.std.proofs.Math.Nat.{div-le_self}
+use Rattle.std.proofs.lemmas.List.{drop_more, length-map, length-take-le, take_all}
+use Rattle.std.proofs.lemmas.List.FromFn.{get_or-map-range_with_len, length-map-range_with_len}
+use Rattle.std.proofs.lemmas.List.Sums.{sum_by-cons, sum_by_more_le, sum-map}
 use Rattle.fan_base.specs.declared.doc.Doc.{Doc}
 use Rattle.fan_base.specs.declared.word.Word.{Word}
 use Rattle.query_grammar.specs.Tree.{Tree}
@@ -17,10 +16,10 @@ use Rattle.query_model.specs.Parts.{merged_hits, part_before}
 use Rattle.shard_index.specs.declared.counts.Counts.{Counts}
 use Rattle.shard_index.specs.Counting.{counts_of}
 use Rattle.shard_index.specs.Parts.{by_shard, weights_by}
+use Rattle.shard_index.proofs.MergeLemmas.{few-take, weight-le, total-of}
 use Rattle.query_parts.specs.declared.part.PartAnswer.{PartAnswer}
 use Rattle.query_parts.specs.Parts.{AreParts, counts_in, hits_in, mark_in, part_answer}
 use Rattle.query_parts.specs.Merging.{AreCounts}
-use Rattle.query_parts.proofs.PartLemmas.{total-of}
 
 pub total-fits : (parts : List PartAnswer) (i total : ℕ) (part : PartAnswer) → i < length parts → part ≡ get_or parts i part → total ≡ sum (map mark_in (take i parts)) → sum (map mark_in parts) < 2 ^ 64 → total + mark_in part < 2 ^ 64
 total-fits parts i total part within is so_far fits =
@@ -29,10 +28,6 @@ total-fits parts i total part within is so_far fits =
     let before = sum-map mark_in (take i parts) in
     let all = sum-map mark_in parts in
     omega arith
-
--- one shard more
-pub by_shard-push : {A : Type 0} (given : ℕ → A) (i : ℕ) → by_shard given i ++ given i ∷ [] ≡ by_shard given (i + 1)
-by_shard-push given i = sym (map-range_with_len_more given 0 i i (zero-add i))
 
 module _ (docs : ℕ → List Doc) where
   -- the hits among parts that have hits
@@ -207,20 +202,7 @@ weights-are whole words docs shards before many parts are is =
 
 -- weights are low
 
-length-filter-le : (p : Doc → Bool) (docs : List Doc) → length (filter p docs) ≤ length docs
-length-filter-le p docs = omega (arith, length-filter p docs, count_by-le-length p docs)
-
-length-take-fits : (n : ℕ) (docs : List Doc) → length (take n docs) ≤ length docs
-length-take-fits n docs = omega (arith, length-take n docs)
-
-weight-low : (docs : List Doc) (word : Word) → weight_of docs word ≤ length docs
-weight-low docs word = by (eqb (length (having word docs)) 0)
-  where
-    by : (b : Bool) → cond b 0 (length docs / length (having word docs)) ≤ length docs
-    by true = omega arith
-    by false = div-le_self (length docs) (length (having word docs))
-
 pub weights-low : (docs : List Doc) (before : ℕ) (words : List Word) → length docs < 2 ^ 32 → (k d : ℕ) → k < length (map (weight_of (take before docs)) words) → get_or (map (weight_of (take before docs)) words) k d < 2 ^ 32
 weights-low docs before [] few k d within = absurd (omega (arith, within))
-weights-low docs before (word ∷ words) few zero d within = omega (arith, weight-low (take before docs) word, length-take-fits before docs, few)
+weights-low docs before (word ∷ words) few zero d within = omega (arith, weight-le (take before docs) word, few-take before docs, few)
 weights-low docs before (word ∷ words) few (suc k) d within = weights-low docs before words few k d (omega (arith, within))

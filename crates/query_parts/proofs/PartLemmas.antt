@@ -10,13 +10,10 @@ use Rattle.query_grammar.specs.Tree.{Tree}
 use Rattle.query_grammar.specs.Truth.{is_true}
 use Rattle.query_model.specs.declared.line.Ask.{Ask}
 use Rattle.query_model.specs.declared.line.Ask.TheVariants as ask
-use Rattle.query_model.specs.Answers.{hits_of, holding}
+use Rattle.query_model.specs.Answers.{holding}
 use Rattle.query_model.specs.Parts.{mark_of}
 use Rattle.query_parts.specs.Parts.{mark_in, part_answer}
-
-pub total-of : (e : Tree) (docs : List Doc) → (hits_of e docs).total ≡ length (holding e docs)
-unfolding hits_of
-total-of e docs = refl
+use Rattle.shard_index.proofs.MergeLemmas.{total-of}
 
 counted : (e : Tree) (docs : List Doc) → length (holding e docs) ≡ mark_of (ask.Find e) docs
 counted e docs = length-filter (λ doc. is_true e doc.words) docs

@@ -1,7 +1,5 @@
 -- What is merged, read backwards.
-use Rattle.std.proofs.Common.{◌≡◌, ◌<◌, ℕ, List, [], ◌∷◌, ◌++◌, length, get_or, inl, inr, refl, sym, ap, subst, ◌∙◌, arith}
-use Rattle.std.proofs.lemmas.Bool.{cases_lt}
-use Rattle.std.proofs.lemmas.List.{length_push, get_or_push, get_or_append_left}
+use Rattle.std.proofs.Common.{◌≡◌, ℕ, List, length, refl, arith}
 use Rattle.fan_base.specs.declared.doc.Doc.{Doc}
 use Rattle.fan_base.specs.declared.word.Word.{Word}
 use Rattle.query_model.specs.declared.line.Ask.{Ask}
@@ -11,7 +9,6 @@ use Rattle.query_model.specs.Answers.{answer}
 use Rattle.query_model.specs.Parts.{part_before}
 use Rattle.shard_index.specs.declared.shard.Shard.{Shard}
 use Rattle.shard_index.specs.Parts.{by_shard}
-use Rattle.shard_index.specs.Standing.{StandsFor}
 use Rattle.query_parts.specs.declared.merge.Merged.TheVariants as merged
 use Rattle.query_parts.specs.declared.part.PartAnswer.{PartAnswer}
 use Rattle.query_parts.specs.declared.ranking.Ranking.{Ranking}
@@ -41,15 +38,3 @@ ranking-is (ask.Top k words) docs ranking is = record { k = k; words = words; as
 pub parts-are : (asks : Ask) (shards : List Shard) (docs : List Doc) (before : ℕ) (parts : List PartAnswer) → AreAskedOf shards docs before
     → parts ≡ by_shard (λ n. part_answer asks (part_before docs (length shards) n before)) (length shards) → AreParts asks docs (length shards) before parts
 parts-are asks shards docs before parts asked are = record { some = asked.are.some; few = asked.are.few; within = asked.within; parts_are = are }
-
--- one shard more
-pub shards-push : (all new : List Shard) (shard : Shard) (docs : List Doc) (shards number : ℕ) → new ≡ all ++ shard ∷ [] → length all ≡ number → StandsFor shard docs shards number
-    → ((n : ℕ) (s : Shard) → n < length all → StandsFor (get_or all n s) docs shards n) → (n : ℕ) (s : Shard) → n < length new → StandsFor (get_or new n s) docs shards n
-shards-push all new shard docs shards number pushed many stands each n s low = elim (cases_lt n (length all)) [
-  | inl less ↦
-      subst (λ (t : Shard). StandsFor t docs shards n) (sym (ap (λ (ss : List Shard). get_or ss n s) pushed ∙ get_or_append_left all (shard ∷ []) s n less)) (each n s less)
-  | inr more ↦
-      let last : length all ≡ n = omega (arith, more, low, ap length pushed, length_push all shard) in
-      subst (λ (t : Shard). StandsFor t docs shards n) (sym (ap (λ (ss : List Shard). get_or ss n s) pushed ∙ get_or_push all shard s n last))
-      (subst (λ (k : ℕ). StandsFor shard docs shards k) (sym many ∙ last) stands)
-]

@@ -6,8 +6,7 @@ use Rattle.std.specs.List.Sorted.{IsNonDecreasing}
 use Rattle.std.specs.Result.{IfOk}
 use Rattle.fan_base.specs.declared.doc.Doc.{Doc}
 use Rattle.query_model.specs.declared.reply.Hits.{Hits}
-use Rattle.std.proofs.lemmas.Bool.{false≢true}
-use Rattle.std.proofs.lemmas.Bool.Decides.{nat_tests}
+use Rattle.std.proofs.lemmas.Bool.{false≢true, le-ltb}
 use Rattle.std.proofs.lemmas.List.{take-map}
 use Rattle.query_model.specs.Sorting.{sorted_by, IsInOrder}
 use Rattle.shard_index.specs.Places.{places_from, places_where}
@@ -44,12 +43,9 @@ all-of docs n is = ap (λ k. range_with_len 0 k) (sym is) ∙ all-from 0 docs
 
 -- ids in order
 
-ge-ltb : (x y : ℕ) → y ≤ x → ltb x y ≡ false
-ge-ltb x y h = grind (arith, nat_tests)
-
 none-below : (x : ℕ) (xs : List ℕ) → ((k : ℕ) → k < length xs → x ≤ get_or xs k 0) → AllByRecursion (λ y. ltb y x ≡ false) xs
 none-below x [] h = tt
-none-below x (y ∷ ys) h = (ge-ltb y x (h 0 (omega arith)), none-below x ys (λ k low. h (suc k) (omega arith)))
+none-below x (y ∷ ys) h = (le-ltb y x (h 0 (omega arith)), none-below x ys (λ k low. h (suc k) (omega arith)))
 
 pub in-order : (xs : List ℕ) → IsNonDecreasing xs → IsInOrder ltb xs
 in-order [] h = tt

@@ -2,8 +2,8 @@
 use Rattle.std.proofs.Common.{◌≡◌, ℕ, zero, suc, ◌+◌, ◌*◌, ◌<◌, ◌≤◌, ◌^◌, List, [], ◌∷◌, ◌++◌, Bool, true, false, cond, ltb, length, get_or, replicate, refl, sym, ap, ◌∙◌, subst, arith, take, map, zip}
 use Rattle.std.specs.List.{All, AllByRecursion}
 use Rattle.std.specs.List.Sorted.{IsPartitionedBy}
-use Rattle.std.proofs.lemmas.Bool.Decides.{nat_tests}
 use Rattle.std.proofs.lemmas.List.{length-map, take-map, length-take-le}
+use Rattle.std.proofs.lemmas.Bool.{ltb-true}
 use Rattle.fan_base.specs.declared.doc.Doc.{Doc}
 use Rattle.fan_base.specs.declared.word.Word.{Word}
 use Rattle.query_grammar.specs.Tree.{Tree}
@@ -18,8 +18,9 @@ use Rattle.shard_index.specs.Selections.{hits_where}
 use Rattle.shard_index.specs.Standing.{Indexes}
 use Rattle.shard_index.proofs.NarrowLemmas.{stand-where}
 use Rattle.shard_index.proofs.PlaceLemmas.{below-standing, below-where, distinct-standing, front-replicate, length-places}
-use Rattle.shard_index.proofs.ScoreLemmas.{all-take, differ-take, score-fits, score-more, zip-maps}
+use Rattle.shard_index.proofs.ScoreLemmas.{differ-take, score-fits, score-more, zip-maps}
 use Rattle.shard_index.proofs.TotalLemmas.{all-rec}
+use Rattle.shard_index.proofs.Sorted.{all-take}
 
 pub many-ids : (index : Index) (docs : List Doc) → Indexes index docs → length index.ids.items ≡ length docs
 many-ids index docs stands = ap length stands.ids ∙ length-map docs (λ d. d.id)
@@ -44,9 +45,6 @@ front-no-longer front (p ∷ ps) = by (ltb p front) (front-no-longer front ps)
 pub times-enough : (standing : List ℕ) (front : ℕ) (places times below : List ℕ) → Tell places times standing → below ≡ front_of front places → length below ≤ length times
 times-enough standing front places times below tell cut = omega (arith, ap length cut, front-no-longer front places, tell.many)
 
-lower-of : (x y : ℕ) → ltb x y ≡ true → x < y
-lower-of x y h = grind (arith, nat_tests)
-
 -- the front of places with their times
 repeated-front : (front : ℕ) (places times : List ℕ) → length times ≡ length places → AllByRecursion (λ n. 0 < n) times
     → repeated (front_of front places) (take (length (front_of front places)) times) ≡ front_of front (repeated places times)
@@ -60,7 +58,7 @@ repeated-front front (p ∷ ps) (suc n ∷ ts) many some = by (ltb p front) refl
         → repeated (cond b (p ∷ front_of front ps) []) (take (length (cond b (p ∷ front_of front ps) [])) (suc n ∷ ts)) ≡ front_of front (replicate (suc n) p ++ repeated ps ts)
     by true is more =
         ap (λ (rs : List ℕ). replicate (suc n) p ++ rs) more
-        ∙ sym (front-replicate front p (suc n) (repeated ps ts) (lower-of p front is))
+        ∙ sym (front-replicate front p (suc n) (repeated ps ts) (ltb-true p front is))
     by false is more = sym (ap (λ (b : Bool). cond b (p ∷ front_of front (replicate n p ++ repeated ps ts)) []) is)
 
 pub told-front : (docs : List Doc) (front : ℕ) (w : Word) (places times below beside : List ℕ) → Tell places times (standing_of w docs) → below ≡ front_of front places → beside ≡ take (length below) times

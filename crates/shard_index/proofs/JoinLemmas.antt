@@ -2,7 +2,7 @@
 use Rattle.std.proofs.Common.{◌≡◌, ℕ, suc, ◌+◌, ◌<◌, ◌≤◌, List, [], ◌∷◌, ◌++◌, length, Bool, true, false, ◌||◌, cond, ltb, refl, sym, ap, ◌∙◌, arith, inl, inr, ◌⊎◌, append_assoc, append-nil, get_or, take, drop, ◌-◌, length-drop, drop-cons}
 use Rattle.std.proofs.lemmas.List.{drop_all, take_all}
 use Rattle.std.specs.List.{AllByRecursion}
-use Rattle.std.proofs.lemmas.Bool.Decides.{nat_tests}
+use Rattle.std.proofs.lemmas.Bool.{le-ltb, lt-ltb}
 use Rattle.fan_base.specs.declared.doc.Doc.{Doc}
 use Rattle.shard_index.specs.Places.{places_from, places_where}
 use Rattle.shard_index.proofs.PlaceLemmas.{places-above}
@@ -18,12 +18,6 @@ abbrev pub joined : List ℕ → List ℕ → List ℕ
 joined [] ys = ys
 joined (x ∷ xs) ys = joined_from x xs (λ zs. joined xs zs) ys
 
-lt-ltb : (x y : ℕ) → x < y → ltb x y ≡ true
-lt-ltb x y h = grind (arith, nat_tests)
-
-ge-ltb : (x y : ℕ) → y ≤ x → ltb x y ≡ false
-ge-ltb x y h = grind (arith, nat_tests)
-
 -- the smaller place is the first list's, the second's, or both's
 pub joined-first : (x y : ℕ) (xs ys : List ℕ) → x < y → joined (x ∷ xs) (y ∷ ys) ≡ x ∷ joined xs (y ∷ ys)
 joined-first x y xs ys lt =
@@ -31,15 +25,15 @@ joined-first x y xs ys lt =
 
 pub joined-second : (x y : ℕ) (xs ys : List ℕ) → y < x → joined (x ∷ xs) (y ∷ ys) ≡ y ∷ joined (x ∷ xs) ys
 joined-second x y xs ys lt =
-    ap (λ b. cond b (x ∷ joined xs (y ∷ ys)) (cond (ltb y x) (y ∷ joined (x ∷ xs) ys) (x ∷ joined xs ys))) (ge-ltb x y (let h : y ≤ x = omega arith in h))
+    ap (λ b. cond b (x ∷ joined xs (y ∷ ys)) (cond (ltb y x) (y ∷ joined (x ∷ xs) ys) (x ∷ joined xs ys))) (le-ltb x y (let h : y ≤ x = omega arith in h))
     ∙ ap (λ b. cond b (y ∷ joined (x ∷ xs) ys) (x ∷ joined xs ys)) (lt-ltb y x lt)
 
 pub joined-both : (x y : ℕ) (xs ys : List ℕ) → y ≤ x → x ≤ y → joined (x ∷ xs) (y ∷ ys) ≡ x ∷ joined xs ys
 joined-both x y xs ys below above =
-    ap (λ b. cond b (x ∷ joined xs (y ∷ ys)) (cond (ltb y x) (y ∷ joined (x ∷ xs) ys) (x ∷ joined xs ys))) (ge-ltb x y below)
-    ∙ ap (λ b. cond b (y ∷ joined (x ∷ xs) ys) (x ∷ joined xs ys)) (ge-ltb y x above)
+    ap (λ b. cond b (x ∷ joined xs (y ∷ ys)) (cond (ltb y x) (y ∷ joined (x ∷ xs) ys) (x ∷ joined xs ys))) (le-ltb x y below)
+    ∙ ap (λ b. cond b (y ∷ joined (x ∷ xs) ys) (x ∷ joined xs ys)) (le-ltb y x above)
 
-none-first : (xs : List ℕ) → joined xs [] ≡ xs
+pub none-first : (xs : List ℕ) → joined xs [] ≡ xs
 none-first [] = refl
 none-first (x ∷ xs) = refl
 
@@ -80,10 +74,10 @@ joined-where p q docs = joined-from 0 p q docs
 
 -- a step of the loop: what is kept so far, and the joining of what is left
 
-from_here : (xs : List ℕ) (i : ℕ) → i < length xs → drop i xs ≡ get_or xs i 0 ∷ drop (i + 1) xs
+pub from_here : (xs : List ℕ) (i : ℕ) → i < length xs → drop i xs ≡ get_or xs i 0 ∷ drop (i + 1) xs
 from_here xs i within = drop-cons xs i 0 within ∙ ap (λ n. get_or xs i 0 ∷ drop n xs) (let e : suc i ≡ i + 1 = omega arith in e)
 
-step : (xs ys kept kept' whole one left : List ℕ) → kept ++ joined xs ys ≡ whole → joined xs ys ≡ one ++ left → kept' ≡ kept ++ one → kept' ++ left ≡ whole
+pub step : (xs ys kept kept' whole one left : List ℕ) → kept ++ joined xs ys ≡ whole → joined xs ys ≡ one ++ left → kept' ≡ kept ++ one → kept' ++ left ≡ whole
 step xs ys kept kept' whole one left so_far here more =
     ap (λ zs. zs ++ left) more ∙ (append_assoc kept one left ∙ (ap (λ zs. kept ++ zs) (sym here) ∙ so_far))
 
@@ -119,7 +113,7 @@ used_up xs ys i j (inr past) = inl (drop_all i xs past)
 abbrev pub behind : ℕ → List ℕ → List ℕ
 behind i xs = take (length xs - i) (drop i xs)
 
-behind-is : (xs : List ℕ) (i : ℕ) → behind i xs ≡ drop i xs
+pub behind-is : (xs : List ℕ) (i : ℕ) → behind i xs ≡ drop i xs
 behind-is xs i = let many = length-drop i xs in take_all (length xs - i) (drop i xs) (omega arith)
 
 -- the end of the loop, and what is left of one of the lists

@@ -4,14 +4,15 @@ mod WordLemmas
 mod PlaceLemmas
 mod JoinLemmas
 mod NarrowLemmas
+mod RunLemmas
 mod SelectionLemmas
 mod HitLemmas
 mod TotalLemmas
-mod ScoreLemmas
+pub mod ScoreLemmas
 mod ScoredLemmas
-mod PartLemmas
+pub mod PartLemmas
 mod IndexLemmas
-mod MergeLemmas
+pub mod MergeLemmas
 mod MarkLemmas
 pub mod TableLemmas
 pub mod Crossings

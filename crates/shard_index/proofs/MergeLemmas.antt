@@ -4,9 +4,10 @@ use Rattle.std.specs.List.{All, AllByRecursion, flat_map, range_with_len, sum_by
 use Rattle.std.specs.Cmp.Lexicographic.{pointwise}
 use Rattle.std.proofs.lemmas.Bool.{cases_lt}
 use Rattle.std.proofs.lemmas.Bool.Decides.{nat_tests}
-use Rattle.std.proofs.lemmas.List.{take-take, take_all, take_more}
-use Rattle.std.proofs.lemmas.List.Sums.{sum_by-cons, sum_by-append, sum_by_more_le, sum-map}
+use Rattle.std.proofs.lemmas.List.{take-take, take_all, take_more, length-take}
+use Rattle.std.proofs.lemmas.List.Sums.{sum_by-cons, sum_by-append, sum_by_more_le, sum-map, count_by-le-length, length-filter}
 use Rattle.std.proofs.Math.Nat.{div-le_self}
+use Rattle.std.proofs.lemmas.List.FromFn.{map-range_with_len_more}
 use Rattle.fan_base.specs.declared.doc.Doc.{Doc}
 use Rattle.fan_base.specs.declared.word.Word.{Word}
 use Rattle.query_grammar.specs.Tree.{Tree}
@@ -15,12 +16,14 @@ use Rattle.query_model.specs.declared.reply.Hits.{Hits}
 use Rattle.query_model.specs.Answers.{each_once, having, hits_of, holding, ranks_before, times_in, top_of, weight_of}
 use Rattle.query_model.specs.Parts.{merged_hits, merged_scores, part_before, part_from, part_of, weighted_score, weighted_top}
 use Rattle.query_model.specs.Sorting.{put_by, sorted_by}
+use Rattle.query_model.proofs.ListLaws.{filter-map}
 use Rattle.shard_index.specs.declared.counts.Counts.{Counts}
 use Rattle.shard_index.specs.Counting.{counts_of, DifferentWords}
 use Rattle.shard_index.specs.Parts.{by_shard, total_with, weight_by, weights_by}
 use Rattle.shard_index.specs.Places.{has_word, holds_in}
 use Rattle.shard_index.proofs.TotalLemmas.{all-places}
-use Rattle.shard_index.proofs.Sorted.{SameSums, Sorts, ids_sort, in_order, in_order-take, ranks_sort, same_sorted, sorted_already, take-put_by}
+use Rattle.query_model.proofs.SortingLaws.{SameSums, in_order}
+use Rattle.shard_index.proofs.Sorted.{Sorts, ids_sort, in_order-take, ranks_sort, same_sorted, sorted_already, take-put_by}
 
 -- the first n of the first n
 
@@ -178,17 +181,10 @@ sum-mapped h given [] = refl
 sum-mapped h given (k ∷ ks) = sum_by-cons (λ n. n) (h (given k)) (map h (map given ks)) ∙ ap (λ n. h (given k) + n) (sum-mapped h given ks)
 
 few-pass : (test : Doc → Bool) (docs : List Doc) → length (filter test docs) ≤ length docs
-few-pass test [] = omega arith
-few-pass test (d ∷ ds) = by (test d) (few-pass test ds)
-  where
-    by : (b : Bool) → length (filter test ds) ≤ length ds → length (cond b (d ∷ filter test ds) (filter test ds)) ≤ suc (length ds)
-    by true more = omega (arith, more)
-    by false more = omega (arith, more)
+few-pass test docs = omega (arith, length-filter test docs, count_by-le-length test docs)
 
-few-take : (n : ℕ) (docs : List Doc) → length (take n docs) ≤ length docs
-few-take zero docs = omega arith
-few-take (suc n) [] = omega arith
-few-take (suc n) (d ∷ ds) = omega (arith, few-take n ds)
+pub few-take : (n : ℕ) (docs : List Doc) → length (take n docs) ≤ length docs
+few-take n docs = omega (arith, length-take n docs)
 
 -- hits
 
@@ -216,15 +212,7 @@ hits-whole e docs shards before some =
 
 -- scores
 
-filter-map : (q : ℕ × ℕ → Bool) (h : Doc → ℕ × ℕ) (docs : List Doc) → filter q (map h docs) ≡ map h (filter (λ d. q (h d)) docs)
-filter-map q h [] = refl
-filter-map q h (d ∷ ds) = by (q (h d)) (filter-map q h ds)
-  where
-    by : (b : Bool) → filter q (map h ds) ≡ map h (filter (λ e. q (h e)) ds) → cond b (h d ∷ filter q (map h ds)) (filter q (map h ds)) ≡ map h (cond b (d ∷ filter (λ e. q (h e)) ds) (filter (λ e. q (h e)) ds))
-    by true more = ap (λ xs. h d ∷ xs) more
-    by false more = more
-
-score-is : (weight : Word → ℕ) (words : List Word) (d : Doc) → weighted_score (zip words (map weight words)) d ≡ sum_by (λ w. times_in d w * weight w) words
+pub score-is : (weight : Word → ℕ) (words : List Word) (d : Doc) → weighted_score (zip words (map weight words)) d ≡ sum_by (λ w. times_in d w * weight w) words
 score-is weight [] d = refl
 score-is weight (w ∷ ws) d =
     sum_by-cons (λ (p : Word × ℕ). times_in d p.0 * p.1) (w, weight w) (zip ws (map weight ws))
@@ -341,13 +329,7 @@ total-with-fits parts i j total bound part within is so_far fits =
     omega arith
 
 pub by_shard-push : {A : Type 0} (given : ℕ → A) (i : ℕ) → by_shard given i ++ given i ∷ [] ≡ by_shard given (i + 1)
-by_shard-push {A = A} given i = ap (λ k. by_shard given i ++ given k ∷ []) (sym (zero-add i)) ∙ from 0 i
-  where
-    from : (a n : ℕ) → map given (range_with_len a n) ++ given (a + n) ∷ [] ≡ map given (range_with_len a (n + 1))
-    from a zero = ap (λ (k : ℕ). given k ∷ []) (add-zero a)
-    from a (suc n) =
-        ap (λ (ks : List A). given a ∷ ks) (ap (λ k. map given (range_with_len (a + 1) n) ++ given k ∷ []) (let e : a + suc n ≡ a + 1 + n = omega arith in e) ∙ from (a + 1) n)
-        ∙ ap (λ k. map given (range_with_len a k)) (let e : suc (n + 1) ≡ suc n + 1 = omega arith in e)
+by_shard-push given i = sym (map-range_with_len_more given 0 i i (zero-add i))
 
 all-mapped : {A : Type 0} (P : A → Type 0) (given : ℕ → A) (ks : List ℕ) → ((k : ℕ) → P (given k)) → AllByRecursion P (map given ks)
 all-mapped P given [] each = tt
@@ -361,7 +343,7 @@ length-take-min zero docs = omega arith
 length-take-min (suc n) [] = omega arith
 length-take-min (suc n) (d ∷ ds) = omega (arith, length-take-min n ds)
 
-weight-le : (docs : List Doc) (w : Word) → weight_of docs w ≤ length docs
+pub weight-le : (docs : List Doc) (w : Word) → weight_of docs w ≤ length docs
 weight-le docs w = by (eqb (length (having w docs)) 0)
   where
     by : (b : Bool) → cond b 0 (length docs / length (having w docs)) ≤ length docs

@@ -2,38 +2,22 @@
 use Rattle.std.proofs.Common.{◌≡◌, ℕ, zero, suc, ◌+◌, ◌-◌, ◌<◌, ◌≤◌, List, [], ◌∷◌, ◌++◌, length, Bool, true, false, not, ◌&&◌, ◌||◌, cond, eqb, ltb, get_or, take, filter, refl, sym, ap, subst, ◌∙◌, arith}
 use Rattle.std.specs.List.{AllByRecursion}
 use Rattle.std.proofs.lemmas.Bool.Decides.{nat_tests}
-use Rattle.std.proofs.lemmas.List.{take_all, take_more}
+use Rattle.std.proofs.lemmas.List.{take_all, take_more, get_or_default}
 use Rattle.std.proofs.lemmas.List.Elements.{filter-append}
 use Rattle.std.proofs.lemmas.List.Folds.{list_any_at, list_any_none}
+use Rattle.std.proofs.lemmas.Bool.{eq-eqb, lt-ltb, ltb-false, ltb-true}
 use Rattle.fan_base.specs.declared.doc.Doc.{Doc}
 use Rattle.shard_index.specs.Narrowing.{AreParted, StandWhere, has_place, passes}
 use Rattle.shard_index.specs.Places.{places_from, places_where}
-use Rattle.shard_index.proofs.PlaceLemmas.{places-above}
-
-lt-ltb : (x y : ℕ) → x < y → ltb x y ≡ true
-lt-ltb x y h = grind (arith, nat_tests)
-
-ltb-lt : (x y : ℕ) → ltb x y ≡ true → x < y
-ltb-lt x y h = grind (arith, nat_tests)
-
-ltb-ge : (x y : ℕ) → ltb x y ≡ false → y ≤ x
-ltb-ge x y h = grind (arith, nat_tests)
-
-ge-ltb : (x y : ℕ) → y ≤ x → ltb x y ≡ false
-ge-ltb x y h = grind (arith, nat_tests)
-
-eqb-same : (x : ℕ) → eqb x x ≡ true
-eqb-same x = grind (arith, nat_tests)
-
-eqb-less : (x y : ℕ) → x < y → eqb x y ≡ false
-eqb-less x y h = grind (arith, nat_tests)
+use Rattle.shard_index.proofs.PlaceLemmas.{places-above, neq-below}
+use Rattle.word_table.proofs.PairLemmas.{all-at}
 
 eqb-more : (x y : ℕ) → y < x → eqb x y ≡ false
 eqb-more x y h = grind (arith, nat_tests)
 
 -- of ascending places, those in front of a lower one are lower
 lower : (places : List ℕ) (x k m : ℕ) → AreParted places → k ≤ m → m < length places → get_or places m 0 < x → get_or places k 0 < x
-lower places x k m parted low within less = ltb-lt (get_or places k 0) x (parted x k m 0 low within (lt-ltb (get_or places m 0) x less))
+lower places x k m parted low within less = ltb-true (get_or places k 0) x (parted x k m 0 low within (lt-ltb (get_or places m 0) x less))
 
 -- a place is one of ascending ones where it stands behind those that are lower
 pub found : (places : List ℕ) (x at : ℕ) → AreParted places → at ≤ length places → (0 < at → get_or places (at - 1) 0 < x) → (at < length places → x ≤ get_or places at 0)
@@ -44,33 +28,25 @@ found places x at parted within front behind = by (ltb at (length places)) (ltb 
     before k low = lower places x k (at - 1) parted (omega (arith, low)) (omega (arith, low, within)) (front (omega (arith, low)))
 
     other : (k : ℕ) (b : Bool) → ltb k at ≡ b → (ltb k at ≡ false → x < get_or places k 0) → eqb x (get_or places k 0) ≡ false
-    other k true is past = eqb-more x (get_or places k 0) (before k (ltb-lt k at is))
-    other k false is past = eqb-less x (get_or places k 0) (past is)
+    other k true is past = eqb-more x (get_or places k 0) (before k (ltb-true k at is))
+    other k false is past = neq-below x (get_or places k 0) (past is)
 
     none : ((k : ℕ) → k < length places → at ≤ k → x < get_or places k 0) → has_place places x ≡ false
     none past = list_any_none (eqb x) places (λ k d low.
-        ap (λ n. eqb x n) (default k d low) ∙ other k (ltb k at) refl (λ is. past k low (ltb-ge k at is)))
-      where
-        default : (k d : ℕ) → k < length places → get_or places k d ≡ get_or places k 0
-        default k d low = get_or_same places k d low
-          where
-            get_or_same : (xs : List ℕ) (k d : ℕ) → k < length xs → get_or xs k d ≡ get_or xs k 0
-            get_or_same [] k d low = absurd (omega (arith, low))
-            get_or_same (x ∷ xs) zero d low = refl
-            get_or_same (x ∷ xs) (suc k) d low = get_or_same xs k d (omega (arith, low))
+        ap (λ n. eqb x n) (get_or_default places k d 0 low) ∙ other k (ltb k at) refl (λ is. past k low (ltb-false k at is)))
 
     by : (b c : Bool) → ltb at (length places) ≡ b → ltb (get_or places at 0) (suc x) ≡ c → has_place places x ≡ (b && eqb (get_or places at 0) x)
-    by false c is less = none (λ k low from. absurd (omega (arith, low, from, ltb-ge at (length places) is)))
+    by false c is less = none (λ k low from. absurd (omega (arith, low, from, ltb-false at (length places) is)))
     by true true is less =
-        let same : get_or places at 0 ≡ x = omega (arith, behind (ltb-lt at (length places) is), ltb-lt (get_or places at 0) (suc x) less) in
-        list_any_at (eqb x) places at 0 (ltb-lt at (length places) is) (ap (λ n. eqb x n) same ∙ eqb-same x) ∙ sym (ap (λ n. eqb n x) same ∙ eqb-same x)
+        let same : get_or places at 0 ≡ x = omega (arith, behind (ltb-true at (length places) is), ltb-true (get_or places at 0) (suc x) less) in
+        list_any_at (eqb x) places at 0 (ltb-true at (length places) is) (ap (λ n. eqb x n) same ∙ eq-eqb x x refl) ∙ sym (ap (λ n. eqb n x) same ∙ eq-eqb x x refl)
     by true false is less =
-        let more = ltb-ge (get_or places at 0) (suc x) less in
+        let more = ltb-false (get_or places at 0) (suc x) less in
         none (λ k low from. past k low from (ltb (get_or places k 0) (suc x)) refl more) ∙ sym (eqb-more (get_or places at 0) x (omega (arith, more)))
       where
         past : (k : ℕ) → k < length places → at ≤ k → (b : Bool) → ltb (get_or places k 0) (suc x) ≡ b → suc x ≤ get_or places at 0 → x < get_or places k 0
-        past k low from true is more = absurd (omega (arith, more, lower places (suc x) at k parted from low (ltb-lt (get_or places k 0) (suc x) is)))
-        past k low from false is more = omega (arith, ltb-ge (get_or places k 0) (suc x) is)
+        past k low from true is more = absurd (omega (arith, more, lower places (suc x) at k parted from low (ltb-true (get_or places k 0) (suc x) is)))
+        past k low from false is more = omega (arith, ltb-false (get_or places k 0) (suc x) is)
 
 -- places that ascend, each once
 abbrev pub Ascend : List ℕ → Type 0
@@ -101,9 +77,9 @@ kept-more places by kept more wanted has index at next ascend parted before low 
     fronts some = cases (ltb at next) refl
       where
         cases : (b : Bool) → ltb at next ≡ b → get_or by (next - 1) 0 < x
-        cases true less = lower_before (ltb-lt at next less)
+        cases true less = lower_before (ltb-true at next less)
         cases false less =
-            let same : at ≡ next = (let past = ltb-ge at next less in omega (arith, past, further)) in
+            let same : at ≡ next = (let past = ltb-false at next less in omega (arith, past, further)) in
             subst (λ (n : ℕ). get_or by (n - 1) 0 < x) same (before.front (omega (arith, same, some)) index (omega arith) low)
 
     further_on : (b : Bool) → ltb at next ≡ b → 0 < next → (m : ℕ) → index + 1 ≤ m → m < length places → get_or by (next - 1) 0 < get_or places m 0
@@ -118,11 +94,6 @@ kept-none places by wanted = record { are = refl; front = λ some m from to. abs
 
 -- the places of documents ascend
 
-all-at : (P : ℕ → Type 0) (xs : List ℕ) (k : ℕ) → AllByRecursion P xs → k < length xs → P (get_or xs k 0)
-all-at P [] k h within = absurd (omega (arith, within))
-all-at P (x ∷ xs) zero h within = h.0
-all-at P (x ∷ xs) (suc k) h within = all-at P xs k h.1 (omega (arith, within))
-
 ascend-from : (place : ℕ) (test : Doc → Bool) (docs : List Doc) → Ascend (places_from place test docs)
 ascend-from place test [] = λ k m low within. absurd (omega (arith, within))
 ascend-from place test (d ∷ ds) = by (test d) (ascend-from (place + 1) test ds)
@@ -133,7 +104,7 @@ ascend-from place test (d ∷ ds) = by (test d) (ascend-from (place + 1) test ds
     first : Ascend rest → (k m : ℕ) → k < m → m < length (place ∷ rest) → get_or (place ∷ rest) k 0 < get_or (place ∷ rest) m 0
     first more zero zero low within = absurd (omega (arith, low))
     first more (suc k) zero low within = absurd (omega (arith, low))
-    first more zero (suc m) low within = all-at (λ x. place < x) rest m (places-above place (place + 1) test ds (omega arith)) (omega (arith, within))
+    first more zero (suc m) low within = all-at (λ x. place < x) rest m 0 (places-above place (place + 1) test ds (omega arith)) (omega (arith, within))
     first more (suc k) (suc m) low within = more k m (omega (arith, low)) (omega (arith, within))
 
     by : (b : Bool) → Ascend rest → Ascend (cond b (place ∷ rest) rest)
@@ -180,7 +151,7 @@ kept-where places by kept wanted index at p q docs past has are stand =
 
 none-there : (x : ℕ) (xs : List ℕ) → AllByRecursion (λ y. x < y) xs → has_place xs x ≡ false
 none-there x [] h = refl
-none-there x (y ∷ ys) h = (λ i. eqb-less x y h.0 i || has_place ys x) ∙ none-there x ys h.1
+none-there x (y ∷ ys) h = (λ i. neq-below x y h.0 i || has_place ys x) ∙ none-there x ys h.1
 
 has-from : (place : ℕ) (q : Doc → Bool) (docs : List Doc) (i : ℕ) (d : Doc) → i < length docs → has_place (places_from place q docs) (place + i) ≡ q (get_or docs i d)
 has-from place q [] i d low = absurd (omega (arith, low))
@@ -190,7 +161,7 @@ has-from place q (e ∷ es) zero d low = ap (λ x. has_place (cond (q e) (place 
     rest = places_from (place + 1) q es
 
     by : (b : Bool) → has_place (cond b (place ∷ rest) rest) place ≡ b
-    by true = λ i. eqb-same place i || has_place rest place
+    by true = λ i. eq-eqb place place refl i || has_place rest place
     by false = none-there place rest (places-above place (place + 1) q es (omega arith))
 has-from place q (e ∷ es) (suc i) d low = by (q e) (has-from (place + 1) q es i d (omega (arith, low)))
   where
@@ -207,17 +178,12 @@ has-from place q (e ∷ es) (suc i) d low = by (q e) (has-from (place + 1) q es 
 ascend-parted : (places : List ℕ) → Ascend places → AreParted places
 ascend-parted places ascend = λ front i j d low within holds. by i j d low within (ltb i j) refl front holds
   where
-    same-default : (xs : List ℕ) (k d : ℕ) → k < length xs → get_or xs k d ≡ get_or xs k 0
-    same-default [] k d low = absurd (omega (arith, low))
-    same-default (x ∷ xs) zero d low = refl
-    same-default (x ∷ xs) (suc k) d low = same-default xs k d (omega (arith, low))
-
     by : (i j d : ℕ) → i ≤ j → j < length places → (b : Bool) → ltb i j ≡ b → (front : ℕ) → ltb (get_or places j d) front ≡ true → ltb (get_or places i d) front ≡ true
     by i j d low within true is front holds =
-        let less = ascend i j (ltb-lt i j is) within in
-        lt-ltb (get_or places i d) front (omega (arith, ltb-lt (get_or places j d) front holds, less, same-default places i d (omega (arith, low, within)), same-default places j d within))
+        let less = ascend i j (ltb-true i j is) within in
+        lt-ltb (get_or places i d) front (omega (arith, ltb-true (get_or places j d) front holds, less, get_or_default places i d 0 (omega (arith, low, within)), get_or_default places j d 0 within))
     by i j d low within false is front holds =
-        let same : i ≡ j = (let past = ltb-ge i j is in omega (arith, low, past)) in
+        let same : i ≡ j = (let past = ltb-false i j is in omega (arith, low, past)) in
         ap (λ n. ltb (get_or places n d) front) same ∙ holds
 
 pub stand-where : (q : Doc → Bool) (docs : List Doc) (places : List ℕ) → places ≡ places_where q docs → StandWhere places q docs

@@ -1,10 +1,9 @@
 -- The part of a shard: one more document, and the first documents.
 use Rattle.std.proofs.Common.{◌≡◌, ℕ, zero, suc, ◌+◌, ◌-◌, ◌*◌, ◌/◌, ◌%◌, ◌<◌, ◌≤◌, List, [], ◌∷◌, ◌++◌, length, Bool, true, false, cond, eqb, take, get_or, min, Some, None, zero-add, refl, sym, ap, ◌∙◌, subst, arith, add-zero, inl, inr}
 use Rattle.std.specs.List.{slice_get}
-use Rattle.std.proofs.lemmas.Bool.{cases_lt}
-use Rattle.std.proofs.lemmas.Bool.Decides.{nat_tests}
+use Rattle.std.proofs.lemmas.Bool.{cases_lt, eq-eqb, ne_eqb}
 use Rattle.std.proofs.lemmas.Grind.{div_ceil_times}
-use Rattle.std.proofs.lemmas.List.{get_or_append_left, get_or_push, length_push, take_more, take_all, length-take-le}
+use Rattle.std.proofs.lemmas.List.{get_or_append_left, get_or_push, length_push, take_more, length-take-le, take_min}
 use Rattle.std.proofs.Math.Nat.{mul-le-mul_right}
 use Rattle.fan_base.specs.declared.doc.Doc.{Doc}
 use Rattle.query_model.specs.Parts.{part_before, part_from, part_of}
@@ -48,17 +47,11 @@ part_passed docs shards number place doc within is others =
     ap (λ ds. part_of ds shards number) longer ∙ (part_of-push shards number (take place docs) doc
     ∙ ap (λ b. cond b (part_of (take place docs) shards number ++ doc ∷ []) (part_of (take place docs) shards number)) (ap (λ n. eqb (n % shards) number) many ∙ others))
 
-eq-true : (x y : ℕ) → x ≡ y → eqb x y ≡ true
-eq-true x y h = grind (arith, nat_tests)
-
-neq-false : (x y : ℕ) → (x ≡ y → ⊥) → eqb x y ≡ false
-neq-false x y h = grind (arith, nat_tests)
-
 pub taken : (docs : List Doc) (shards number place : ℕ) (doc : Doc) → place < length docs → doc ≡ get_or docs place doc → place % shards ≡ number → part_of (take (place + 1) docs) shards number ≡ part_of (take place docs) shards number ++ doc ∷ []
-taken docs shards number place doc within is mine = part_taken docs shards number place doc within is (eq-true (place % shards) number mine)
+taken docs shards number place doc within is mine = part_taken docs shards number place doc within is (eq-eqb (place % shards) number mine)
 
 pub passed : (docs : List Doc) (shards number place : ℕ) (doc : Doc) → place < length docs → doc ≡ get_or docs place doc → (place % shards ≡ number → ⊥) → part_of (take (place + 1) docs) shards number ≡ part_of (take place docs) shards number
-passed docs shards number place doc within is others = part_passed docs shards number place doc within is (neq-false (place % shards) number others)
+passed docs shards number place doc within is others = part_passed docs shards number place doc within is (ne_eqb (place % shards) number others)
 
 part_from-few : (place shards number : ℕ) (docs : List Doc) → length (part_from place docs shards number) ≤ length docs
 part_from-few place shards number [] = omega arith
@@ -101,12 +94,6 @@ got-behind [] (suc n) i h = refl
 got-behind (x ∷ xs) (suc n) zero h = absurd (omega arith)
 got-behind (x ∷ xs) (suc n) (suc i) h = got-behind xs n i (omega arith)
 
-take-min : (n : ℕ) (xs : List Doc) → take (min n (length xs)) xs ≡ take n xs
-take-min n xs = elim (cases_lt n (length xs)) [
-  | inl fewer ↦ ap (λ k. take k xs) (let e : min n (length xs) ≡ n = omega arith in e)
-  | inr all ↦ ap (λ k. take k xs) (let e : min n (length xs) ≡ length xs = omega arith in e) ∙ (take_all (length xs) xs (omega arith) ∙ sym (take_all n xs all))
-]
-
 low : (i q s x n before : ℕ) → suc i * s ≤ q * s → q * s < x + s → x ≡ before - n → i * s + n < before
 low i q s x n before one two is = omega arith
 
@@ -119,7 +106,7 @@ pub front-is : (docs : List Doc) (shards number before count front : ℕ) → nu
     → count ≡ (before - number) / shards + min 1 ((before - number) % shards) → front ≡ min count (length (part_of docs shards number))
     → take front (part_of docs shards number) ≡ part_before docs shards number before
 front-is docs shards number before count front within told counted is =
-    ap (λ n. take n (part_of docs shards number)) is ∙ (take-min count (part_of docs shards number) ∙ same-list _ _ each)
+    ap (λ n. take n (part_of docs shards number)) is ∙ (take_min count (part_of docs shards number) ∙ same-list _ _ each)
   where
     bounds : (before - number ≤ count * shards) × (count * shards < before - number + shards)
     bounds = rw counted (div_ceil_times (before - number) shards (omega arith))

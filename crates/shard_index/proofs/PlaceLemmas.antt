@@ -1,11 +1,14 @@
 -- Places of documents: bounds, fronts, one document more, and what stands at them.
-use Rattle.std.proofs.Common.{◌≡◌, ℕ, zero, suc, ◌+◌, ◌-◌, ◌<◌, ◌≤◌, List, [], ◌∷◌, ◌++◌, length, Bool, true, false, cond, eqb, ltb, get_or, replicate, Some, refl, sym, ap, ◌∙◌, arith, take, map, filter, zero-add, add-zero, append_assoc, append-nil}
+use Rattle.std.proofs.Common.{◌≡◌, ℕ, zero, suc, ◌+◌, ◌-◌, ◌<◌, ◌≤◌, List, [], ◌∷◌, ◌++◌, length, Bool, true, false, cond, eqb, get_or, replicate, Some, refl, sym, ap, ◌∙◌, arith, take, map, filter, zero-add, add-zero, append_assoc, append-nil}
 use Rattle.std.specs.List.{AllByRecursion, fold, slice_get}
 use Rattle.std.specs.Option.{option_eq}
 use Rattle.std.proofs.lemmas.Bool.Decides.{nat_tests}
+use Rattle.std.proofs.lemmas.Bool.{le-ltb, lt-ltb}
+use Rattle.std.proofs.lemmas.List.{length_push}
 use Rattle.fan_base.specs.declared.doc.Doc.{Doc}
 use Rattle.fan_base.specs.declared.word.Word.{Word}
 use Rattle.query_model.specs.Answers.{times_in}
+use Rattle.query_model.proofs.ListLaws.{all-append}
 use Rattle.word_table.specs.Told.{distinct, is_last, with_place}
 use Rattle.shard_index.specs.Places.{front_of, has_word, places_from, places_where, standing_from, standing_of}
 use Rattle.query_grammar.specs.Truth.{is_among}
@@ -32,27 +35,17 @@ places-below place test (d ∷ ds) = by (test d) (wider (places_from (place + 1)
     by true more = (omega arith, more)
     by false more = more
 
-all-append : {A : Type 0} (P : A → Type 0) (xs ys : List A) → AllByRecursion P xs → AllByRecursion P ys → AllByRecursion P (xs ++ ys)
-all-append P [] ys h i = i
-all-append P (x ∷ xs) ys h i = (h.0, all-append P xs ys h.1 i)
-
 all-replicate : {A : Type 0} (P : A → Type 0) (n : ℕ) (x : A) → P x → AllByRecursion P (replicate n x)
 all-replicate P zero x h = tt
 all-replicate P (suc n) x h = (h, all-replicate P n x h)
 
 -- the front of a list of places
 
-lt-ltb : (x y : ℕ) → x < y → ltb x y ≡ true
-lt-ltb x y h = grind (arith, nat_tests)
-
-ge-ltb : (x y : ℕ) → y ≤ x → ltb x y ≡ false
-ge-ltb x y h = grind (arith, nat_tests)
-
 -- the first places up to one that isn't below the front
 pub front-is : (front end : ℕ) (xs : List ℕ) → end ≤ length xs → ((k : ℕ) → k < end → get_or xs k 0 < front) → (end < length xs → front ≤ get_or xs end 0) → take end xs ≡ front_of front xs
 front-is front zero [] within below at = refl
 front-is front (suc e) [] within below at = absurd (omega arith)
-front-is front zero (x ∷ xs) within below at = sym (ap (λ b. cond b (x ∷ front_of front xs) []) (ge-ltb x front (at (omega arith))))
+front-is front zero (x ∷ xs) within below at = sym (ap (λ b. cond b (x ∷ front_of front xs) []) (le-ltb x front (at (omega arith))))
 front-is front (suc e) (x ∷ xs) within below at =
     ap (λ ys. x ∷ ys) (front-is front e xs (omega arith) (λ k h. below (suc k) (omega arith)) (λ h. at (omega arith)))
     ∙ sym (ap (λ b. cond b (x ∷ front_of front xs) []) (lt-ltb x front (below 0 (omega arith))))
@@ -60,7 +53,7 @@ front-is front (suc e) (x ∷ xs) within below at =
 -- no place is in front
 none-front : (front : ℕ) (xs : List ℕ) → AllByRecursion (λ x. front ≤ x) xs → front_of front xs ≡ []
 none-front front [] h = refl
-none-front front (x ∷ xs) h = ap (λ b. cond b (x ∷ front_of front xs) []) (ge-ltb x front h.0)
+none-front front (x ∷ xs) h = ap (λ b. cond b (x ∷ front_of front xs) []) (le-ltb x front h.0)
 
 places-from-above : (m place : ℕ) (test : Doc → Bool) (docs : List Doc) → m ≤ place → AllByRecursion (λ x. m ≤ x) (places_from place test docs)
 places-from-above m place test [] low = tt
@@ -178,7 +171,7 @@ ids-at test docs = ids-from [] 0 test docs refl
 
 -- a place above all others is not the last of them
 
-neq-below : (x m : ℕ) → x < m → eqb x m ≡ false
+pub neq-below : (x m : ℕ) → x < m → eqb x m ≡ false
 neq-below x m h = grind (arith, nat_tests)
 
 neq-got : (ps : List ℕ) (k m : ℕ) → AllByRecursion (λ x. x < m) ps → option_eq eqb (slice_get ps k) (Some m) ≡ false
@@ -195,15 +188,8 @@ got_last (x ∷ xs) p = got_last xs p
 
 pub is_last-push : (ps : List ℕ) (p : ℕ) → is_last (ps ++ p ∷ []) p ≡ true
 is_last-push ps p =
-    let at : length (ps ++ p ∷ []) - 1 ≡ length ps = shorter ps in
+    let at : length (ps ++ p ∷ []) - 1 ≡ length ps = omega (arith, length_push ps p) in
     ap (λ k. option_eq eqb (slice_get (ps ++ p ∷ []) k) (Some p)) at ∙ got_last ps p
-  where
-    many : (xs : List ℕ) → length (xs ++ p ∷ []) ≡ suc (length xs)
-    many [] = refl
-    many (x ∷ xs) = ap suc (many xs)
-
-    shorter : (xs : List ℕ) → length (xs ++ p ∷ []) - 1 ≡ length xs
-    shorter xs = omega (arith, many xs)
 
 -- each place but once
 

@@ -2,8 +2,7 @@
 use Rattle.std.proofs.Common.{◌≡◌, ℕ, zero, suc, ◌+◌, ◌*◌, ◌<◌, ◌≤◌, ◌^◌, List, [], ◌∷◌, ◌++◌, length, Bool, true, false, ◌||◌, cond, eqb, ltb, get_or, refl, sym, ap, ◌∙◌, subst, arith, take, map, filter, zip, true≢false, inl, inr}
 use Rattle.std.specs.List.{AllByRecursion, sum_by}
 use Rattle.std.specs.Cmp.Lexicographic.{pointwise, bytes_decides}
-use Rattle.std.proofs.lemmas.Bool.{cases_lt}
-use Rattle.std.proofs.lemmas.Bool.Decides.{nat_tests}
+use Rattle.std.proofs.lemmas.Bool.{cases_lt, le-ltb, lt-ltb, or_parts}
 use Rattle.std.proofs.lemmas.List.Sums.{sum_by-cons, sum_by-append}
 use Rattle.std.proofs.Math.Nat.{mul-le-mul_left}
 use Rattle.fan_base.specs.declared.doc.Doc.{Doc}
@@ -21,14 +20,10 @@ use Rattle.shard_index.proofs.WordLemmas.{count_in, count_in-cons, none-count}
 abbrev hits-word : Word → List Word → ℕ
 hits-word x words = sum_by (λ w. cond (pointwise eqb x w) 1 0) words
 
-or_none : (a b : Bool) → (a || b) ≡ false → (a ≡ false) × (b ≡ false)
-or_none true b e = absurd (true≢false e)
-or_none false b e = (refl, e)
-
 not-among : (x w : Word) (words : List Word) → pointwise eqb x w ≡ true → is_among w words ≡ false → hits-word x words ≡ 0
 not-among x w [] same none = refl
 not-among x w (v ∷ vs) same none =
-    let apart = or_none (pointwise eqb v w) (is_among w vs) none in
+    let apart = or_parts (pointwise eqb v w) (is_among w vs) none in
     sum_by-cons (λ u. cond (pointwise eqb x u) 1 0) v vs ∙ by (pointwise eqb x v) refl apart.0 (not-among x w vs same apart.1)
   where
     by : (b : Bool) → pointwise eqb x v ≡ b → pointwise eqb v w ≡ false → hits-word x vs ≡ 0 → cond b 1 0 + hits-word x vs ≡ 0
@@ -110,11 +105,6 @@ differ-take zero words h = tt
 differ-take (suc n) [] h = tt
 differ-take (suc n) (w ∷ ws) h = (among-take w n ws h.0, differ-take n ws h.1)
 
-pub all-take : {A : Type 0} (P : A → Type 0) (n : ℕ) (xs : List A) → AllByRecursion P xs → AllByRecursion P (take n xs)
-all-take P zero xs h = tt
-all-take P (suc n) [] h = tt
-all-take P (suc n) (x ∷ xs) h = (h.0, all-take P n xs h.1)
-
 -- one word more
 
 zip-step : {A B : Type 0} (xs : List A) (ys : List B) (i : ℕ) (d : A) (e : B) → i < length xs → i < length ys
@@ -177,7 +167,7 @@ pub no-score : (d : Doc) (words : List Word) (weights : List ℕ) → has_one wo
 no-score d [] weights none = refl
 no-score d (w ∷ ws) [] none = refl
 no-score d (w ∷ ws) (g ∷ gs) none =
-    let apart = or_none (is_among w d.words) (has_one ws d) none in
+    let apart = or_parts (is_among w d.words) (has_one ws d) none in
     let times : times_in d w ≡ 0 = none-count w d.words apart.0 in
     sum_by-cons (λ (p : Word × ℕ). times_in d p.0 * p.1) (w, g) (zip ws gs) ∙ ((λ k. times k * g + no-score d ws gs apart.1 k) ∙ nothing g)
   where
@@ -206,15 +196,9 @@ scores-of-some words weights test (d ∷ ds) others = by (test d) (λ e. no-scor
 
 -- totals one after another
 
-is-positive : (n : ℕ) → 0 < n → ltb 0 n ≡ true
-is-positive n h = grind (arith, nat_tests)
-
-is-none : (n : ℕ) → n ≤ 0 → ltb 0 n ≡ false
-is-none n h = grind (arith, nat_tests)
-
 -- a total that is kept
 pub one-kept : (k : ℕ) (some more : List (ℕ × ℕ)) (score : ℕ × ℕ) → more ≡ some ++ score ∷ [] → 0 < score.1 → take k (sorted_by ranks_before (positive some ++ score ∷ [])) ≡ take k (ranked more)
-one-kept k some more score is high = ap (λ ps. take k (sorted_by ranks_before ps)) (positive-one some score (is-positive score.1 high) ∙ ap positive (sym is))
+one-kept k some more score is high = ap (λ ps. take k (sorted_by ranks_before ps)) (positive-one some score (lt-ltb 0 score.1 high) ∙ ap positive (sym is))
 
 -- a total that is too small to be kept
 pub too-small : (k least : ℕ) (kept some more : List (ℕ × ℕ)) (score : ℕ × ℕ) → more ≡ some ++ score ∷ [] → score.1 < least
@@ -222,5 +206,5 @@ pub too-small : (k least : ℕ) (kept some more : List (ℕ × ℕ)) (score : �
     → kept ≡ take k (ranked some) → kept ≡ take k (ranked more)
 too-small k least kept some more score is low skips keeps = elim (cases_lt 0 score.1) [
   | inl high ↦ skips score (positive some) high low keeps ∙ one-kept k some more score is high
-  | inr none ↦ keeps ∙ ap (λ ps. take k (sorted_by ranks_before ps)) (positive-none some score (is-none score.1 none) ∙ ap positive (sym is))
+  | inr none ↦ keeps ∙ ap (λ ps. take k (sorted_by ranks_before ps)) (positive-none some score (le-ltb 0 score.1 none) ∙ ap positive (sym is))
 ]

@@ -1,8 +1,7 @@
 -- Scores by places: those of a word summed with those before, and what they come to.
 use Rattle.std.proofs.Common.{◌≡◌, ℕ, zero, suc, ◌+◌, ◌-◌, ◌*◌, ◌<◌, ◌≤◌, ◌^◌, List, [], ◌∷◌, ◌++◌, length, Bool, true, false, ◌||◌, cond, ltb, get_or, replicate, refl, sym, ap, ◌∙◌, subst, arith, take, drop, map, filter, zip, inl, inr, append_assoc, drop-cons, zero-add}
 use Rattle.std.specs.List.{All, AllByRecursion}
-use Rattle.std.proofs.lemmas.Bool.{cases_lt}
-use Rattle.std.proofs.lemmas.Bool.Decides.{nat_tests}
+use Rattle.std.proofs.lemmas.Bool.{cases_lt, le-ltb, lt-ltb, or_parts}
 use Rattle.std.proofs.lemmas.List.{drop_all, take_all}
 use Rattle.std.proofs.Common.{length-drop}
 use Rattle.fan_base.specs.declared.doc.Doc.{Doc}
@@ -36,25 +35,19 @@ weighed weight [] times = []
 weighed weight (place ∷ places) [] = []
 weighed weight (place ∷ places) (n ∷ times) = (place, n * weight) ∷ weighed weight places times
 
-lt-ltb : (x y : ℕ) → x < y → ltb x y ≡ true
-lt-ltb x y h = grind (arith, nat_tests)
-
-ge-ltb : (x y : ℕ) → y ≤ x → ltb x y ≡ false
-ge-ltb x y h = grind (arith, nat_tests)
-
 summed-first : (x y : ℕ × ℕ) (xs ys : List (ℕ × ℕ)) → x.0 < y.0 → summed (x ∷ xs) (y ∷ ys) ≡ x ∷ summed xs (y ∷ ys)
 summed-first x y xs ys lt =
     ap (λ b. cond b (x ∷ summed xs (y ∷ ys)) (cond (ltb y.0 x.0) (y ∷ summed (x ∷ xs) ys) ((y.0, x.1 + y.1) ∷ summed xs ys))) (lt-ltb x.0 y.0 lt)
 
 summed-second : (x y : ℕ × ℕ) (xs ys : List (ℕ × ℕ)) → y.0 < x.0 → summed (x ∷ xs) (y ∷ ys) ≡ y ∷ summed (x ∷ xs) ys
 summed-second x y xs ys lt =
-    ap (λ b. cond b (x ∷ summed xs (y ∷ ys)) (cond (ltb y.0 x.0) (y ∷ summed (x ∷ xs) ys) ((y.0, x.1 + y.1) ∷ summed xs ys))) (ge-ltb x.0 y.0 (let h : y.0 ≤ x.0 = omega arith in h))
+    ap (λ b. cond b (x ∷ summed xs (y ∷ ys)) (cond (ltb y.0 x.0) (y ∷ summed (x ∷ xs) ys) ((y.0, x.1 + y.1) ∷ summed xs ys))) (le-ltb x.0 y.0 (let h : y.0 ≤ x.0 = omega arith in h))
     ∙ ap (λ b. cond b (y ∷ summed (x ∷ xs) ys) ((y.0, x.1 + y.1) ∷ summed xs ys)) (lt-ltb y.0 x.0 lt)
 
 summed-both : (x y : ℕ × ℕ) (xs ys : List (ℕ × ℕ)) → y.0 ≤ x.0 → x.0 ≤ y.0 → summed (x ∷ xs) (y ∷ ys) ≡ (y.0, x.1 + y.1) ∷ summed xs ys
 summed-both x y xs ys below above =
-    ap (λ b. cond b (x ∷ summed xs (y ∷ ys)) (cond (ltb y.0 x.0) (y ∷ summed (x ∷ xs) ys) ((y.0, x.1 + y.1) ∷ summed xs ys))) (ge-ltb x.0 y.0 below)
-    ∙ ap (λ b. cond b (y ∷ summed (x ∷ xs) ys) ((y.0, x.1 + y.1) ∷ summed xs ys)) (ge-ltb y.0 x.0 above)
+    ap (λ b. cond b (x ∷ summed xs (y ∷ ys)) (cond (ltb y.0 x.0) (y ∷ summed (x ∷ xs) ys) ((y.0, x.1 + y.1) ∷ summed xs ys))) (le-ltb x.0 y.0 below)
+    ∙ ap (λ b. cond b (y ∷ summed (x ∷ xs) ys) ((y.0, x.1 + y.1) ∷ summed xs ys)) (le-ltb y.0 x.0 above)
 
 none-first : (xs : List (ℕ × ℕ)) → summed xs [] ≡ xs
 none-first [] = refl
@@ -178,12 +171,8 @@ pub summed-is : (weight : ℕ) (word : Word) (scored more : List (ℕ × ℕ)) (
 summed-is weight word scored more places times test score docs is before stand = record {
   are = is ∙ ((λ k. summed (before.are k) (told-scored weight word places times docs stand k))
       ∙ summed-scored 0 test (has_word word) score (λ d. times_in d word * weight) docs before.others (no-times weight word));
-  others = λ d none. let apart = or_none (test d) (has_word word d) none in omega (arith, before.others d apart.0, no-times weight word d apart.1);
+  others = λ d none. let apart = or_parts (test d) (has_word word d) none in omega (arith, before.others d apart.0, no-times weight word d apart.1);
 }
-  where
-    or_none : (a b : Bool) → (a || b) ≡ false → (a ≡ false) × (b ≡ false)
-    or_none true b e = absurd (cc)
-    or_none false b e = (refl, e)
 
 -- the sums fit
 

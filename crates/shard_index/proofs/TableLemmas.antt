@@ -1,7 +1,7 @@
 -- Parts of documents by numbers, and the places where words stand in them.
 use Rattle.std.proofs.Common.{◌≡◌, ℕ, zero, suc, ◌+◌, ◌%◌, ◌<◌, ◌≤◌, ◌^◌, List, [], ◌∷◌, ◌++◌, length, map, Bool, true, false, cond, eqb, get_or, replicate, take, refl, sym, ap, ◌∙◌, subst, arith}
 use Rattle.std.specs.List.{AllByRecursion}
-use Rattle.std.proofs.lemmas.List.{get_or-map, length-map}
+use Rattle.std.proofs.lemmas.List.{get_or-map, length-map, map_push}
 use Rattle.std.proofs.lemmas.Bool.Decides.{nat_tests}
 use denote.Ref.{Bor}
 use Rattle.fan_base.specs.declared.doc.Doc.{Doc}
@@ -104,20 +104,10 @@ numbers-known known more [] stay all = tt
 numbers-known known more (d ∷ ds) stay all =
     ((stay known more d (doc_by known d) (record { doc_is = refl; numbers = all.0 })).numbers, numbers-known known more ds stay all.1)
 
-pub map-push : {A B : Type 0} (f : A → B) (xs : List A) (x : A) → map f (xs ++ x ∷ []) ≡ map f xs ++ f x ∷ []
-map-push f [] x = refl
-map-push f (y ∷ ys) x = ap (λ zs. f y ∷ zs) (map-push f ys x)
-
 -- documents that are lent
 
-pub lent-at : (docs : List (Bor NumberedDoc)) (k : ℕ) (doc : Bor NumberedDoc) → k < length docs → doc ≡ get_or docs k doc → doc.now ≡ get_or (lent docs) k doc.now
-lent-at docs k doc low is = ap (λ (d : Bor NumberedDoc). d.now) is ∙ sym (get_or-map (λ (d : Bor NumberedDoc). d.now) docs k doc doc.now low)
-
-pub lent-many : (docs : List (Bor NumberedDoc)) → length (lent docs) ≡ length docs
-lent-many docs = length-map docs (λ (d : Bor NumberedDoc). d.now)
-
 pub lent-push : (old new : List (Bor NumberedDoc)) (doc : Bor NumberedDoc) → new ≡ old ++ doc ∷ [] → lent new ≡ lent old ++ doc.now ∷ []
-lent-push old new doc pushed = ap lent pushed ∙ map-push (λ (d : Bor NumberedDoc). d.now) old doc
+lent-push old new doc pushed = ap lent pushed ∙ map_push (λ (d : Bor NumberedDoc). d.now) old doc
 
 -- a document is picked
 
@@ -125,7 +115,7 @@ pub picks-docs : (known : List Word) (old new : List NumberedDoc) (docs : List N
     → place % shards ≡ number → map (doc_by known) old ≡ part_of (take place (map (doc_by known) docs)) shards number → map (doc_by known) new ≡ part_of (take (place + 1) (map (doc_by known) docs)) shards number
 picks-docs known old new docs shards number place doc pushed low is mine before =
     ap (λ (ds : List NumberedDoc). map (doc_by known) ds) pushed
-    ∙ (map-push (doc_by known) old doc
+    ∙ (map_push (doc_by known) old doc
     ∙ (ap (λ (ds : List Doc). ds ++ doc_by known doc ∷ []) before
     ∙ sym (taken (map (doc_by known) docs) shards number place (doc_by known doc) (omega (arith, low, length-map docs (doc_by known)))
     (ap (doc_by known) is ∙ sym (get_or-map (doc_by known) docs place doc (doc_by known doc) low)) mine)))
@@ -167,7 +157,7 @@ part-push old new part more docs numbered doc most stay fewer before knows is pu
       (subst (λ (ds : List NumberedDoc). AllByRecursion (AreNumbers (with_words (words_in old) doc.words)) ds) (sym pushed)
       (below-push (length (with_words (words_in old) doc.words)) part numbered (numbers-known (words_in old) doc.words part stay before.numbers) is.numbers));
   docs_are = (λ i. map (doc_by (knows.words_are i)) (pushed i))
-      ∙ (map-push (doc_by (with_words (words_in old) doc.words)) part numbered
+      ∙ (map_push (doc_by (with_words (words_in old) doc.words)) part numbered
       ∙ (λ i. (more-known (words_in old) doc.words part stay before.numbers ∙ before.docs_are) i ++ is.doc_is i ∷ []));
   few = omega (arith, ap length knows.words_are, fewer (words_in old) doc.words, before.few, short);
 }

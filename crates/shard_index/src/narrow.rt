@@ -15,32 +15,66 @@ pub fn narrow(
     ensures { (p q : Doc → Bool) (docs : List Doc) → places.now ≡ places_where p docs → StandWhere others.now q docs
         → IfOk result (λ kept. kept.items ≡ places_where (λ doc. p doc && (if wanted then q doc else not (q doc))) docs) }
 {
-    let far = places.len() < others.len() / 16;
+    if places.len() < others.len() / 16 {
+        narrow_far(alloc, places, others, wanted)
+    } else if wanted {
+        common_near(alloc, places, others)
+    } else {
+        without_near(alloc, places, others)
+    }
+}
+
+/// The same where the others are many more: it goes by steps that double.
+fn narrow_far(
+    alloc: Global,
+    places: &[u32],
+    others: &[u32],
+    wanted: bool,
+) -> Result<Vec<u32>, AllocError>
+    ensures { (p q : Doc → Bool) (docs : List Doc) → places.now ≡ places_where p docs → StandWhere others.now q docs
+        → IfOk result (λ kept. kept.items ≡ places_where (λ doc. p doc && (if wanted then q doc else not (q doc))) docs) }
+{
     let mut kept = Vec::with_capacity(alloc, places.len())?;
     let mut at = 0;
     for place in places {
-        at = first_from(others, at, far, *place);
+        at = first_far(others, at, *place);
         let has = is_at(others, at, *place);
         push_if(&mut kept, is_kept(wanted, has), *place)?;
     }
     Ok(kept)
 }
 
-/// Where the first place from an index on stands that isn't below this one. It goes by steps that double where it is likely far.
-fn first_from(places: &[u32], from: usize, far: bool, place: u32) -> usize
-    requires { from ≤ length places.now }
-    ensures order { from ≤ result }
-    ensures within { result ≤ length places.now }
-    ensures front { from < result → get_or places.now (result - 1) 0 < place }
-    ensures behind { result < length places.now → place ≤ get_or places.now result 0 }
+/// The places that are among the others, one step after another.
+fn common_near(alloc: Global, places: &[u32], others: &[u32]) -> Result<Vec<u32>, AllocError>
+    ensures { (p q : Doc → Bool) (docs : List Doc) → places.now ≡ places_where p docs → StandWhere others.now q docs
+        → IfOk result (λ kept. kept.items ≡ places_where (λ doc. p doc && q doc) docs) }
 {
-    if far {
-        first_far(places, from, place)
-    } else {
-        first_near(places, from, place)
+    let mut kept = Vec::with_capacity(alloc, places.len())?;
+    let mut at = 0;
+    for place in places {
+        at = first_near(others, at, *place);
+        let has = is_at(others, at, *place);
+        push_if(&mut kept, has, *place)?;
     }
+    Ok(kept)
 }
 
+/// The places that aren't among the others, one step after another.
+fn without_near(alloc: Global, places: &[u32], others: &[u32]) -> Result<Vec<u32>, AllocError>
+    ensures { (p q : Doc → Bool) (docs : List Doc) → places.now ≡ places_where p docs → StandWhere others.now q docs
+        → IfOk result (λ kept. kept.items ≡ places_where (λ doc. p doc && not (q doc)) docs) }
+{
+    let mut kept = Vec::with_capacity(alloc, places.len())?;
+    let mut at = 0;
+    for place in places {
+        at = first_near(others, at, *place);
+        let has = is_at(others, at, *place);
+        push_if(&mut kept, !has, *place)?;
+    }
+    Ok(kept)
+}
+
+/// Where the first place from an index on stands that isn't below this one.
 fn first_near(places: &[u32], from: usize, place: u32) -> usize
     requires { from ≤ length places.now }
     ensures order { from ≤ result }
@@ -55,7 +89,8 @@ fn first_near(places: &[u32], from: usize, place: u32) -> usize
     at
 }
 
-fn first_far(places: &[u32], from: usize, place: u32) -> usize
+/// Where the first place from an index on stands that isn't below this one: by steps that double, and then by halving.
+pub fn first_far(places: &[u32], from: usize, place: u32) -> usize
     requires { from ≤ length places.now }
     ensures order { from ≤ result }
     ensures within { result ≤ length places.now }
@@ -81,7 +116,8 @@ fn first_far(places: &[u32], from: usize, place: u32) -> usize
     low
 }
 
-fn is_at(places: &[u32], at: usize, place: u32) -> bool
+/// Whether a place stands at an index.
+pub fn is_at(places: &[u32], at: usize, place: u32) -> bool
     ensures { result ≡ (nat_lt at (length places.now) && nat_eq (get_or places.now at 0) place) }
 {
     at < places.len() && places[at] == place

@@ -2,8 +2,8 @@ use Rattle.std.proofs.Common.{◌++◌, ◌∷◌, [], length, sym, subst, ◌�
 use Rattle.query_model.specs.Parts.{part_before}
 use Rattle.shard_index.specs.declared.shard.Shard.{Shard}
 use Rattle.shard_index.specs.Standing.{StandsFor}
+use Rattle.shard_index.proofs.MergeLemmas.{by_shard-push}
 use Rattle.query_parts.specs.Parts.{part_answer}
-use Rattle.query_parts.proofs.MergeLemmas.{by_shard-push}
 use Rattle.query_parts.proofs.whole.answer_each.Goals as goal
 
 pub loop-shard-preserved : goal.loop-shard-preserved

@@ -1,7 +1,7 @@
 use Rattle.std.proofs.Common.{◌≡◌, ℕ, length, get_or, ap, sym, subst, arith}
 use Rattle.std.proofs.lemmas.List.{length_push}
 use Rattle.shard_index.specs.Standing.{StandsFor}
-use Rattle.query_parts.proofs.WholeLemmas.{shards-push}
+use Rattle.shard_index.proofs.PartLemmas.{shards-push}
 use Rattle.query_parts.proofs.whole.build_shards.Goals as goal
 
 pub loop-number-preserved : goal.loop-number-preserved

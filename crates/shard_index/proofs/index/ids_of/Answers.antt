@@ -2,7 +2,7 @@ use Rattle.std.proofs.Common.{◌++◌, ◌∷◌, [], ℕ, List, map, take, sym
 use Rattle.std.proofs.lemmas.List.{map_more}
 use Rattle.word_table.specs.declared.numbered.NumberedDoc.{NumberedDoc}
 use Rattle.word_table.specs.Rows.{lent}
-use Rattle.shard_index.proofs.TableLemmas.{lent-at, lent-many}
+use Rattle.word_table.proofs.PairLemmas.{lent-at, lent-many}
 use Rattle.shard_index.proofs.index.ids_of.Goals as goal
 
 pub loop-doc-preserved : goal.loop-doc-preserved

@@ -3,7 +3,8 @@ use Rattle.std.specs.List.{All}
 use Rattle.query_model.specs.Parts.{part_before, weighted_top}
 use Rattle.shard_index.specs.declared.shard.Shard.{Shard}
 use Rattle.shard_index.specs.Standing.{StandsFor}
-use Rattle.query_parts.proofs.MergeLemmas.{by_shard-push, weights-low}
+use Rattle.shard_index.proofs.MergeLemmas.{by_shard-push}
+use Rattle.query_parts.proofs.MergeLemmas.{weights-low}
 use Rattle.query_model.specs.Answers.{each_once}
 use Rattle.query_parts.proofs.ranking.Ranking.scores_in_each.Goals as goal
 

@@ -1,10 +1,10 @@
-use Rattle.std.proofs.Common.{◌≤◌, length}
+use Rattle.std.proofs.Common.{◌≤◌, true, length}
 use Rattle.shard_index.specs.Narrowing.{AreParted}
 use Rattle.shard_index.proofs.NarrowLemmas.{Ascend, HasKept}
-use Rattle.shard_index.proofs.narrow.narrow.Given as goal
+use Rattle.shard_index.proofs.narrow.common_near.Given as goal
 
 abbrev pub invariant-loop-place : goal.invariant-loop-place
 invariant-loop-place l = record {
   within : l.at ≤ length l.others;
-  kept : Ascend l.places → AreParted l.others → HasKept l.places l.others l.wanted l.place-index l.at l.kept.items;
+  kept : Ascend l.places → AreParted l.others → HasKept l.places l.others true l.place-index l.at l.kept.items;
 }

@@ -1,6 +1,6 @@
 use Rattle.std.proofs.Common.{◌≡◌, ◌+◌, ◌-◌, ◌≤◌, ◌++◌, length, drop}
 use Rattle.shard_index.proofs.JoinLemmas.{joined}
-use Rattle.shard_index.proofs.join.all.Given as goal
+use Rattle.shard_index.proofs.join.all_near.Given as goal
 
 abbrev pub invariant-places : goal.invariant-places
 invariant-places l = record {

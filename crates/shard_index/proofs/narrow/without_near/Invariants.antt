@@ -1,0 +1,10 @@
+use Rattle.std.proofs.Common.{◌≤◌, false, length}
+use Rattle.shard_index.specs.Narrowing.{AreParted}
+use Rattle.shard_index.proofs.NarrowLemmas.{Ascend, HasKept}
+use Rattle.shard_index.proofs.narrow.without_near.Given as goal
+
+abbrev pub invariant-loop-place : goal.invariant-loop-place
+invariant-loop-place l = record {
+  within : l.at ≤ length l.others;
+  kept : Ascend l.places → AreParted l.others → HasKept l.places l.others false l.place-index l.at l.kept.items;
+}
