@@ -1,8 +1,6 @@
 -- How many entries stand in a slot, against how many timers are due within a range.
 use Rattle.std.proofs.Common.{◌≡◌, ◌≢◌, ℕ, ◌+◌, ◌-◌, ◌%◌, ◌<◌, ◌≤◌, ◌==◌, ◌&&◌, Bool, true, false, cond, nat_eq, nat_le, List, [], ◌∷◌, length, map, get_or, Option, Some, None, refl, sym, ap, ◌∙◌, subst, arith}
 use Rattle.std.specs.Cmp.{nat_eq_equiv}
-use Rattle.std.specs.HashMap.{hash_map_len}
-use Rattle.std.specs.HashMap as hash
 use Rattle.std.specs.List.{IsDistinct, All, sum_by, count_by}
 use Rattle.std.specs.Map.{keys_of, values_of, lookup}
 use Rattle.std.specs.Option.{IfSome}
@@ -14,7 +12,7 @@ use Rattle.std.proofs.lemmas.Map.Entries.{lookup_from_place}
 use Rattle.std.proofs.lemmas.Map.Keys.{IsDistinct-from_apart, apart_from_distinct}
 use Rattle.std.proofs.lemmas.Map.Views.{All-values_from_lookup}
 use Rattle.std.proofs.lemmas.Option.{slice_get-get_or}
-use Rattle.tick_wheel.specs.declared.table.Held.{Held}
+use Rattle.timer_lanes.specs.Lanes.{Held}
 use Rattle.tick_wheel.specs.declared.timer.Timer.{Timer}
 use Rattle.tick_wheel.specs.Kept.{timers_of}
 use Rattle.tick_wheel.specs.Place.{IsWheel, IsAhead, turning_slot}
@@ -72,23 +70,23 @@ module _ {A : Type 0} where
       sum_by-cons f (timer_of e.0 e.1) (values (map (λ (x : ℕ × Held A). rank_of x.0 x.1) es)) ∙ ap (λ n. f (timer_of e.0 e.1) + n) (sum_ranked f es)
       ∙ sym (sum_by-cons (λ (x : ℕ × Held A). f (timer_of x.0 x.1)) e es)
 
-  pub sum-timers_of : (f : Timer A → ℕ) (index : Index A) → AreApart index → sum_by f (timers_of index) ≡ sum_by (λ (e : ℕ × Held A). f (timer_of e.0 e.1)) index.entries
+  pub sum-timers_of : (f : Timer A → ℕ) (index : Index A) → AreApart index → sum_by f (timers_of index) ≡ sum_by (λ (e : ℕ × Held A). f (timer_of e.0 e.1)) index
   sum-timers_of f index apart =
-      sum-in_order f (map (λ (e : ℕ × Held A). rank_of e.0 e.1) index.entries) (orders_distinct index.entries apart.unique apart.once) ∙ sum_ranked f index.entries
+      sum-in_order f (map (λ (e : ℕ × Held A). rank_of e.0 e.1) index) (orders_distinct index apart.unique apart.once) ∙ sum_ranked f index
 
-  sum-values : (f : Held A → ℕ) (es : List (ℕ × Held A)) → sum_by f (values_of es) ≡ sum_by (λ (e : ℕ × Held A). f e.1) es
+  pub sum-values : (f : Held A → ℕ) (es : List (ℕ × Held A)) → sum_by f (values_of es) ≡ sum_by (λ (e : ℕ × Held A). f e.1) es
   sum-values f [] = refl
   sum-values f (e ∷ es) = sum_by-cons f e.1 (values_of es) ∙ ap (λ n. f e.1 + n) (sum-values f es) ∙ sym (sum_by-cons (λ (x : ℕ × Held A). f x.1) e es)
 
   -- a count of timers by their due ticks is one of what the index holds
   pub count-timers_of : (p : ℕ → Bool) (index : Index A) → AreApart index
-      → count_by (λ (t : Timer A). p t.due) (timers_of index) ≡ count_by (λ (h : Held A). p h.due) (hash.values index)
+      → count_by (λ (t : Timer A). p t.due) (timers_of index) ≡ count_by (λ (h : Held A). p h.due) (values_of index)
   count-timers_of p index apart =
-      sum-timers_of (λ (t : Timer A). cond (p t.due) 1 0) index apart ∙ sym (sum-values (λ (h : Held A). cond (p h.due) 1 0) index.entries)
+      sum-timers_of (λ (t : Timer A). cond (p t.due) 1 0) index apart ∙ sym (sum-values (λ (h : Held A). cond (p h.due) 1 0) index)
 
   -- as many timers as entries
-  pub length-timers_of : (index : Index A) → AreApart index → length (timers_of index) ≡ hash_map_len index
-  length-timers_of index apart = sym (ones (timers_of index)) ∙ sum-timers_of (λ _. 1) index apart ∙ ones index.entries
+  pub length-timers_of : (index : Index A) → AreApart index → length (timers_of index) ≡ length index
+  length-timers_of index apart = sym (ones (timers_of index)) ∙ sum-timers_of (λ _. 1) index apart ∙ ones index
     where
       ones : {B : Type 0} (xs : List B) → sum_by (λ (_ : B). 1) xs ≡ length xs
       ones [] = refl
@@ -101,14 +99,14 @@ module _ {A : Type 0} where
       let slot : ℕ = turning_slot first width (now + 1) in
       let p : Held A → Bool = λ h. h.slot == slot in
       let within : ℕ → Bool = λ due. nat_le (now + 1) due && nat_le due (now + 1 + (width - 1)) in
-      let all : All (λ (h : Held A). p h ≡ true → within h.due ≡ true) (hash.values index) =
-      All-values_from_lookup nat_eq_equiv (λ (h : Held A). p h ≡ true → within h.due ≡ true) index.entries apart.unique (λ q. if_found (lookup (nat_eq q) index.entries)
+      let all : All (λ (h : Held A). p h ≡ true → within h.due ≡ true) (values_of index) =
+      All-values_from_lookup nat_eq_equiv (λ (h : Held A). p h ≡ true → within h.due ≡ true) index apart.unique (λ q. if_found (lookup (nat_eq q) index)
       (λ h is here.
       let at : IsAhead now h.due slot = subst (λ s. IsAhead now h.due s) (equal_ids h.slot slot here) (ahead q h is) in
       let range = due_from_turning first width now h.due wheel turns at in
       in_range (now + 1) h.due width range.0 range.1)) in
-      let le = count_le p (λ h. within h.due) (hash.values index) all in
-      let same : count_by (λ (t : Timer A). within t.due) (timers_of index) ≡ count_by (λ (h : Held A). within h.due) (hash.values index) = count-timers_of within index apart in
+      let le = count_le p (λ h. within h.due) (values_of index) all in
+      let same : count_by (λ (t : Timer A). within t.due) (timers_of index) ≡ count_by (λ (h : Held A). within h.due) (values_of index) = count-timers_of within index apart in
       let now' = turned ((now + 1) % width) (count_by (λ (t : Timer A). within t.due) (timers_of index)) turns in
       omega (arith, le, same, now')
     where

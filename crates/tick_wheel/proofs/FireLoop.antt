@@ -1,24 +1,20 @@
 -- A slot that has fired part of the way.
-use Rattle.std.proofs.Common.{◌≡◌, ℕ, ◌+◌, ◌%◌, ◌≤◌, List, [], ◌++◌, length, slice_index_or, vec_len, vec_capacity}
+use Rattle.std.proofs.Common.{◌≡◌, ℕ, ◌+◌, ◌%◌, ◌≤◌, List, ◌++◌, length, vec_len, vec_capacity}
 use Rattle.std.specs.declared.vec.Vec.{Vec}
 use Rattle.std.specs.declared.alloc.Global.{Global}
-use Rattle.tick_wheel.specs.declared.slot.Entry.{Entry}
 use Rattle.tick_wheel.specs.Firing.{IsFiring, IsPartOf}
 use Rattle.tick_wheel.specs.Kept.{timers_of}
-use Rattle.tick_wheel.specs.Table.{Index, AreAhead, AreBelow, AreSettled}
+use Rattle.tick_wheel.specs.Table.{Index, AreApart, AreAhead, AreSettled}
 use Rattle.tick_wheel.specs.TimerList.{due_at, due_later, items_of}
 
-pub record FiresSo {T : Type 0} (now count i : ℕ) (index0 : Index T) (steps0 : ℕ) (slots : List (List Entry)) (index : Index T)
-    (fired : Vec T Global) (steps : ℕ) : Type 0 where
-  pub room : length slots ≡ 1024
-  pub firing : IsFiring ((now + 1) % 256) slots index
+pub record FiresSo {T : Type 0} (now : ℕ) (keys : List (ℕ × ℕ)) (place : ℕ) (index0 : Index T) (steps0 : ℕ) (index : Index T) (fired : Vec T Global) (steps : ℕ) : Type 0 where
+  pub firing : IsFiring ((now + 1) % 256) keys place index
+  pub apart : AreApart index
   pub ahead : AreAhead now index
   pub settled : AreSettled (now + 1) index
-  pub fits : AreBelow 18446744073709551616 index
   pub part : IsPartOf index index0
-  pub waiting : length (slice_index_or slots ((now + 1) % 256) []) + i ≡ count
   pub items : items_of (due_at (now + 1) (timers_of index0)) ≡ fired.items ++ items_of (due_at (now + 1) (timers_of index))
   pub rest : due_later (now + 1) (timers_of index) ≡ due_later (now + 1) (timers_of index0)
-  pub len : vec_len fired ≡ i
-  pub spare : count ≤ vec_capacity fired
-  pub counted : steps ≡ steps0 + i
+  pub len : vec_len fired ≤ place
+  pub spare : length keys ≤ vec_capacity fired
+  pub counted : steps ≡ steps0 + vec_len fired

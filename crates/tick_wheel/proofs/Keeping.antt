@@ -1,58 +1,53 @@
--- What each call keeps of the slots and the index.
-use Rattle.std.proofs.Common.{◌≡◌, ℕ, ◌+◌, ◌^◌, ◌<◌, ◌⊎◌, inl, inr, Bool, true, false, cond, nat_eq, List, ◌++◌, length, take, drop, Some, None, refl, sym, ap, ◌∙◌, subst, arith, ⊎_elim}
-use Rattle.std.specs.HashMap.{IsUnique}
+-- What each call keeps of the index.
+use Rattle.std.proofs.Common.{◌≡◌, ℕ, ◌+◌, ◌^◌, ◌<◌, ◌⊎◌, inl, inr, Bool, true, false, cond, nat_eq, Option, Some, None, option_map, refl, sym, ap, ◌∙◌, subst, arith, ⊎_elim}
 use Rattle.std.proofs.lemmas.Grind.{common_steps}
-use Rattle.std.proofs.lemmas.List.{take_at}
-use Rattle.std.proofs.lemmas.Option.{same_Some}
-use Rattle.tick_wheel.specs.declared.slot.Entry.{Entry}
-use Rattle.tick_wheel.specs.declared.table.Held.{Held}
+use Rattle.std.proofs.lemmas.Option.{none-some, same_Some}
+use Rattle.timer_lanes.specs.Lanes.{Held}
 use Rattle.tick_wheel.specs.declared.timer.Timer.{Timer}
 use Rattle.tick_wheel.specs.Kept.{IsKept}
 use Rattle.tick_wheel.specs.Place.{IsAhead}
-use Rattle.tick_wheel.specs.Table.{Index, IsLinked, AreApart, AreAhead, KeepsSlots, Rearranges, held_at, ranked_at}
+use Rattle.tick_wheel.specs.Table.{Index, IsUnique, AreApart, AreAhead, Rearranges, held_at, ranked_at, rank_of}
 use Rattle.tick_wheel.proofs.Cascading.{held_before}
 use Rattle.tick_wheel.proofs.Views.{apart_from_drop}
 
--- a slice that was lent comes back as it was left
-pub given_back : (ws xs : List (List Entry)) (n : ℕ) → length ws ≡ n → take n (ws ++ drop (length ws) xs) ≡ ws
-given_back ws xs n size = take_at ws (drop (length ws) xs) n size
-
 module _ {A : Type 0} where
-  pub kept_given_back : (tick next n : ℕ) (ws xs : List (List Entry)) (index : Index A) → length ws ≡ n → IsKept tick next ws index
-      → IsKept tick next (take n (ws ++ drop (length ws) xs)) index
-  kept_given_back tick next n ws xs index size kept = subst (λ (zs : List (List Entry)). IsKept tick next zs index) (sym (given_back ws xs n size)) kept
+  -- what is held without an id was held
+  pub was_held : (index index' : Index A) (id : ℕ) → ((q : ℕ) → held_at index' q ≡ cond (nat_eq id q) None (held_at index q))
+      → (q : ℕ) (h : Held A) → held_at index' q ≡ Some h → held_at index q ≡ Some h
+  was_held index index' id gone q h is = was (nat_eq id q) (held_at index q) (sym (gone q) ∙ is)
+    where
+      was : (b : Bool) (o : Option (Held A)) → cond b None o ≡ Some h → o ≡ Some h
+      was true o e = absurd (none-some h e)
+      was false o e = e
+
+  pub gone_ranks : (index index' : Index A) (id : ℕ) → ((q : ℕ) → held_at index' q ≡ cond (nat_eq id q) None (held_at index q))
+      → (q : ℕ) → ranked_at index' q ≡ cond (nat_eq id q) None (ranked_at index q)
+  gone_ranks index index' id gone q = ap (option_map (rank_of q)) (gone q) ∙ dropped (nat_eq id q) (held_at index q)
+    where
+      dropped : (b : Bool) (o : Option (Held A)) → option_map (rank_of q) (cond b None o) ≡ cond b None (option_map (rank_of q) o)
+      dropped true o = refl
+      dropped false o = refl
 
   -- an id's timer leaves
-  pub kept_drop : (tick next : ℕ) (slots slots' : List (List Entry)) (index index' : Index A) (id : ℕ) → IsKept tick next slots index
-      → length slots' ≡ 1024 → IsLinked slots' index' → IsUnique nat_eq index'
-      → ((q : ℕ) → ranked_at index' q ≡ cond (nat_eq id q) None (ranked_at index q)) → KeepsSlots index index'
-      → IsKept tick next slots' index'
-  kept_drop tick next slots slots' index index' id kept room linked unique ranks stay = record {
+  pub kept_drop : (tick next : ℕ) (index index' : Index A) (id : ℕ) → IsKept tick next index → IsUnique index'
+      → ((q : ℕ) → held_at index' q ≡ cond (nat_eq id q) None (held_at index q)) → IsKept tick next index'
+  kept_drop tick next index index' id kept unique gone = record {
     now = kept.now;
     last = kept.last;
-    room = room;
-    linked = linked;
-    apart = apart_from_drop index index' id kept.apart unique ranks;
-    below = λ q h is.
-        let w = stay q h is in
-        subst (λ n. n < next) (ap (λ (r : ℕ × Timer A). r.0) w.2) (kept.below q w.0 w.1);
-    ahead = λ q h is.
-        let w = stay q h is in
-        subst (λ d. IsAhead tick d h.slot) (ap (λ (r : ℕ × Timer A). r.1.due) w.2) (subst (λ s. IsAhead tick w.0.due s) w.3 (kept.ahead q w.0 w.1));
+    apart = apart_from_drop index index' id kept.apart unique (gone_ranks index index' id gone);
+    below = λ q h is. kept.below q h (was_held index index' id gone q h is);
+    ahead = λ q h is. kept.ahead q h (was_held index index' id gone q h is);
   }
 
   -- one timer more
-  pub kept_link : (tick next : ℕ) (slots slots' : List (List Entry)) (index index' : Index A) (id : ℕ) (h : Held A) → IsKept tick next slots index
-      → length slots' ≡ 1024 → IsLinked slots' index' → IsUnique nat_eq index'
+  pub kept_link : (tick next : ℕ) (index index' : Index A) (id : ℕ) (h : Held A) → IsKept tick next index → IsUnique index'
       → ((q : ℕ) → held_at index' q ≡ cond (nat_eq id q) (Some h) (held_at index q)) → h.order ≡ next → IsAhead tick h.due h.slot → next + 1 < 2 ^ 64
-      → IsKept tick (next + 1) slots' index'
-  kept_link tick next slots slots' index index' id h kept room linked unique updates order ahead more =
+      → IsKept tick (next + 1) index'
+  kept_link tick next index index' id h kept unique updates order ahead more =
       let was : (q : ℕ) (k : Held A) → held_at index' q ≡ Some k → ((id ≡ q) × (h ≡ k)) ⊎ (held_at index q ≡ Some k) = λ q k is. came (nat_eq id q) refl k q (sym (updates q) ∙ is) in
       record {
         now = kept.now;
         last = more;
-        room = room;
-        linked = linked;
         apart = record {
           unique = unique;
           once = λ a b x y is also same.
@@ -77,14 +72,11 @@ module _ {A : Type 0} where
       came false t k q e = inr e
 
   -- entries were placed anew
-  pub kept_settled : (tick next : ℕ) (slots slots' : List (List Entry)) (index index' : Index A) → IsKept tick next slots index
-      → length slots' ≡ 1024 → IsLinked slots' index' → AreApart index' → AreAhead tick index' → Rearranges 1024 index index'
-      → IsKept tick next slots' index'
-  kept_settled tick next slots slots' index index' kept room linked apart ahead same = record {
+  pub kept_settled : (tick next : ℕ) (index index' : Index A) → IsKept tick next index → AreApart index' → AreAhead tick index' → Rearranges 1024 index index'
+      → IsKept tick next index'
+  kept_settled tick next index index' kept apart ahead same = record {
     now = kept.now;
     last = kept.last;
-    room = room;
-    linked = linked;
     apart = apart;
     below = λ q h is.
         let w = held_before (held_at index' q) (held_at index q) q h (same.same q) is in

@@ -1,234 +1,323 @@
--- A wheel that has ended gives its timers by due tick.
-use Rattle.std.proofs.Common.{◌≡◌, ◌≢◌, ℕ, ◌+◌, ◌-◌, ◌*◌, ◌^◌, ◌<◌, ◌≤◌, ◌==◌, not, Bool, true, false, cond, nat_eq, List, [], ◌∷◌, ◌++◌, length, map, set, take, drop, get_or, slice_get, slice_index_or, option_to_list, Option, Some, None, option_map, IsNone, refl, sym, ap, ◌∙◌, subst, arith, ⊎_elim}
+-- The rest of a wheel: its lanes in order, and what leaves them.
+use Rattle.std.proofs.Common.{zero, suc, ◌≡◌, ◌≢◌, ℕ, ◌+◌, ◌-◌, ◌^◌, ◌<◌, ◌≤◌, ◌==◌, true, false, cond, nat_eq, List, [], ◌∷◌, ◌++◌, length, map, take, drop, get_or, slice_get, Option, Some, None, option_map, option_to_list, refl, sym, ap, ◌∙◌, subst, arith, ⊎_elim}
 use Rattle.std.specs.Cmp.{nat_eq_equiv}
 use Rattle.std.specs.FinMap.Entries.{find}
-use Rattle.std.specs.HashMap.{IsUnique, hash_map_len}
-use Rattle.std.specs.List.{Contains}
-use Rattle.std.specs.List.Sorted.{IsPermutation}
+use Rattle.std.specs.List.{flat_map, sum_by, IsDistinct, AllByRecursion, Contains}
+use Rattle.std.specs.List.Sorted.{IsPermutation, IsNonDecreasingBy}
+use Rattle.std.specs.Map.{keys_of}
+use Rattle.std.specs.Option.{MatchOption}
 use Rattle.std.specs.Ordering.{nat_cmp}
-use Rattle.std.proofs.lemmas.Bool.{cases_eq, cases_lt}
+use Rattle.std.proofs.lemmas.Bool.{cases_eq}
 use Rattle.std.proofs.lemmas.Grind.{common_steps}
-use Rattle.std.proofs.lemmas.List.{get_or_default, get_or-set_same, get_or-set_other, length-set, length_push, get_or_append_left, get_or_past, append-nil, set-get_or}
-use Rattle.std.proofs.lemmas.List.Elements.{Contains-push_cases, Contains-append_left, Contains-push}
-use Rattle.std.proofs.lemmas.List.Sorted.{Contains-permutation, IsPermutation-sym}
-use Rattle.std.proofs.lemmas.Map.Made.{nil_from_lookup}
-use Rattle.std.proofs.lemmas.Option.{none-some, same_Some, slice_get-get_or, slice_get_within, get_or_from_slice_get}
-use Rattle.tick_wheel.specs.declared.slot.Entry.{Entry}
-use Rattle.tick_wheel.specs.declared.table.Held.{Held}
+use Rattle.std.proofs.lemmas.List.{append-nil, append_assoc, length_push, length-map, get_or_default, get_or_append_left, get_or_push, nil_from_length, take_at}
+use Rattle.std.proofs.lemmas.List.Elements.{Contains-append_left, Contains-append_right, Contains-append_cases}
+use Rattle.std.proofs.lemmas.List.Sorted.{Contains-permutation, IsPermutation-sym, sum_by-IsPermutation}
+use Rattle.std.proofs.lemmas.List.Sums.{sum_by-append, sum_by-cons}
+use Rattle.std.proofs.lemmas.Map.Keys.{IsDistinct-head, IsDistinct-tail}
+use Rattle.std.proofs.lemmas.Map.Views.{Contains-from_lookup, lookup-from_Contains}
+use Rattle.std.proofs.lemmas.Option.{none-some, same_Some, slice_get-map, slice_get-get_or, slice_get_within, get_or_from_slice_get}
+use Rattle.timer_lanes.specs.declared.entry.Entry.{Entry}
+use Rattle.timer_lanes.specs.Lanes.{Held, entry_seen}
 use Rattle.tick_wheel.specs.declared.timer.Timer.{Timer}
-use Rattle.tick_wheel.specs.Firing.{Lists}
-use Rattle.tick_wheel.specs.InOrder.{in_order}
-use Rattle.tick_wheel.specs.Kept.{numbered, timers_of, IsKept}
+use Rattle.tick_wheel.specs.Kept.{IsKept, numbered, timers_of}
 use Rattle.tick_wheel.specs.Place.{IsAhead}
-use Rattle.tick_wheel.specs.Resting.{key_of, key_of_last, key_of_entry, Falls, Fit, IsResting}
-use Rattle.tick_wheel.specs.Table.{Index, IsLinked, AreApart, entry_in, entry_of, held_at, ranked_at, rank_of, timer_of}
-use Rattle.tick_wheel.specs.TimerList.{by_due, without}
-use Rattle.tick_wheel.proofs.ByDue.{first_due, length-by_due}
-use Rattle.tick_wheel.proofs.Counting.{length-timers_of}
-use Rattle.tick_wheel.proofs.Fired.{contains_at, at_contained, different, once_permuted, dropped_rank}
-use Rattle.tick_wheel.proofs.InOrder.{unequal}
-use Rattle.tick_wheel.proofs.Keeping.{given_back}
-use Rattle.tick_wheel.proofs.Slots.{holder_of, slice_get-push_end, slice_get-push_other}
-use Rattle.tick_wheel.proofs.Views.{numbered_sorted, found_held, held_found, timers_drop, apart_from_drop}
+use Rattle.tick_wheel.specs.Resting.{Fit, IsPacked, IsResting, entries_back, key_of, key_of_entry, rest_seen, timer_of_entry}
+use Rattle.tick_wheel.specs.Table.{Index, AreApart, held_at}
+use Rattle.tick_wheel.specs.TimerList.{by_due}
+use Rattle.tick_wheel.proofs.RestOrder.{Ascends, is_id, ascends_push, rest_order, first_or_later}
+use Rattle.tick_wheel.proofs.Views.{numbered_sorted, found_held, held_found}
+
+pub match_none : {X : Type 0} (o : Option X) (P : Type 0) (Q : X → Type 0) → o ≡ None → P → MatchOption o P Q
+match_none {X = X} o P Q is p = subst (λ (q : Option X). MatchOption q P Q) (sym is) p
+
+-- a sum over what stands in a list of options
+or_zero : {X : Type 0} (f : X → ℕ) → Option X → ℕ
+or_zero f None = 0
+or_zero f (Some x) = f x
+
+sum_option : {X : Type 0} (f : X → ℕ) (o : Option X) → sum_by f (option_to_list o) ≡ or_zero f o
+unfolding or_zero
+sum_option f None = refl
+sum_option f (Some x) = omega (arith, sum_by-cons f x [])
+
+sum_flat : {X : Type 0} (f : X → ℕ) (os : List (Option X)) → sum_by f (flat_map option_to_list os) ≡ sum_by (or_zero f) os
+sum_flat f [] = refl
+sum_flat f (o ∷ os) =
+    omega (arith, sum_by-append f (option_to_list o) (flat_map option_to_list os), sum_option f o, sum_flat f os, sum_by-cons (or_zero f) o os)
+
+sum_map : {X Y : Type 0} (f : Y → ℕ) (g : X → Y) (xs : List X) → sum_by f (map g xs) ≡ sum_by (λ x. f (g x)) xs
+sum_map f g [] = refl
+sum_map f g (x ∷ xs) = omega (arith, sum_by-cons f (g x) (map g xs), sum_map f g xs, sum_by-cons (λ y. f (g y)) x xs)
+
+ones : {X : Type 0} (xs : List X) → sum_by (λ (_ : X). 1) xs ≡ length xs
+ones [] = refl
+ones {X = X} (x ∷ xs) = sum_by-cons (λ (_ : X). 1) x xs ∙ ap (λ n. 1 + n) (ones xs) ∙ (omega arith)
+
+-- what is in a mapped list is made of something
+mapped_from : {X Y : Type 0} (g : X → Y) (xs : List X) (y : Y) → Contains (map g xs) y → (x : X) × Contains xs x × (g x ≡ y)
+mapped_from {X = X} {Y = Y} g xs y c =
+    let at : slice_get (map g xs) c.0 ≡ Some y = slice_get-get_or (map g xs) c.0 y c.1 ∙ ap Some c.2 in
+    let r = made (slice_get xs c.0) (sym (slice_get-map g xs c.0) ∙ at) in
+    (r.0, (c.0, slice_get_within xs c.0 r.0 r.1, get_or_from_slice_get xs c.0 r.0 r.0 r.1), r.2)
+  where
+    made : (o : Option X) → option_map g o ≡ Some y → (x : X) × (o ≡ Some x) × (g x ≡ y)
+    made None is = absurd (none-some y is)
+    made (Some x) is = (x, refl, same_Some (g x) y is)
+
+mapped_into : {X Y : Type 0} (g : X → Y) (xs : List X) (x : X) → Contains xs x → Contains (map g xs) (g x)
+mapped_into {X = X} {Y = Y} g xs x c =
+    let at : slice_get xs c.0 ≡ Some x = slice_get-get_or xs c.0 x c.1 ∙ ap Some c.2 in
+    let there : slice_get (map g xs) c.0 ≡ Some (g x) = slice_get-map g xs c.0 ∙ ap (option_map g) at in
+    (c.0, slice_get_within (map g xs) c.0 (g x) there, get_or_from_slice_get (map g xs) c.0 (g x) (g x) there)
+
+-- what stands in a list of options
+option_from : {X : Type 0} (o : Option X) (x : X) → Contains (option_to_list o) x → o ≡ Some x
+option_from None x c = absurd (omega (arith, c.1))
+option_from (Some y) x c = ⊎_elim (λ same. ap Some same) (λ behind. absurd (omega (arith, behind.1))) (first_or_later y [] x c)
+
+option_into : {X : Type 0} (o : Option X) (x : X) → o ≡ Some x → Contains (option_to_list o) x
+option_into {X = X} o x is = subst (λ (p : Option X). Contains (option_to_list p) x) (sym is) (zero, omega arith, refl)
+
+flat_from : {X : Type 0} (os : List (Option X)) (x : X) → Contains (flat_map option_to_list os) x → Contains os (Some x)
+flat_from [] x c = absurd (omega (arith, c.1))
+flat_from (o ∷ os) x c = ⊎_elim
+    (λ first. (zero, omega arith, option_from o x first))
+    (λ behind. let r = flat_from os x behind in (suc r.0, omega (arith, r.1), r.2))
+    (Contains-append_cases (option_to_list o) (flat_map option_to_list os) x c)
+
+flat_into : {X : Type 0} (os : List (Option X)) (x : X) → Contains os (Some x) → Contains (flat_map option_to_list os) x
+flat_into [] x c = absurd (omega (arith, c.1))
+flat_into (o ∷ os) x c = ⊎_elim
+    (λ first. Contains-append_left (option_to_list o) (flat_map option_to_list os) x (option_into o x first))
+    (λ behind. Contains-append_right (option_to_list o) (flat_map option_to_list os) x (flat_into os x behind))
+    (first_or_later o os (Some x) c)
+
+at_place : {X : Type 0} (os : List (Option X)) (x : X) → Contains os (Some x) → (k : ℕ) × (k < length os) × (get_or os k None ≡ Some x)
+at_place [] x c = absurd (omega (arith, c.1))
+at_place (o ∷ os) x c = ⊎_elim
+    (λ first. (zero, omega arith, first))
+    (λ behind. let r = at_place os x behind in (suc r.0, omega (arith, r.1), r.2))
+    (first_or_later o os (Some x) c)
+
+abbrev one_if_same : ℕ → ℕ → ℕ
+one_if_same a b = cond (a == b) 1 0
 
 module _ {A : Type 0} where
-  -- slots in order
-  pub rested : (before slots : List (List Entry)) (index : Index A) → length slots ≡ 1024 → IsLinked before index → AreApart index → Fit index
-      → ((k : ℕ) → IsPermutation (slice_index_or before k []) (slice_index_or slots k [])) → ((k : ℕ) → Falls (slice_index_or slots k []))
-      → IsResting slots index
-  rested before slots index room linked apart fits moved falls = record {
-    room = room;
-    apart = apart;
-    lists = λ s. record {
-      all = λ id h is at.
-          Contains-permutation (slice_index_or before s []) (slice_index_or slots s []) (entry_of id h) (moved s)
-          (contains_at (slice_index_or before s []) h.place (entry_of id h) (subst (λ t. entry_in before t h.place ≡ Some (entry_of id h)) at (linked.stands id h is)));
-      each = λ e c.
-          let k = at_contained (slice_index_or before s []) e (Contains-permutation (slice_index_or slots s []) (slice_index_or before s []) e (IsPermutation-sym _ _ (moved s)) c) in
-          let h = holder_of before index s k.0 e linked k.1 in
-          (h.0, h.1, h.2, h.4);
-    };
-    once = λ s. once_permuted (slice_index_or before s []) (slice_index_or slots s [])
-        (λ i j x y is also same.
-        let a = holder_of before index s i x linked is in
-        let b = holder_of before index s j y linked also in
-        sym a.3 ∙ ap (λ (h : Held A). h.place) (same_Some _ _ (sym a.1 ∙ ap (held_at index) same ∙ b.1)) ∙ b.3)
-        (moved s);
-    falls = falls;
-    fits = fits;
-  }
+  -- the entries from the last lane to the first
+  back_push : (ls : List (Option (Entry A))) (o : Option (Entry A)) → entries_back (ls ++ o ∷ []) ≡ option_to_list o ++ entries_back ls
+  back_push [] o = sym (append-nil (option_to_list o))
+  back_push (l ∷ ls) o =
+      ap (λ (es : List (Entry A)). es ++ option_to_list l) (back_push ls o) ∙ append_assoc (option_to_list o) (entries_back ls) (option_to_list l)
 
--- the last entry of a slot
-last_of : (xs : List Entry) (d : Entry) → 0 < length xs → slice_get xs (length xs - 1) ≡ Some (get_or xs (length xs - 1) d)
-last_of xs d some = slice_get-get_or xs (length xs - 1) d (omega (arith, some))
+  back_from : (ls : List (Option (Entry A))) (e : Entry A) → Contains (entries_back ls) e → Contains ls (Some e)
+  back_from [] e c = absurd (omega (arith, c.1))
+  back_from (l ∷ ls) e c = ⊎_elim
+      (λ behind. let r = back_from ls e behind in (suc r.0, omega (arith, r.1), r.2))
+      (λ first. (zero, omega arith, option_from l e first))
+      (Contains-append_cases (entries_back ls) (option_to_list l) e c)
 
--- no entry of a slot comes before the one that leaves it next
-key-least : (xs : List Entry) (c : ℕ) (x : Entry) → Falls xs → slice_get xs c ≡ Some x → key_of_entry x < 340282366920938463463374607431768211455 → key_of xs ≤ key_of_entry x
-key-least xs c x falls at fits =
-    let low : c < length xs = slice_get_within xs c x at in
-    let f = falls c (length xs - 1) x (omega (arith, low)) (omega (arith, low)) in
-    let here : get_or xs c x ≡ x = get_or_from_slice_get xs c x x at in
-    let last : key_of xs ≡ key_of_entry (get_or xs (length xs - 1) x) = ap key_of_last (last_of xs x (omega (arith, low))) in
-    omega (arith, f, ap key_of_entry here, last, fits)
+  back_into : (ls : List (Option (Entry A))) (e : Entry A) → Contains ls (Some e) → Contains (entries_back ls) e
+  back_into [] e c = absurd (omega (arith, c.1))
+  back_into (l ∷ ls) e c = ⊎_elim
+      (λ first. Contains-append_right (entries_back ls) (option_to_list l) e (option_into l e first))
+      (λ behind. Contains-append_left (entries_back ls) (option_to_list l) e (back_into ls e behind))
+      (first_or_later l ls (Some e) c)
 
-module _ {A : Type 0} (slots : List (List Entry)) (index : Index A) (slot : ℕ) (rest : IsResting slots index)
-    (least : (t : ℕ) → t < 1024 → key_of (slice_index_or slots slot []) ≤ key_of (slice_index_or slots t [])) where
-  -- the key of what an id holds
-  held_key : (id : ℕ) (h : Held A) → held_at index id ≡ Some h → key_of (slice_index_or slots slot []) ≤ key_of_entry (entry_of id h)
-  held_key id h is =
-      let xs : List Entry = slice_index_or slots h.slot [] in
-      let c = at_contained xs (entry_of id h) ((rest.lists h.slot).all id h is refl) in
-      let fits = rest.fits id h is in
-      let within : h.slot < 1024 = ⊎_elim (λ low. low)
-      (λ high. absurd (omega (arith, slice_get_within xs c.0 (entry_of id h) c.1, ap (λ (zs : List Entry). length zs) (get_or_past slots h.slot [] (omega (arith, high, rest.room))))))
-      (cases_lt h.slot 1024) in
-      omega (arith, least h.slot within, key-least xs c.0 (entry_of id h) (rest.falls h.slot) c.1 (omega (arith, fits.0, fits.1)))
+  sum_back : (f : Entry A → ℕ) (ls : List (Option (Entry A))) → sum_by f (entries_back ls) ≡ sum_by (or_zero f) ls
+  sum_back f [] = refl
+  sum_back f (l ∷ ls) = omega (arith, sum_by-append f (entries_back ls) (option_to_list l), sum_option f l, sum_back f ls, sum_by-cons (or_zero f) l ls)
 
-  -- where nothing leaves, nothing is left
-  pub none_left : slice_index_or slots slot [] ≡ [] → timers_of index ≡ []
-  none_left empty =
-      let at : key_of (slice_index_or slots slot []) ≡ 340282366920938463463374607431768211455 = ap key_of empty in
-      let entries : index.entries ≡ [] = nil_from_lookup nat_eq_equiv index.entries (λ q. none (held_at index q)
-      (λ h is. let fits = rest.fits q h is in omega (arith, held_key q h is, at, fits.0, fits.1))) in
-      ap (λ (es : List (ℕ × Held A)). shown es) entries
+  none_back : (ls : List (Option (Entry A))) → ((k : ℕ) → get_or ls k None ≡ None) → entries_back ls ≡ []
+  none_back [] none = refl
+  none_back (None ∷ ls) none = append-nil (entries_back ls) ∙ none_back ls (λ k. none (suc k))
+  none_back (Some e ∷ ls) none = absurd (none-some e (sym (none zero)))
+
+  back_none : (ls : List (Option (Entry A))) → entries_back ls ≡ [] → (k : ℕ) → get_or ls k None ≡ None
+  back_none [] is k = refl
+  back_none (None ∷ ls) is zero = refl
+  back_none (None ∷ ls) is (suc k) = back_none ls (sym (append-nil (entries_back ls)) ∙ is) k
+  back_none (Some e ∷ ls) is k = absurd (omega (arith, length_push (entries_back ls) e, ap (λ (es : List (Entry A)). length es) is))
+
+  -- a rest that is seen as nothing has empty lanes alone
+  pub seen_none : (ls : List (Option (Entry A))) (v : List (Timer A)) → rest_seen ls ≡ v → v ≡ [] → (k : ℕ) → get_or ls k None ≡ None
+  seen_none ls v seen none =
+      back_none ls (nil_from_length (entries_back ls) (omega (arith, length-map (entries_back ls) timer_of_entry, ap (λ (ts : List (Timer A)). length ts) (seen ∙ none))))
+
+  pub seen_left : (left : ℕ) (ls : List (Option (Entry A))) (v : List (Timer A)) → IsResting left ls → rest_seen ls ≡ v → left ≡ length v
+  seen_left left ls v rest seen = rest.size ∙ sym (length-map (entries_back ls) timer_of_entry) ∙ ap (λ (ts : List (Timer A)). length ts) seen
+
+  packed_front : (ls : List (Option (Entry A))) (o : Option (Entry A)) → IsPacked (ls ++ o ∷ []) → IsPacked ls
+  packed_front ls o packed i j e le low some none =
+      packed i j e le (omega (arith, low, length_push ls o)) (get_or_append_left ls (o ∷ []) None i (omega (arith, le, low)) ∙ some)
+      (get_or_append_left ls (o ∷ []) None j low ∙ none)
+
+  popped_is : (ls new : List (Option (Entry A))) (r : Option (Option (Entry A))) (lane : Option (Entry A)) → ls ≡ new ++ option_to_list r → r ≡ Some lane → ls ≡ new ++ lane ∷ []
+  popped_is ls new r lane is some = is ∙ ap (λ (o : Option (Option (Entry A))). new ++ option_to_list o) some
+
+  -- the last lane is empty: nothing is left
+  pub none_popped : (left : ℕ) (ls new : List (Option (Entry A))) (r : Option (Option (Entry A))) (lane : Option (Entry A)) → IsResting left ls → ls ≡ new ++ option_to_list r
+      → r ≡ Some lane → lane ≡ None → IsResting left new × ((rest_seen ls ≡ []) × (rest_seen new ≡ []))
+  none_popped left ls new r lane rest is some none =
+      let all : ls ≡ new ++ None ∷ [] = popped_is ls new r lane is some ∙ ap (λ (o : Option (Entry A)). new ++ o ∷ []) none in
+      let packed : IsPacked (new ++ None ∷ []) = subst (λ (xs : List (Option (Entry A))). IsPacked xs) all rest.packed in
+      let empty : entries_back new ≡ [] = none_back new (λ k. each k packed (get_or new k None) refl) in
+      let back : entries_back ls ≡ entries_back new = ap entries_back all ∙ back_push new None in (
+        record { size = rest.size ∙ ap (λ (es : List (Entry A)). length es) back; packed = packed_front new None packed },
+        (ap (map timer_of_entry) (back ∙ empty), ap (map timer_of_entry) empty),
+      )
     where
-      none : (o : Option (Held A)) → ((h : Held A) → o ≡ Some h → ⊥) → o ≡ None
-      none None f = refl
-      none (Some h) f = absurd (f h refl)
+      each : (k : ℕ) → IsPacked (new ++ None ∷ []) → (o : Option (Entry A)) → get_or new k None ≡ o → get_or new k None ≡ None
+      each k packed None at = at
+      each k packed (Some e) at =
+          let low : k < length new = slice_low new k e at in
+          absurd (packed k (length new) e (omega (arith, low)) (omega (arith, length_push new None)) (get_or_append_left new (None ∷ []) None k low ∙ at) (get_or_push new None None (length new) refl))
+        where
+          slice_low : (xs : List (Option (Entry A))) (k : ℕ) (e : Entry A) → get_or xs k None ≡ Some e → k < length xs
+          slice_low [] k e at = absurd (none-some e at)
+          slice_low (x ∷ xs) zero e at = omega arith
+          slice_low (x ∷ xs) (suc k) e at = let r = slice_low xs k e at in omega (arith, r)
 
-      shown : List (ℕ × Held A) → List (Timer A)
-      shown es = map (λ (r : ℕ × Timer A). r.1) (in_order (map (λ (e : ℕ × Held A). rank_of e.0 e.1) es))
+  -- an entry leaves
+  pub some_popped : (left : ℕ) (ls new : List (Option (Entry A))) (r : Option (Option (Entry A))) (lane : Option (Entry A)) (e : Entry A) → IsResting left ls
+      → ls ≡ new ++ option_to_list r → r ≡ Some lane → lane ≡ Some e → (1 ≤ left) × IsResting (left - 1) new × (rest_seen ls ≡ timer_of_entry e ∷ rest_seen new)
+  some_popped left ls new r lane e rest is some at =
+      let all : ls ≡ new ++ Some e ∷ [] = popped_is ls new r lane is some ∙ ap (λ (o : Option (Entry A)). new ++ o ∷ []) at in
+      let back : entries_back ls ≡ e ∷ entries_back new = ap entries_back all ∙ back_push new (Some e) in
+      let size : left ≡ length (entries_back new) + 1 = rest.size ∙ ap (λ (es : List (Entry A)). length es) back ∙ (omega arith) in (
+        omega (arith, size),
+        record { size = omega (arith, size); packed = packed_front new (Some e) (subst (λ (xs : List (Option (Entry A))). IsPacked xs) all rest.packed) },
+        ap (map timer_of_entry) back,
+      )
 
-  module _ (index1 : Index A) (e : Entry) (read ys : List Entry) (within : slot < 1024) (split : slice_index_or slots slot read ≡ ys ++ e ∷ [])
-      (updates : (q : ℕ) → held_at index1 q ≡ cond (nat_eq e.id q) None (held_at index q)) (unique : IsUnique nat_eq index1) where
-    list : slice_index_or slots slot [] ≡ ys ++ e ∷ []
-    list = sym (get_or_default slots slot read [] (omega (arith, within, rest.room))) ∙ split
+  -- entries that are ordered by their keys ascend from the last lane on
+  ascends_back : (ls : List (Option (Entry A))) → IsNonDecreasingBy key_of ls → ((e : Entry A) → Contains ls (Some e) → key_of_entry e < 340282366920938463463374607431768211455)
+      → Ascends (entries_back ls)
+  unfolding Ascends
+  ascends_back [] rises fits = tt
+  ascends_back (l ∷ ls) rises fits =
+      let rest : Ascends (entries_back ls) = ascends_back ls (λ i j d le low. rises (suc i) (suc j) d (omega (arith, le)) (omega (arith, low))) (λ e c. fits e (suc c.0, omega (arith, c.1), c.2)) in
+      one l refl rest
+    where
+      one : (o : Option (Entry A)) → l ≡ o → Ascends (entries_back ls) → Ascends (entries_back ls ++ option_to_list o)
+      one None is rest = subst Ascends (sym (append-nil (entries_back ls))) rest
+      one (Some e) is rest = ascends_push (entries_back ls) e rest (λ x c.
+          let there = back_from ls x c in
+          let le = rises zero (suc there.0) (Some x) (omega arith) (omega (arith, there.1)) in
+          let first : key_of l ≡ 340282366920938463463374607431768211455 - key_of_entry e = ap key_of is in
+          let last : key_of (get_or ls there.0 (Some x)) ≡ 340282366920938463463374607431768211455 - key_of_entry x = ap key_of there.2 in
+          let high = fits e (zero, omega arith, is) in
+          let also = fits x (suc there.0, omega (arith, there.1), there.2) in
+          omega (arith, le, first, last, high, also))
 
-    pub next_leaver : (h : Held A) × (held_at index e.id ≡ Some h) × (h.slot ≡ slot) × (entry_of e.id h ≡ e)
-    next_leaver = (rest.lists slot).each e (subst (λ (zs : List Entry). Contains zs e) (sym list) (Contains-push ys e))
+  -- the ids of an index
+  none_count : (k : ℕ) (xs : Index A) → AllByRecursion (λ y. nat_eq k y ≡ false) (keys_of xs) → sum_by (λ (x : ℕ × Held A). cond (x.0 == k) 1 0) xs ≡ 0
+  none_count k [] all = refl
+  none_count k (x ∷ xs) all = omega (arith, sum_by-cons (λ (x : ℕ × Held A). cond (x.0 == k) 1 0) x xs, other k x.0 all.0, none_count k xs all.1)
+    where
+      other : (a b : ℕ) → nat_eq a b ≡ false → one_if_same b a ≡ 0
+      other a b f = grind (arith, common_steps)
 
-    gone_rank : (q : ℕ) → ranked_at index1 q ≡ cond (nat_eq e.id q) None (ranked_at index q)
-    gone_rank q = ap (option_map (rank_of q)) (updates q) ∙ dropped_rank (nat_eq e.id q) (held_at index q) q
+  count_ids : (xs : Index A) (q : ℕ) → IsDistinct nat_eq (keys_of xs) → sum_by (λ (x : ℕ × Held A). cond (x.0 == q) 1 0) xs ≤ 1
+  count_ids [] q distinct = omega arith
+  count_ids (x ∷ xs) q distinct =
+      ⊎_elim
+      (λ same.
+      let none : sum_by (λ (y : ℕ × Held A). cond (y.0 == q) 1 0) xs ≡ 0 =
+      subst (λ k. sum_by (λ (y : ℕ × Held A). cond (y.0 == k) 1 0) xs ≡ 0) same (none_count x.0 xs (IsDistinct-head nat_eq x.0 (keys_of xs) distinct)) in
+      omega (arith, sum_by-cons (λ (y : ℕ × Held A). cond (y.0 == q) 1 0) x xs, none, most x.0 q))
+      (λ ne. omega (arith, sum_by-cons (λ (y : ℕ × Held A). cond (y.0 == q) 1 0) x xs, apart x.0 q ne, count_ids xs q (IsDistinct-tail nat_eq x.0 (keys_of xs) distinct)))
+      (cases_eq x.0 q)
+    where
+      most : (a b : ℕ) → one_if_same a b ≤ 1
+      most a b = grind (arith, common_steps)
 
-    still : (q : ℕ) (h : Held A) → held_at index1 q ≡ Some h → (e.id ≢ q) × (held_at index q ≡ Some h)
-    still q h is = was (nat_eq e.id q) (held_at index q) refl (sym (updates q) ∙ is)
+      apart : (a b : ℕ) → a ≢ b → one_if_same a b ≡ 0
+      apart a b ne = grind (arith, common_steps)
+
+  -- a wheel's lanes in order
+  module _ (index : Index A) (ls sorted : List (Option (Entry A))) (unique : AreApart index) (fits : Fit index) (all_is : flat_map option_to_list ls ≡ map entry_seen index)
+      (same : IsPermutation ls sorted) (rises : IsNonDecreasingBy key_of sorted) where
+    -- an entry of a lane is held
+    lane_held : (e : Entry A) → Contains sorted (Some e) → (h : Held A) × (held_at index e.id ≡ Some h) × (entry_seen (e.id, h) ≡ e)
+    lane_held e c =
+        let there = subst (λ (es : List (Entry A)). Contains es e) all_is (flat_into ls e (Contains-permutation sorted ls (Some e) (IsPermutation-sym ls sorted same) c)) in
+        let r = mapped_from entry_seen index e there in
+        let id : r.0.0 ≡ e.id = ap (λ (x : Entry A). x.id) r.2 in
+        (r.0.1, subst (λ q. held_at index q ≡ Some r.0.1) id (lookup-from_Contains nat_eq_equiv r.0.0 r.0.1 index unique.unique r.1), subst (λ q. entry_seen (q, r.0.1) ≡ e) id r.2)
+
+    held_lane : (id : ℕ) (h : Held A) → held_at index id ≡ Some h → Contains sorted (Some (entry_seen (id, h)))
+    held_lane id h is =
+        Contains-permutation ls sorted (Some (entry_seen (id, h))) same
+        (flat_from ls (entry_seen (id, h)) (subst (λ (es : List (Entry A)). Contains es (entry_seen (id, h))) (sym all_is)
+        (mapped_into entry_seen index (id, h) (Contains-from_lookup equal_keys id h index is))))
       where
-        was : (b : Bool) (o : Option (Held A)) → nat_eq e.id q ≡ b → cond b None o ≡ Some h → (e.id ≢ q) × (o ≡ Some h)
-        was true o t is = absurd (none-some _ is)
-        was false o t is = (unequal e.id q t, is)
+        equal_keys : (a b : ℕ) → nat_eq a b ≡ true → a ≡ b
+        equal_keys a b t = grind (arith, common_steps)
 
-    stays : (q : ℕ) (h : Held A) → e.id ≢ q → held_at index q ≡ Some h → held_at index1 q ≡ Some h
-    stays q h apart is = updates q ∙ ap (λ b. cond b None (held_at index q)) (different e.id q apart) ∙ is
+    lane_fits : (e : Entry A) → Contains sorted (Some e) → (key_of_entry e < 340282366920938463463374607431768211455) × (e.order < 18446744073709551616)
+    lane_fits e c =
+        let h = lane_held e c in
+        let f = fits e.id h.0 h.1 in
+        let due : h.0.due ≡ e.due = ap (λ (x : Entry A). x.due) h.2 in
+        let order : h.0.order ≡ e.order = ap (λ (x : Entry A). x.order) h.2 in
+        (omega (arith, f.0, f.1, due, order), omega (arith, f.1, order))
 
-    apart1 : AreApart index1
-    apart1 = apart_from_drop index index1 e.id rest.apart unique gone_rank
+    -- sums are the same
+    sum_index : (f : Entry A → ℕ) → sum_by f (entries_back sorted) ≡ sum_by (λ (x : ℕ × Held A). f (entry_seen x)) index
+    sum_index f =
+        sum_back f sorted ∙ sum_by-IsPermutation (or_zero f) ls sorted same ∙ sym (sum_flat f ls) ∙ ap (sum_by f) all_is ∙ sum_map f entry_seen index
 
-    -- what stands in the slot now, and in the others
-    here : slice_index_or (set slots slot ys) slot [] ≡ ys
-    here = get_or-set_same slots slot ys [] (omega (arith, within, rest.room))
-
-    there : (t : ℕ) → t ≢ slot → slice_index_or (set slots slot ys) t [] ≡ slice_index_or slots t []
-    there t apart = get_or-set_other slots slot t ys [] apart
-
-    at_before : (i : ℕ) (x : Entry) → slice_get ys i ≡ Some x → slice_get (slice_index_or slots slot []) i ≡ Some x
-    at_before i x is = ap (λ (zs : List Entry). slice_get zs i) list ∙ slice_get-push_other ys e i (λ d. omega (arith, slice_get_within ys i x is, d)) ∙ is
-
-    lists_here : Lists slot ys index1
-    lists_here =
-        let last : slice_get (slice_index_or slots slot []) (length ys) ≡ Some e = ap (λ (zs : List Entry). slice_get zs (length ys)) list ∙ slice_get-push_end ys e (length ys) refl in
-        record {
-          all = λ id h is at.
-              let b = still id h is in
-              ⊎_elim (λ c. c) (λ same. absurd (b.0 (ap (λ (x : Entry). x.id) same)))
-              (Contains-push_cases ys e (entry_of id h) (subst (λ (zs : List Entry). Contains zs (entry_of id h)) list ((rest.lists slot).all id h b.1 at)));
-          each = λ x c.
-              let h = (rest.lists slot).each x (subst (λ (zs : List Entry). Contains zs x) (sym list) (Contains-append_left ys (e ∷ []) x c)) in
-              let p = at_contained ys x c in
-              (h.0, stays x.id h.0 (λ d. omega (arith, slice_get_within ys p.0 x p.1, rest.once slot p.0 (length ys) x e (at_before p.0 x p.1) last (sym d))) h.1, h.2, h.3);
-        }
-
-    lists_there : (t : ℕ) → t ≢ slot → Lists t (slice_index_or slots t []) index1
-    lists_there t apart = record {
-      all = λ id h is at. (rest.lists t).all id h (still id h is).1 at;
-      each = λ x c.
-          let h = (rest.lists t).each x c in
-          let k = next_leaver in
-          (h.0, stays x.id h.0 (λ d. apart (sym h.2 ∙ ap (λ (m : Held A). m.slot) (same_Some _ _ (sym h.1 ∙ ap (held_at index) (sym d) ∙ k.1)) ∙ k.2)) h.1, h.2, h.3);
+    pub rested_kept : (left : ℕ) → left ≡ length index → IsResting left sorted
+    rested_kept left is = record {
+      size = is ∙ sym (ones index) ∙ sym (sum_index (λ _. 1)) ∙ ones (entries_back sorted);
+      packed = λ i j e le low some none.
+          let c : Contains sorted (Some e) = (i, omega (arith, le, low), at_default sorted i (Some e) (omega (arith, le, low)) some) in
+          let f = lane_fits e c in
+          let r = rises i j None le low in
+          let first : key_of (get_or sorted i None) ≡ 340282366920938463463374607431768211455 - key_of_entry e = ap key_of some in
+          let last : key_of (get_or sorted j None) ≡ 0 = ap key_of none in
+          omega (arith, r, first, last, f.0);
     }
-
-    pub still_resting : IsResting (set slots slot ys) index1
-    still_resting = record {
-      room = length-set slots slot ys ∙ rest.room;
-      apart = apart1;
-      lists = λ t. ⊎_elim
-          (λ same. subst (λ n. Lists n (slice_index_or (set slots slot ys) n []) index1) (sym same) (subst (λ (zs : List Entry). Lists slot zs index1) (sym here) lists_here))
-          (λ apart. subst (λ (zs : List Entry). Lists t zs index1) (sym (there t apart)) (lists_there t apart))
-          (cases_eq t slot);
-      once = λ t i j x y is also same. ⊎_elim
-          (λ at.
-          let is' : slice_get ys i ≡ Some x = ap (λ (zs : List Entry). slice_get zs i) (sym here) ∙ subst (λ n. slice_get (slice_index_or (set slots slot ys) n []) i ≡ Some x) at is in
-          let also' : slice_get ys j ≡ Some y = ap (λ (zs : List Entry). slice_get zs j) (sym here) ∙ subst (λ n. slice_get (slice_index_or (set slots slot ys) n []) j ≡ Some y) at also in
-          rest.once slot i j x y (at_before i x is') (at_before j y also') same)
-          (λ apart. rest.once t i j x y (ap (λ (zs : List Entry). slice_get zs i) (sym (there t apart)) ∙ is) (ap (λ (zs : List Entry). slice_get zs j) (sym (there t apart)) ∙ also) same)
-          (cases_eq t slot);
-      falls = λ t. ⊎_elim
-          (λ at. subst (λ n. Falls (slice_index_or (set slots slot ys) n [])) (sym at) (subst Falls (sym here) (λ i j d le low.
-          let before = subst Falls list (rest.falls slot) i j d le (omega (arith, low, length_push ys e)) in
-          omega (arith, before, ap key_of_entry (get_or_append_left ys (e ∷ []) d i (omega arith)), ap key_of_entry (get_or_append_left ys (e ∷ []) d j low)))))
-          (λ apart. subst Falls (sym (there t apart)) (rest.falls t))
-          (cases_eq t slot);
-      fits = λ q h is. rest.fits q h (still q h is).1;
-    }
-
-    pub next_first : (h : Held A) → held_at index e.id ≡ Some h → by_due (timers_of index) ≡ timer_of e.id h ∷ by_due (timers_of index1)
-    next_first h is =
-        let k = next_leaver in
-        let entry : entry_of e.id h ≡ e = ap (entry_of e.id) (same_Some _ _ (sym is ∙ k.1)) ∙ k.3 in
-        let q : Timer A → Bool = λ t. not (t.id == e.id) in
-        let only : (n : ℕ) (w : Timer A) → find nat_cmp n (numbered index) ≡ Some w → w.id ≡ e.id → n ≡ h.order = λ n w f d.
-        let m = found_held index n w rest.apart f in
-        sym (ap (λ (r : ℕ × Timer A). r.0) m.2) ∙ ap (λ (x : Held A). x.order) (same_Some _ _ (sym m.1 ∙ ap (held_at index) d ∙ is)) in
-        let key : key_of (slice_index_or slots slot []) ≡ key_of_entry e = ap key_of list ∙ ap key_of_last (slice_get-push_end ys e (length (ys ++ e ∷ []) - 1) (omega (arith, length_push ys e))) in
-        let key' : key_of_entry (entry_of e.id h) ≡ key_of_entry e = ap key_of_entry entry in
-        let first : (n : ℕ) (w : Timer A) → find nat_cmp n (numbered index) ≡ Some w → (h.due ≤ w.due) × (h.due ≡ w.due → h.order ≤ n) = λ n w f.
-        let m = found_held index n w rest.apart f in
-        let due : m.0.due ≡ w.due = ap (λ (r : ℕ × Timer A). r.1.due) m.2 in
-        let order : m.0.order ≡ n = ap (λ (r : ℕ × Timer A). r.0) m.2 in
-        let le : h.due * 18446744073709551616 + h.order ≤ m.0.due * 18446744073709551616 + m.0.order = omega (arith, held_key w.id m.0 m.1, key, key') in
-        let low = rest.fits e.id h is in
-        let high = rest.fits w.id m.0 m.1 in
-        (omega (arith, le, low.1, high.1, due), λ same. omega (arith, le, due, order, same)) in
-        let drop : timers_of index1 ≡ without e.id (timers_of index) = timers_drop index index1 e.id rest.apart apart1 gone_rank in
-        first_due q (numbered index) h.order (timer_of e.id h) (numbered_sorted index) (held_found index e.id h rest.apart is) (not_itself e.id)
-        (λ n w f ne. not_equal w.id e.id (λ d. ne (only n w f d))) first
-        ∙ ap (λ (ts : List (Timer A)). timer_of e.id h ∷ by_due ts) (sym drop)
       where
-        not_itself : (a : ℕ) → not (a == a) ≡ false
-        not_itself a = grind (arith, common_steps)
+        at_default : (xs : List (Option (Entry A))) (k : ℕ) (x : Option (Entry A)) → k < length xs → get_or xs k None ≡ x → get_or xs k x ≡ x
+        at_default xs k x low is = get_or_default xs k x None low ∙ is
 
-        not_equal : (a b : ℕ) → a ≢ b → not (a == b) ≡ true
-        not_equal a b d = grind (arith, common_steps)
+    pub rested_seen : rest_seen sorted ≡ by_due (timers_of index)
+    rested_seen =
+        rest_order (entries_back sorted) (numbered index) (numbered_sorted index)
+        (λ e c.
+        let h = lane_held e (back_from sorted e c) in
+        let found = held_found index e.id h.0 unique h.1 in
+        subst (λ n. find nat_cmp n (numbered index) ≡ Some (timer_of_entry e)) (ap (λ (x : Entry A). x.order) h.2)
+        (found ∙ ap (λ (x : Entry A). Some (timer_of_entry x)) h.2))
+        (λ k t f.
+        let m = found_held index k t unique f in
+        (entry_seen (t.id, m.0), back_into sorted (entry_seen (t.id, m.0)) (held_lane t.id m.0 m.1), ap (λ (r : ℕ × Timer A). r.0) m.2, ap (λ (r : ℕ × Timer A). r.1) m.2))
+        (λ k l t u f g id.
+        let m = found_held index k t unique f in
+        let n = found_held index l u unique g in
+        let one : m.0 ≡ n.0 = same_Some m.0 n.0 (sym m.1 ∙ ap (held_at index) id ∙ n.1) in
+        sym (ap (λ (r : ℕ × Timer A). r.0) m.2) ∙ ap (λ (h : Held A). h.order) one ∙ ap (λ (r : ℕ × Timer A). r.0) n.2)
+        (λ q. let most = count_ids index q unique.unique in omega (arith, sum_index (is_id q), most))
+        (ascends_back sorted rises (λ e c. (lane_fits e c).0))
+        (λ e c. (lane_fits e (back_from sorted e c)).1)
 
--- as the code reads an empty slot
-pub read_empty : (slots : List (List Entry)) (slot : ℕ) (read ys : List Entry) (r : Option Entry) → slot < 1024 → length slots ≡ 1024
-    → slice_index_or slots slot read ≡ ys ++ option_to_list r → (IsNone r → slice_index_or slots slot read ≡ []) → r ≡ None
-    → (slice_index_or slots slot [] ≡ []) × (set slots slot ys ≡ slots)
-read_empty slots slot read ys r within room split none is =
-    let empty : slice_index_or slots slot read ≡ [] = none (subst (λ (o : Option Entry). IsNone o) (sym is) refl) in
-    let at : slice_index_or slots slot [] ≡ [] = sym (get_or_default slots slot read [] (omega (arith, within, room))) ∙ empty in
-    let ys_empty : ys ≡ [] = sym (append-nil ys) ∙ ap (λ (o : Option Entry). ys ++ option_to_list o) (sym is) ∙ sym split ∙ empty in
-    (at, ap (λ (zs : List Entry). set slots slot zs) (ys_empty ∙ sym at) ∙ set-get_or slots slot [])
+  -- as the code hands them on
+  pub rested_back : (index : Index A) (ls lent sorted back : List (Option (Entry A))) (left : ℕ) → AreApart index → Fit index → flat_map option_to_list ls ≡ map entry_seen index → lent ≡ ls
+      → IsPermutation lent sorted → IsNonDecreasingBy key_of sorted → back ≡ sorted → left ≡ length index
+      → IsResting left back × (rest_seen back ≡ by_due (timers_of index))
+  rested_back index ls lent sorted back left apart fits all_is lent_is same rises back_is left_is =
+      let same' : IsPermutation ls sorted = subst (λ (xs : List (Option (Entry A))). IsPermutation xs sorted) lent_is same in (
+        subst (λ (xs : List (Option (Entry A))). IsResting left xs) (sym back_is) (rested_kept index ls sorted apart fits all_is same' rises left left_is),
+        ap rest_seen back_is ∙ rested_seen index ls sorted apart fits all_is same' rises,
+      )
 
-module _ {A : Type 0} where
-  pub rest_length : (index : Index A) (v : List (Timer A)) → AreApart index → by_due (timers_of index) ≡ v → hash_map_len index ≡ length v
-  rest_length index v apart seen = sym (length-timers_of index apart) ∙ sym (length-by_due (timers_of index)) ∙ ap (λ (ts : List (Timer A)). length ts) seen
+  pub given_back : (ws xs : List (Option (Entry A))) (n : ℕ) → length ws ≡ n → take n (ws ++ drop (length ws) xs) ≡ ws
+  given_back ws xs n size = take_at ws (drop (length ws) xs) n size
 
-  pub rested_back : (n : ℕ) (ws xs : List (List Entry)) (index : Index A) → length ws ≡ n → IsResting ws index → IsResting (take n (ws ++ drop (length ws) xs)) index
-  rested_back n ws xs index size resting = subst (λ (zs : List (List Entry)). IsResting zs index) (sym (given_back ws xs n size)) resting
-
-  pub kept_fits : (tick next : ℕ) (slots : List (List Entry)) (index : Index A) → IsKept tick next slots index → next < 2 ^ 64 → Fit index
-  kept_fits tick next slots index kept fits id h is =
-      (due_bound tick h.due h.slot (kept.ahead id h is) kept.now, omega (arith, kept.below id h is, fits))
+  pub kept_fits : (tick next : ℕ) (index : Index A) → IsKept tick next index → Fit index
+  kept_fits tick next index kept id h is =
+      (due_bound tick h.due h.slot (kept.ahead id h is) kept.now, (let last = kept.last in omega (arith, kept.below id h is, last)))
     where
       due_bound : (now due slot : ℕ) → IsAhead now due slot → now ≤ 2 ^ 63 → due < 18446744073709551615
       due_bound now due slot ahead low = grind (arith, ahead.finest, ahead.second, ahead.third, ahead.coarsest, ahead.within)

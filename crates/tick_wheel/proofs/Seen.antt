@@ -1,30 +1,29 @@
 -- From what the index holds to the list that contracts see.
-use Rattle.std.proofs.Common.{◌≡◌, ◌≢◌, ℕ, ◌+◌, ◌^◌, ◌<◌, ◌≤◌, ◌==◌, Bool, cond, nat_eq, List, [], ◌∷◌, ◌++◌, length, map, Option, Some, None, option_map, is_some, refl, sym, ap, ◌∙◌, subst, arith}
-use Rattle.std.specs.HashMap.{hash_map_len}
+use Rattle.std.proofs.Common.{◌≡◌, ◌≢◌, ℕ, ◌+◌, ◌^◌, ◌<◌, ◌≤◌, ◌==◌, Bool, true, cond, nat_eq, List, [], ◌∷◌, ◌++◌, length, Option, Some, None, Result, Ok, Err, option_map, is_some, refl, sym, ap, ◌∙◌, subst, arith}
 use Rattle.std.specs.List.{IsDistinct}
+use Rattle.std.specs.Result.{OnErr}
 use Rattle.std.specs.Map.{keys_of, lookup}
+use Rattle.std.proofs.lemmas.Grind.{common_steps}
 use Rattle.std.proofs.lemmas.List.{length-map, nil_from_length}
 use Rattle.std.proofs.lemmas.List.Sums.{length-filter}
 use Rattle.std.proofs.lemmas.Option.{none-some}
-use Rattle.tick_wheel.specs.declared.slot.Entry.{Entry}
-use Rattle.tick_wheel.specs.declared.table.Held.{Held}
+use Rattle.timer_lanes.specs.Lanes.{Held}
 use Rattle.tick_wheel.specs.declared.timer.Timer.{Timer}
-use Rattle.tick_wheel.specs.InOrder.{in_order}
 use Rattle.tick_wheel.specs.Firing.{IsPartOf}
 use Rattle.tick_wheel.specs.Kept.{timers_of, IsKept}
 use Rattle.tick_wheel.specs.Place.{IsAhead, slot_for}
 use Rattle.tick_wheel.specs.Steps.{count_due, turning_bound, tick_bound}
-use Rattle.tick_wheel.specs.Table.{Index, IsLinked, AreApart, AreAhead, held_at, rank_of, timer_of}
+use Rattle.tick_wheel.specs.Table.{Index, AreApart, AreAhead, held_at, ranked_at, timer_of}
 use Rattle.tick_wheel.specs.TimerList.{TimerList, timer_at, without, cancelled, scheduled, due_at, due_later, items_of, Ticks}
 use Rattle.tick_wheel.proofs.Counting.{length-timers_of}
 use Rattle.tick_wheel.proofs.Places.{ahead_from_delay}
-use Rattle.tick_wheel.proofs.Views.{timers_push, timer_at-timers_of}
+use Rattle.tick_wheel.proofs.Views.{timers_push, timers_same, timer_at-timers_of}
 
 module _ {A : Type 0} where
   abbrev pub seen_of : ℕ → Index A → TimerList A
   seen_of tick index = record { tick = tick; timers = timers_of index }
 
-  pub seen_length : (tick : ℕ) (index : Index A) (v : TimerList A) → AreApart index → seen_of tick index ≡ v → hash_map_len index ≡ length v.timers
+  pub seen_length : (tick : ℕ) (index : Index A) (v : TimerList A) → AreApart index → seen_of tick index ≡ v → length index ≡ length v.timers
   seen_length tick index v apart seen = sym (length-timers_of index apart) ∙ ap (λ (w : TimerList A). length w.timers) seen
 
   pub seen_timer : (tick : ℕ) (index : Index A) (v : TimerList A) (id : ℕ) → AreApart index → seen_of tick index ≡ v
@@ -48,48 +47,29 @@ module _ {A : Type 0} where
       unmapped None e = refl
       unmapped (Some h) e = absurd (none-some _ (sym e))
 
-  pub seen_empty : (tick : ℕ) (index : Index A) (v : TimerList A) → AreApart index → seen_of tick index ≡ v → v.timers ≡ [] → index.entries ≡ []
+  pub seen_empty : (tick : ℕ) (index : Index A) (v : TimerList A) → AreApart index → seen_of tick index ≡ v → v.timers ≡ [] → index ≡ []
   seen_empty tick index v apart seen empty =
-      nil_from_length index.entries (seen_length tick index v apart seen ∙ ap (λ (ts : List (Timer A)). length ts) empty)
+      nil_from_length index (seen_length tick index v apart seen ∙ ap (λ (ts : List (Timer A)). length ts) empty)
 
   pub seen_cancel : (tick : ℕ) (index index' : Index A) (v : TimerList A) (id : ℕ) → seen_of tick index ≡ v
       → timers_of index' ≡ without id (timers_of index) → seen_of tick index' ≡ cancelled v id
   seen_cancel tick index index' v id seen drop = (λ i. record { tick = tick; timers = drop i }) ∙ ap (λ (w : TimerList A). cancelled w id) seen
 
-  pub seen_schedule : (tick next : ℕ) (slots : List (List Entry)) (index index' : Index A) (v : TimerList A) (delay id : ℕ) (h : Held A)
-      → IsKept tick next slots index → AreApart index' → seen_of tick index ≡ v → timer_at id v.timers ≡ None
+  pub seen_schedule : (tick next : ℕ) (index index' : Index A) (v : TimerList A) (delay id : ℕ) (h : Held A)
+      → IsKept tick next index → AreApart index' → seen_of tick index ≡ v → timer_at id v.timers ≡ None
       → h.order ≡ next → h.due ≡ tick + delay
       → ((q : ℕ) → held_at index' q ≡ cond (nat_eq id q) (Some h) (held_at index q))
       → seen_of tick index' ≡ scheduled v delay id h.item
-  seen_schedule tick next slots index index' v delay id h kept apart seen free order due updates =
+  seen_schedule tick next index index' v delay id h kept apart seen free order due updates =
       let pushed = timers_push index index' next id h kept.apart apart kept.below (seen_free tick index v id kept.apart seen free) order updates in
       (λ i. record { tick = tick; timers = pushed i })
       ∙ (λ i. record { tick = tick; timers = timers_of index ++ record { due = due i; id = id; item = h.item } ∷ [] })
       ∙ ap (λ (w : TimerList A). scheduled w delay id h.item) seen
 
-  -- the same entries keep the same
-  pub kept_unchanged : (tick next : ℕ) (slots slots' : List (List Entry)) (index index' : Index A) → IsKept tick next slots index
-      → length slots' ≡ 1024 → IsLinked slots' index' → index'.entries ≡ index.entries → IsKept tick next slots' index'
-  kept_unchanged tick next slots slots' index index' kept room linked same =
-      let held : (q : ℕ) → held_at index' q ≡ held_at index q = λ q. ap (λ (es : List (ℕ × Held A)). lookup (nat_eq q) es) same in
-      record {
-        now = kept.now;
-        last = kept.last;
-        room = room;
-        linked = linked;
-        apart = record {
-          unique = subst (λ (es : List (ℕ × Held A)). IsDistinct nat_eq (keys_of es)) (sym same) kept.apart.unique;
-          once = λ a b x y is also. kept.apart.once a b x y (sym (held a) ∙ is) (sym (held b) ∙ also);
-        };
-        below = λ q h is. kept.below q h (sym (held q) ∙ is);
-        ahead = λ q h is. kept.ahead q h (sym (held q) ∙ is);
-      }
-
-  pub seen_unchanged : (tick : ℕ) (index index' : Index A) (v : TimerList A) → seen_of tick index ≡ v → index'.entries ≡ index.entries → seen_of tick index' ≡ v
-  seen_unchanged tick index index' v seen same = (λ i. record { tick = tick; timers = values_at (same i) }) ∙ seen
-    where
-      values_at : List (ℕ × Held A) → List (Timer A)
-      values_at es = map (λ (r : ℕ × Timer A). r.1) (in_order (map (λ (e : ℕ × Held A). rank_of e.0 e.1) es))
+  -- the same ranks are seen as the same
+  pub seen_settled : (tick : ℕ) (index index' : Index A) (v : TimerList A) → AreApart index → AreApart index' → ((q : ℕ) → ranked_at index' q ≡ ranked_at index q)
+      → seen_of tick index ≡ v → seen_of tick index' ≡ v
+  seen_settled tick index index' v apart apart' same seen = (λ i. record { tick = tick; timers = timers_same index index' apart apart' same i }) ∙ seen
 
   -- a tick's steps
   pub seen_bound : (tick : ℕ) (index : Index A) (v : TimerList A) (n m : ℕ) → seen_of tick index ≡ v
@@ -112,14 +92,11 @@ module _ {A : Type 0} where
         rest = rest ∙ ap (λ (xs : List (Timer A)). due_later (tick + 1) xs) ts;
       }
 
-  pub kept_fired : (tick next : ℕ) (slots slots' : List (List Entry)) (index index' : Index A) → tick < 2 ^ 63 → IsKept tick next slots index
-      → length slots' ≡ 1024 → IsLinked slots' index' → AreApart index' → AreAhead (tick + 1) index' → IsPartOf index' index
-      → IsKept (tick + 1) next slots' index'
-  kept_fired tick next slots slots' index index' low kept room linked apart ahead part = record {
+  pub kept_fired : (tick next : ℕ) (index index' : Index A) → tick < 2 ^ 63 → IsKept tick next index → AreApart index' → AreAhead (tick + 1) index' → IsPartOf index' index
+      → IsKept (tick + 1) next index'
+  kept_fired tick next index index' low kept apart ahead part = record {
     now = omega (arith, low);
     last = kept.last;
-    room = room;
-    linked = linked;
     apart = apart;
     below = λ q h is. kept.below q h (part q h is);
     ahead = ahead;
@@ -146,15 +123,26 @@ module _ {A : Type 0} where
       let n : length fired ≡ count_due tick ts = count_fired tick ms fired is ∙ ap (λ (xs : List (Timer A)). count_due tick xs) same in
       omega (arith, turned, all, n)
 
-  pub kept_empty : (tick next : ℕ) (slots slots' : List (List Entry)) (index index' : Index A) → IsKept tick next slots index
-      → length slots' ≡ 1024 → IsLinked slots' index' → index'.entries ≡ [] → IsKept tick next slots' index'
-  kept_empty tick next slots slots' index index' kept room linked empty =
+  pub kept_new : (start : ℕ) (index : Index A) → start ≤ 2 ^ 62 → index ≡ [] → IsKept start 0 index
+  kept_new start index low empty =
+      let none : (q : ℕ) (h : Held A) → held_at index q ≡ Some h → ⊥ = λ q h is. none-some h (sym (ap (λ (es : List (ℕ × Held A)). lookup (nat_eq q) es) empty) ∙ is) in
+      record {
+        now = omega (arith, low);
+        last = omega arith;
+        apart = record {
+          unique = subst (λ (es : List (ℕ × Held A)). IsDistinct nat_eq (keys_of es)) (sym empty) none_distinct;
+          once = λ a b x y is also. absurd (none a x is);
+        };
+        below = λ q h is. absurd (none q h is);
+        ahead = λ q h is. absurd (none q h is);
+      }
+
+  pub kept_empty : (tick next : ℕ) (index index' : Index A) → IsKept tick next index → index' ≡ [] → IsKept tick next index'
+  kept_empty tick next index index' kept empty =
       let none : (q : ℕ) (h : Held A) → held_at index' q ≡ Some h → ⊥ = λ q h is. none-some h (sym (ap (λ (es : List (ℕ × Held A)). lookup (nat_eq q) es) empty) ∙ is) in
       record {
         now = kept.now;
         last = kept.last;
-        room = room;
-        linked = linked;
         apart = record {
           unique = subst (λ (es : List (ℕ × Held A)). IsDistinct nat_eq (keys_of es)) (sym empty) none_distinct;
           once = λ a b x y is also. absurd (none a x is);
@@ -165,3 +153,14 @@ module _ {A : Type 0} where
 
 pub next_fits : (next : ℕ) → next < 2 ^ 64 → next ≢ 18446744073709551615 → next + 1 < 2 ^ 64
 next_fits next low ne = omega (arith, low, ne)
+
+pub is_zero : (n : ℕ) → nat_eq n 0 ≡ true → n ≡ 0
+is_zero n t = grind (arith, common_steps)
+
+pub zero_is : (n : ℕ) → n ≡ 0 → nat_eq n 0 ≡ true
+zero_is n e = grind (arith, common_steps)
+
+-- what is said of an error
+pub on_err : {X E : Type 0} (r : Result X E) (P : Type 0) → P → OnErr r P
+on_err (Ok x) P p = tt
+on_err (Err e) P p = p

@@ -2,9 +2,9 @@
 use Rattle.std.proofs.Common.{◌≡◌, ◌≢◌, ℕ, ◌+◌, ◌<◌, ◌≤◌, ◌==◌, Bool, true, false, cond, nat_eq, List, [], ◌∷◌, ◌++◌, length, map, get_or, Option, Some, None, option_map, IsSome, refl, sym, ap, ◌∙◌, subst, arith, ⊎_elim}
 use Rattle.std.specs.Cmp.{nat_eq_equiv}
 use Rattle.std.specs.FinMap.Entries.{find}
-use Rattle.std.specs.HashMap.{keys}
 use Rattle.std.specs.List.{IsDistinct}
 use Rattle.std.specs.List.Sorted.{IsPermutation, IsNonDecreasing}
+use Rattle.std.specs.Map.{keys_of}
 use Rattle.std.specs.Ordering.{nat_cmp}
 use Rattle.std.proofs.lemmas.Bool.{cases_eq}
 use Rattle.std.proofs.lemmas.Grind.{common_steps}
@@ -13,9 +13,9 @@ use Rattle.std.proofs.lemmas.List.Elements.{Contains-get_or}
 use Rattle.std.proofs.lemmas.List.Sorted.{Contains-permutation, IsPermutation-sym}
 use Rattle.std.proofs.lemmas.Map.Keys.{IsDistinct-IsPermutation, IsStrictlyIncreasing-from_distinct, sorted_from_strictly_increasing, below_from_sorted}
 use Rattle.std.proofs.lemmas.Map.Made.{nil_from_lookup}
-use Rattle.std.proofs.lemmas.Map.Views.{hash_map_contains_key_iff, exact_unsigned_eq}
+use Rattle.std.proofs.lemmas.Map.Views.{Contains-keys_from_lookup, IsSome-lookup_from_Contains}
 use Rattle.std.proofs.lemmas.Option.{none-some, same_Some}
-use Rattle.tick_wheel.specs.declared.table.Held.{Held}
+use Rattle.timer_lanes.specs.Lanes.{Held}
 use Rattle.tick_wheel.specs.declared.timer.Timer.{Timer}
 use Rattle.tick_wheel.specs.InOrder.{in_order}
 use Rattle.tick_wheel.specs.Kept.{timers_of}
@@ -114,19 +114,22 @@ module _ {A : Type 0} where
       next n low ne = omega (arith, low, ne)
 
   -- the ids of a map, in order
-  pub listed_all : (ids : List ℕ) (index : Index A) → AreApart index → IsPermutation (keys index) ids → IsNonDecreasing ids → IsListed ids 0 index
+  pub listed_all : (ids : List ℕ) (index : Index A) → AreApart index → IsPermutation (keys_of index) ids → IsNonDecreasing ids → IsListed ids 0 index
   listed_all ids index apart same rises =
-      let distinct : IsDistinct nat_eq ids = IsDistinct-IsPermutation nat_eq flips (keys index) ids same apart.unique in
+      let distinct : IsDistinct nat_eq ids = IsDistinct-IsPermutation nat_eq flips (keys_of index) ids same apart.unique in
       let strict = sorted_from_strictly_increasing ids (IsStrictlyIncreasing-from_distinct ids rises distinct) in
       record {
         rises = λ i j low high. below_from_sorted ids i j 0 strict low high;
-        each = λ i low high. held_there (held_at index (get_or ids i 0)) ((hash_map_contains_key_iff nat_eq_equiv exact_unsigned_eq index (get_or ids i 0)).1
-            (Contains-permutation ids (keys index) (get_or ids i 0) (IsPermutation-sym (keys index) ids same) (Contains-get_or ids i 0 high)));
+        each = λ i low high. held_there (held_at index (get_or ids i 0)) (IsSome-lookup_from_Contains nat_eq_equiv (get_or ids i 0) index
+            (Contains-permutation ids (keys_of index) (get_or ids i 0) (IsPermutation-sym (keys_of index) ids same) (Contains-get_or ids i 0 high)));
         all = λ id h is.
-            let c = Contains-permutation (keys index) ids id same ((hash_map_contains_key_iff nat_eq_equiv exact_unsigned_eq index id).0 (subst (λ (o : Option (Held A)). IsSome o) (sym is) refl)) in
+            let c = Contains-permutation (keys_of index) ids id same (Contains-keys_from_lookup equal_keys id index (subst (λ (o : Option (Held A)). IsSome o) (sym is) refl)) in
             (c.0, omega arith, c.1, placed ids c.0 id c.1 c.2);
       }
     where
+      equal_keys : (a b : ℕ) → nat_eq a b ≡ true → a ≡ b
+      equal_keys a b t = grind (arith, common_steps)
+
       flips : (a b : ℕ) → nat_eq a b ≡ nat_eq b a
       flips a b = grind (arith, common_steps)
 
@@ -141,8 +144,8 @@ module _ {A : Type 0} where
       placed xs k x low e = get_or_default xs k 0 x low ∙ e
 
   -- at the end nothing is held
-  pub swept : (ids : List ℕ) (place : ℕ) (index : Index A) → IsListed ids place index → length ids ≤ place → index.entries ≡ []
-  swept ids place index listed over = nil_from_lookup nat_eq_equiv index.entries (λ q. none (held_at index q) (λ h is. let f = listed.all q h is in omega (arith, f.1, f.2, over)))
+  pub swept : (ids : List ℕ) (place : ℕ) (index : Index A) → IsListed ids place index → length ids ≤ place → index ≡ []
+  swept ids place index listed over = nil_from_lookup nat_eq_equiv index (λ q. none (held_at index q) (λ h is. let f = listed.all q h is in omega (arith, f.1, f.2, over)))
     where
       none : (o : Option (Held A)) → ((h : Held A) → o ≡ Some h → ⊥) → o ≡ None
       none None f = refl
@@ -163,7 +166,7 @@ module _ {A : Type 0} where
   pub behind_none : (xs ys : List A) → ys ≡ [] → xs ≡ ys ++ xs
   behind_none xs ys none = ap (λ (zs : List A). zs ++ xs) (sym none)
 
-  pub all_swept : (index0 index : Index A) (items : List A) → items_of (by_id (timers_of index0)) ≡ items ++ items_of (by_id (timers_of index)) → index.entries ≡ []
+  pub all_swept : (index0 index : Index A) (items : List A) → items_of (by_id (timers_of index0)) ≡ items ++ items_of (by_id (timers_of index)) → index ≡ []
       → items ≡ items_of (by_id (timers_of index0))
   all_swept index0 index items moved empty =
       sym (append-nil items) ∙ ap (λ (es : List (ℕ × Held A)). items ++ items_of (by_id (map (λ (r : ℕ × Timer A). r.1) (in_order (map (λ (e : ℕ × Held A). rank_of e.0 e.1) es))))) (sym empty) ∙ sym moved

@@ -1,7 +1,6 @@
 -- The list of timers that a wheel shows, against what its index has of each id.
 use Rattle.std.proofs.Common.{◌≡◌, ◌≢◌, ℕ, ◌<◌, ◌==◌, not, Bool, true, false, cond, nat_eq, T, List, [], ◌∷◌, ◌++◌, map, Option, Some, None, option_map, refl, sym, ap, ◌∙◌, subst, arith, ⊎_elim}
 use Rattle.std.specs.FinMap.Entries.{find, is_sorted}
-use Rattle.std.specs.HashMap.{IsUnique}
 use Rattle.std.specs.List.{IsDistinct, AllByRecursion, filter, find as first}
 use Rattle.std.specs.Map.{keys_of, lookup}
 use Rattle.std.specs.Ordering.{nat_cmp}
@@ -10,11 +9,10 @@ use Rattle.std.proofs.lemmas.Grind.{common_steps}
 use Rattle.std.proofs.lemmas.List.{map-append}
 use Rattle.std.proofs.lemmas.Map.Keys.{IsDistinct-head, IsDistinct-tail}
 use Rattle.std.proofs.lemmas.Option.{none-some, same_Some}
-use Rattle.tick_wheel.specs.declared.table.Held.{Held}
+use Rattle.timer_lanes.specs.Lanes.{Held}
 use Rattle.tick_wheel.specs.declared.timer.Timer.{Timer}
-use Rattle.tick_wheel.specs.InOrder.{in_order}
 use Rattle.tick_wheel.specs.Kept.{numbered, timers_of}
-use Rattle.tick_wheel.specs.Table.{Index, AreApart, AreBelow, held_at, ranked_at, rank_of, timer_of}
+use Rattle.tick_wheel.specs.Table.{Index, IsUnique, AreApart, AreBelow, held_at, ranked_at, rank_of, timer_of}
 use Rattle.tick_wheel.specs.TimerList.{timer_at, without}
 use Rattle.tick_wheel.proofs.InOrder.{values, unequal, option_ext, sorted-in_order, find-in_order, same_in_order, find_here, find_there, find_cases, find_push, sorted_push, sorted_keep, found_keep, keep_found, values_keep, first_found, found_first}
 
@@ -65,17 +63,17 @@ module _ {A : Type 0} where
       (cases_eq id e.0)
 
   pub numbered_sorted : (index : Index A) → T (is_sorted nat_cmp (numbered index))
-  numbered_sorted index = sorted-in_order (ranks index.entries)
+  numbered_sorted index = sorted-in_order (ranks index)
 
   pub found_held : (index : Index A) (k : ℕ) (t : Timer A) → AreApart index → find nat_cmp k (numbered index) ≡ Some t
       → (h : Held A) × (held_at index t.id ≡ Some h) × (rank_of t.id h ≡ (k, t))
-  found_held index k t apart is = found_looked index.entries k t apart.unique (sym (find-in_order (ranks index.entries) k) ∙ is)
+  found_held index k t apart is = found_looked index k t apart.unique (sym (find-in_order (ranks index) k) ∙ is)
 
   pub held_found : (index : Index A) (id : ℕ) (h : Held A) → AreApart index → held_at index id ≡ Some h
       → find nat_cmp h.order (numbered index) ≡ Some (timer_of id h)
   held_found index id h apart is =
-      let r = looked_found index.entries id h is in
-      let found : find nat_cmp h.order (numbered index) ≡ Some r.0 = find-in_order (ranks index.entries) h.order ∙ r.1 in
+      let r = looked_found index id h is in
+      let found : find nat_cmp h.order (numbered index) ≡ Some r.0 = find-in_order (ranks index) h.order ∙ r.1 in
       let k = found_held index h.order r.0 apart found in
       let same : r.0.id ≡ id = apart.once r.0.id id k.0 h k.1 is (ap (λ (x : ℕ × Timer A). x.0) k.2) in
       let held : k.0 ≡ h = same_Some _ _ (sym k.1 ∙ ap (held_at index) same ∙ is) in
@@ -101,8 +99,11 @@ module _ {A : Type 0} where
       ap (option_map (rank_of t.id)) h.1 ∙ ap Some h.2
 
   -- the same ranks make the same list
-  pub timers_same : (old new : Index A) → ranks new.entries ≡ ranks old.entries → timers_of new ≡ timers_of old
-  timers_same old new same = ap (λ (rs : List (ℕ × Timer A)). values (in_order rs)) same
+  pub timers_same : (old new : Index A) → AreApart old → AreApart new → ((q : ℕ) → ranked_at new q ≡ ranked_at old q) → timers_of new ≡ timers_of old
+  timers_same old new apart apart' same =
+      ap values (same_in_order _ _ (numbered_sorted new) (numbered_sorted old) (λ k. option_ext _ _
+      (λ w is. (ranked_found old w.id k w apart (sym (same w.id) ∙ found_ranked new k w apart' is)).0)
+      (λ w is. (ranked_found new w.id k w apart' (same w.id ∙ found_ranked old k w apart is)).0)))
 
   -- one timer more, which was scheduled last
   pub timers_push : (old new : Index A) (next id : ℕ) (h : Held A) → AreApart old → AreApart new → AreBelow next old → held_at old id ≡ None → h.order ≡ next
@@ -214,7 +215,7 @@ module _ {A : Type 0} where
       held_timer (Some h) id t is = (h, refl)
 
   -- apart without an id
-  pub apart_from_drop : (old new : Index A) (id : ℕ) → AreApart old → IsUnique nat_eq new
+  pub apart_from_drop : (old new : Index A) (id : ℕ) → AreApart old → IsUnique new
       → ((q : ℕ) → ranked_at new q ≡ cond (nat_eq id q) None (ranked_at old q)) → AreApart new
   apart_from_drop old new id apart unique updates = record {
     unique = unique;

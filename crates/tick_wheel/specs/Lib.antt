@@ -1,3 +1,4 @@
+pub mod Book
 pub mod Firing
 pub mod InOrder
 pub mod Kept

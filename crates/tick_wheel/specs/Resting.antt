@@ -1,34 +1,39 @@
--- The slots and the index of a wheel that has ended: in each slot the entries stand by due tick and order of scheduling, the first one last.
-use Rattle.std.specs.Prelude.{◌≡◌, ℕ, ◌+◌, ◌-◌, ◌*◌, ◌<◌, List, [], length, Option, Some, None, slice_get, slice_index_or}
-use Rattle.std.specs.List.Sorted.{IsNonDecreasingBy}
-use Rattle.tick_wheel.specs.declared.slot.Entry.{Entry}
-use Rattle.tick_wheel.specs.declared.table.Held.{Held}
-use Rattle.tick_wheel.specs.Firing.{Lists}
-use Rattle.tick_wheel.specs.Table.{Index, AreApart, held_at}
+-- What is left of a wheel that has ended: the lanes in order, what is due first last, and behind the empty ones.
+use Rattle.std.specs.Prelude.{◌≡◌, ℕ, ◌+◌, ◌-◌, ◌*◌, ◌<◌, ◌≤◌, List, [], ◌∷◌, ◌++◌, length, map, Option, Some, None, option_to_list, slice_index_or}
+use Rattle.timer_lanes.specs.declared.entry.Entry.{Entry}
+use Rattle.timer_lanes.specs.Lanes.{Held}
+use Rattle.tick_wheel.specs.declared.timer.Timer.{Timer}
+use Rattle.tick_wheel.specs.Table.{Index, held_at}
 
--- due tick and order of scheduling in one number
-abbrev pub key_of_entry : Entry → ℕ
-key_of_entry e = e.due * 18446744073709551616 + e.order
+module _ {T : Type 0} where
+  -- due tick and order of scheduling in one number
+  abbrev pub key_of_entry : Entry T → ℕ
+  key_of_entry e = e.due * 18446744073709551616 + e.order
 
-abbrev pub key_of_last : Option Entry → ℕ
-key_of_last None = 340282366920938463463374607431768211455
-key_of_last (Some e) = key_of_entry e
+  -- by which the lanes are ordered: empty ones come first, then what is due last
+  abbrev pub key_of : Option (Entry T) → ℕ
+  key_of None = 0
+  key_of (Some e) = 340282366920938463463374607431768211455 - key_of_entry e
 
--- of the entry that leaves a slot next
-abbrev pub key_of : List Entry → ℕ
-key_of entries = key_of_last (slice_get entries (length entries - 1))
+  -- the entries, from the last lane to the first
+  abbrev pub entries_back : List (Option (Entry T)) → List (Entry T)
+  entries_back [] = []
+  entries_back (lane ∷ lanes) = entries_back lanes ++ option_to_list lane
 
-abbrev pub Falls : List Entry → Type 0
-Falls = IsNonDecreasingBy (λ (e : Entry). 340282366920938463463374607431768211455 - key_of_entry e)
+  abbrev pub timer_of_entry : Entry T → Timer T
+  timer_of_entry e = record { due = e.due; id = e.id; item = e.item }
 
--- due ticks and numbers of scheduling fit their type, and due ticks don't reach its end
-abbrev pub Fit : {T : Type 0} → Index T → Type 0
-Fit {T} index = (id : ℕ) (held : Held T) → held_at index id ≡ Some held → (held.due < 18446744073709551615) × (held.order < 18446744073709551616)
+  abbrev pub rest_seen : List (Option (Entry T)) → List (Timer T)
+  rest_seen lanes = map timer_of_entry (entries_back lanes)
 
-pub record IsResting {T : Type 0} (slots : List (List Entry)) (index : Index T) : Type 0 where
-  pub room : length slots ≡ 1024
-  pub apart : AreApart index
-  pub lists : (slot : ℕ) → Lists slot (slice_index_or slots slot []) index
-  pub once : (slot i j : ℕ) (x y : Entry) → slice_get (slice_index_or slots slot []) i ≡ Some x → slice_get (slice_index_or slots slot []) j ≡ Some y → x.id ≡ y.id → i ≡ j
-  pub falls : (slot : ℕ) → Falls (slice_index_or slots slot [])
-  pub fits : Fit index
+  -- due ticks and numbers of scheduling fit their type, and due ticks don't reach its end
+  abbrev pub Fit : Index T → Type 0
+  Fit index = (id : ℕ) (held : Held T) → held_at index id ≡ Some held → (held.due < 18446744073709551615) × (held.order < 18446744073709551616)
+
+  -- no empty lane stands behind one that isn't
+  abbrev pub IsPacked : List (Option (Entry T)) → Type 0
+  IsPacked lanes = (i j : ℕ) (e : Entry T) → i ≤ j → j < length lanes → slice_index_or lanes i None ≡ Some e → slice_index_or lanes j None ≡ None → ⊥
+
+  pub record IsResting (left : ℕ) (lanes : List (Option (Entry T))) : Type 0 where
+    pub size : left ≡ length (entries_back lanes)
+    pub packed : IsPacked lanes

@@ -16,26 +16,25 @@
 //! - [`Timers::schedule`] puts a timer behind the others, [`Timers::cancel`] takes an id's timer out, and
 //!   [`Timers::tick`] takes out those that are due, in order of scheduling (`Ticks`).
 //! - A tick's steps have a bound, `tick_bound` of specs/Steps.antt: those that fire, and those that are placed anew. One step
-//!   is one entry that [`Slot::take`] takes out of a slot.
+//!   is one entry that a tick takes out of its slot.
 //! - [`Timers::into_rest`] ends a wheel, and gives what it held by due tick, without memory.
 //!
 //! Unlike Folly's wheel, this one has no clock: its user says when a tick has passed. Each timer has an id by which it is cancelled,
 //! and timers of one tick fire in order of scheduling.
 #![tactic(auto)]
 
+pub use book::Steps;
 pub use rest::TimersRest;
-pub use slot::{Entry, Slot, Steps};
 pub use timer::{ScheduleFault, Timer};
 pub use timers::Timers;
 pub use wheel::{Refuse, Wheel};
 
+mod book;
 mod cascade;
 mod fire;
 mod place;
 mod rest;
-mod slot;
 mod sweep;
-mod table;
 mod timer;
 mod timers;
 mod wheel;

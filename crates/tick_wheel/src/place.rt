@@ -2,12 +2,6 @@
 ghost use Rattle.std.specs.Prelude.{◌≡◌, ℕ, ◌+◌, ◌-◌, ◌<◌, ◌≤◌};
 ghost use Rattle.tick_wheel.specs.Place.{slot_for};
 
-/// The slots of each of the four wheels.
-pub const SLOTS: usize = 256;
-
-/// All slots.
-pub const ALL_SLOTS: usize = 1024;
-
 /// The longest delay.
 pub const MAX_DELAY: u64 = 4294967295;
 

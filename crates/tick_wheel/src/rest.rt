@@ -1,22 +1,21 @@
 //! What is left of a wheel: its timers one by one, by due tick and order of scheduling, without memory.
-ghost use Rattle.std.specs.Prelude.{◌≡◌, ℕ, ◌+◌, ◌<◌, ◌≤◌, [], ◌∷◌, length, slice_index_or, IfNone, IfSome, MatchOption};
-ghost use Rattle.std.specs.List.Sorted.{IsPermutation};
+ghost use Rattle.std.specs.Prelude.{◌≡◌};
+ghost use Rattle.std.specs.List.Sorted.{IsPermutation, IsNonDecreasingBy};
 ghost use Rattle.tick_wheel.specs.Kept.{timers_of};
-ghost use Rattle.tick_wheel.specs.Resting.{key_of, Falls, Fit, IsResting};
-ghost use Rattle.tick_wheel.specs.Table.{IsLinked, AreApart};
+ghost use Rattle.tick_wheel.specs.Resting.{key_of, Fit};
+ghost use Rattle.tick_wheel.specs.Table.{AreApart};
 ghost use Rattle.tick_wheel.specs.TimerList.{by_due};
 
-use crate::slot::Slot;
-use crate::table::Held;
+use crate::book::Book;
 use crate::timer::Timer;
-use std::collections::HashMap;
 use std::marker::Model;
+use timer_lanes::{Entry, destroy_lanes};
 
 /// The timers that a wheel held when it ended. Contracts see their list, the first one first.
 #[derive(Debug, Drop)]
 pub struct TimersRest<T> {
-    slots: Vec<Slot>,
-    index: HashMap<u64, Held<T>>,
+    lanes: Vec<Option<Entry<T>>>,
+    left: usize,
 }
 
 impl<T> Model for TimersRest<T> {
@@ -25,80 +24,43 @@ impl<T> Model for TimersRest<T> {
 
     ghost Value = { List (Timer T) };
 
-    ghost use Rattle.tick_wheel.specs.Kept.{timers_of};
-    ghost use Rattle.tick_wheel.specs.Resting.{IsResting};
-    ghost use Rattle.tick_wheel.specs.TimerList.{by_due};
+    ghost use Rattle.tick_wheel.specs.Resting.{IsResting, rest_seen};
 
-    ghost view = { λ rest. by_due (timers_of rest.index) };
+    ghost view = { λ rest. rest_seen rest.lanes.items };
 
-    ghost invariant = { λ rest. IsResting rest.slots.items rest.index };
+    ghost invariant = { λ rest. IsResting rest.left rest.lanes.items };
 }
 
-// Brings the entries of each slot into order, the one that is due last first.
-pub(crate) fn order_slots(slots: &mut [Slot])
-    ensures same { (slot : ℕ) → IsPermutation (slice_index_or slots.old slot []) (slice_index_or slots.new slot []) }
-    ensures falls { (slot : ℕ) → Falls (slice_index_or slots.new slot []) }
+// A number that orders lanes: empty ones come first, then what is due last.
+fn key<T>(lane: &Option<Entry<T>>) -> u128
+    ensures { result ≡ key_of lane.now }
 {
-    for slot in 0..slots.len() {
-        slots[slot].order_by_due();
-    }
-}
-
-// A number that orders slots by what leaves them next: an empty slot comes last.
-fn key(slot: &Slot) -> u128
-    ensures { result ≡ key_of slot.now }
-{
-    match slot.last() {
-        Some(entry) => entry.due as u128 * 18446744073709551616 + entry.order as u128,
-        None => u128::MAX,
-    }
-}
-
-// The slot from which the next entry leaves.
-fn next_slot(slots: &[Slot]) -> usize
-    requires { length slots.now ≡ 1024 }
-    ensures within { result < 1024 }
-    ensures least { (slot : ℕ) → slot < 1024 → key_of (slice_index_or slots.now result []) ≤ key_of (slice_index_or slots.now slot []) }
-{
-    let mut next = 0;
-    for slot in 1..slots.len() {
-        if key(&slots[slot]) < key(&slots[next]) {
-            next = slot;
+    match lane {
+        Some(entry) => {
+            u128::MAX - (entry.due as u128 * 18446744073709551616 + entry.order as u128)
         }
+        None => 0,
     }
-    next
 }
 
-// The timer that is due next leaves, where one is left.
-fn take_next<T>(slots: &mut [Slot], index: &mut HashMap<u64, Held<T>>) -> Option<Timer<T>>
-    requires { IsResting slots.old index.old }
-    ensures resting { IsResting slots.new index.new }
-    ensures none { IfNone result ((timers_of index.old ≡ []) × (timers_of index.new ≡ [])) }
-    ensures first { IfSome result (λ timer. by_due (timers_of index.old) ≡ timer ∷ by_due (timers_of index.new)) }
+// Brings the lanes into order, in place.
+fn order<T>(lanes: &mut [Option<Entry<T>>])
+    ensures same { IsPermutation lanes.old lanes.new }
+    ensures rises { IsNonDecreasingBy key_of lanes.new }
 {
-    let slot = next_slot(slots);
-    let entry = slots[slot].leave()?;
-    let Some(held) = index.remove(&entry.id) else {
-        unreachable!()
-    };
-    let Held { due, item, .. } = held;
-    Some(Timer {
-        due,
-        id: entry.id,
-        item,
-    })
+    lanes.sort_unstable_by_key(|lane| key(lane));
 }
 
-// The rest of a wheel with these slots.
-pub(crate) fn rest_of<T>(mut slots: Vec<Slot>, index: HashMap<u64, Held<T>>) -> TimersRest<T>
-    requires room { length slots.items ≡ 1024 }
-    requires linked { IsLinked slots.items index }
-    requires apart { AreApart index }
-    requires fits { Fit index }
-    ensures { result ≡ by_due (timers_of index) }
+// The rest of a wheel with these entries.
+pub(crate) fn rest_of<T>(book: Book<T>) -> TimersRest<T>
+    requires apart { AreApart book }
+    requires fits { Fit book }
+    ensures { result ≡ by_due (timers_of book) }
 {
-    order_slots(&mut slots);
-    TimersRest { slots, index }
+    let left = book.len();
+    let mut lanes = book.into_entries();
+    order(&mut lanes);
+    TimersRest { lanes, left }
 }
 
 impl<T> TimersRest<T> {
@@ -108,7 +70,7 @@ impl<T> TimersRest<T> {
     pub fn len(&self) -> usize
         ensures { result ≡ length self.now }
     {
-        self.index.len()
+        self.left
     }
 
     /// The timer that is due next, and was scheduled first among those: None comes exactly where none is left. It takes no
@@ -116,15 +78,17 @@ impl<T> TimersRest<T> {
     pub fn pop(&mut self) -> Option<Timer<T>>
         ensures first { MatchOption result ((self.old ≡ []) × (self.new ≡ [])) (λ timer. self.old ≡ timer ∷ self.new) }
     {
-        let timer = take_next(&mut self.slots, &mut self.index)?;
-        Some(timer)
+        let lane = self.lanes.pop()?;
+        let Entry { id, due, item, .. } = lane?;
+        self.left -= 1;
+        Some(Timer { due, id, item })
     }
 
     /// Lets the rest go where nothing is left, also where its items may not be dropped.
     pub fn destroy_empty(self)
         requires { self ≡ [] }
     {
-        let TimersRest { index, .. } = self;
-        index.destroy_empty();
+        let TimersRest { lanes, .. } = self;
+        destroy_lanes(lanes);
     }
 }

@@ -1,17 +1,16 @@
 //! Timers by their ids, in a hashed wheel.
+use crate::book::{Book, Steps};
 use crate::cascade::settle;
 use crate::fire::fire;
-use crate::place::{ALL_SLOTS, MAX_DELAY, slot_of};
+use crate::place::{MAX_DELAY, slot_of};
 use crate::rest::{TimersRest, rest_of};
-use crate::slot::{Slot, Steps};
 use crate::sweep::{list_ids, take_all};
-use crate::table::{Held, link, unlink};
 use crate::timer::{ScheduleFault, Timer};
 use fan_base::Memory;
 use std::alloc::Global;
-use std::collections::HashMap;
 use std::marker::Model;
 use std::sync::ledger::Ledger;
+use timer_lanes::Entry;
 
 /// Timers, each with an id of its own, and the number of ticks that were made. Contracts see the list of the timers in order
 /// of scheduling, and nothing of slots.
@@ -20,8 +19,7 @@ pub struct Timers<T> {
     alloc: Global,
     ticks: u64,
     next: u64,
-    slots: Vec<Slot>,
-    index: HashMap<u64, Held<T>>,
+    book: Book<T>,
 }
 
 impl<T> Model for Timers<T> {
@@ -31,9 +29,9 @@ impl<T> Model for Timers<T> {
 
     ghost use Rattle.tick_wheel.specs.Kept.{timers_of, IsKept};
 
-    ghost view = { λ wheel. record { tick = wheel.ticks; timers = timers_of wheel.index } };
+    ghost view = { λ wheel. record { tick = wheel.ticks; timers = timers_of wheel.book } };
 
-    ghost invariant = { λ wheel. IsKept wheel.ticks wheel.next wheel.slots.items wheel.index };
+    ghost invariant = { λ wheel. IsKept wheel.ticks wheel.next wheel.book };
 }
 
 impl<T> Timers<T> {
@@ -46,16 +44,11 @@ impl<T> Timers<T> {
         requires { start ≤ 2 ^ 62 }
         ensures { IfOk result (λ wheel. wheel ≡ record { tick = start; timers = [] }) }
     {
-        let mut slots = Vec::with_capacity(alloc, ALL_SLOTS)?;
-        for _ in 0..ALL_SLOTS {
-            slots.push_reserved(Slot::new(alloc));
-        }
         Ok(Timers {
             alloc,
             ticks: start,
             next: 0,
-            slots,
-            index: HashMap::new(alloc),
+            book: Book::new(alloc)?,
         })
     }
 
@@ -71,21 +64,21 @@ impl<T> Timers<T> {
     pub fn holds(&self, id: u64) -> bool
         ensures { IsTrue result ↔ IsSome (timer_at id self.now.timers) }
     {
-        self.index.contains_key(&id)
+        self.book.holds(id)
     }
 
     /// How many timers are held.
     pub fn len(&self) -> usize
         ensures { result ≡ length self.now.timers }
     {
-        self.index.len()
+        self.book.len()
     }
 
     /// Whether no timer is held.
     pub fn is_empty(&self) -> bool
         ensures { IsTrue result ↔ (self.now.timers ≡ []) }
     {
-        self.index.is_empty()
+        self.book.len() == 0
     }
 
     /// Holds a timer that is due after so many ticks, 1 to 4,294,967,295. Its id may not be held, which [`Timers::holds`] tells. A refused
@@ -110,14 +103,13 @@ impl<T> Timers<T> {
         }
         let due = self.ticks + delay;
         let slot = slot_of(due, self.ticks);
-        let held = Held {
+        let entry = Entry {
+            id,
             due,
             order: self.next,
-            slot,
-            place: self.slots[slot].len(),
             item,
         };
-        link(&mut self.slots, &mut self.index, id, held)?;
+        self.book.insert(slot, entry)?;
         self.next += 1;
         Ok(())
     }
@@ -127,7 +119,7 @@ impl<T> Timers<T> {
         ensures timer { result ≡ timer_at id self.old.timers }
         ensures rest { self.new ≡ cancelled self.old id }
     {
-        let Held { due, item, .. } = unlink(&mut self.slots, &mut self.index, id)?;
+        let Entry { due, item, .. } = self.book.remove(id)?;
         Some(Timer { due, id, item })
     }
 
@@ -143,16 +135,11 @@ impl<T> Timers<T> {
         ensures counted { IfOk result (λ items. steps.old + length items.items ≤ steps.new) }
     {
         let tick = self.ticks + 1;
-        settle(&mut self.slots, &mut self.index, self.ticks, steps)?;
+        settle(self.alloc, &mut self.book, self.ticks, steps)?;
         let slot = (tick % 256) as usize;
-        let mut fired = Vec::with_capacity(self.alloc, self.slots[slot].len())?;
-        fire(
-            &mut self.slots,
-            &mut self.index,
-            self.ticks,
-            &mut fired,
-            steps,
-        );
+        let keys = self.book.gather(self.alloc, slot)?;
+        let mut fired = Vec::with_capacity(self.alloc, keys.len())?;
+        fire(&mut self.book, &keys, self.ticks, &mut fired, steps);
         self.ticks = tick;
         Ok(fired)
     }
@@ -163,9 +150,9 @@ impl<T> Timers<T> {
         ensures gone { OnOk result (self.new ≡ record { tick = self.old.tick; timers = [] }) }
         ensures refused { OnErr result (self.new ≡ self.old) }
     {
-        let ids = list_ids(self.alloc, &self.index)?;
+        let ids = list_ids(self.alloc, &self.book)?;
         let mut items = Vec::with_capacity(self.alloc, ids.len())?;
-        take_all(&mut self.slots, &mut self.index, &ids, &mut items);
+        take_all(&mut self.book, &ids, &mut items);
         Ok(items)
     }
 
@@ -173,15 +160,15 @@ impl<T> Timers<T> {
     pub fn into_rest(self) -> TimersRest<T>
         ensures { result ≡ by_due self.timers }
     {
-        let Timers { slots, index, .. } = self;
-        rest_of(slots, index)
+        let Timers { book, .. } = self;
+        rest_of(book)
     }
 
     /// Lets a wheel go that holds nothing, also where its items may not be dropped.
     pub fn destroy_empty(self)
         requires { self.timers ≡ [] }
     {
-        let Timers { index, .. } = self;
-        index.destroy_empty();
+        let Timers { book, .. } = self;
+        book.destroy_empty();
     }
 }

@@ -1,5 +1,5 @@
 //! A wheel of ids.
-use crate::slot::Steps;
+use crate::book::Steps;
 use crate::timer::{ScheduleFault, Timer};
 use crate::timers::Timers;
 use fan_base::Memory;

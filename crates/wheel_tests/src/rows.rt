@@ -5,7 +5,7 @@ use std::alloc::Global;
 use std::marker::Brand;
 use std::sync::ledger::{Blank, Ledger};
 use std::test::Fail;
-use tick_wheel::{Refuse, ScheduleFault, Slot, Steps, Timer, Timers, Wheel};
+use tick_wheel::{Refuse, ScheduleFault, Steps, Timer, Timers, Wheel};
 
 // A call and its answer.
 #[derive(Clone, Copy, Debug)]

@@ -1,71 +1,36 @@
-use Rattle.std.proofs.Common.{arith}
-use Rattle.tick_wheel.proofs.Cascading.{turning_read, shifted, turned, known_held}
+use Rattle.std.proofs.Common.{subst, sym, arith}
+use Rattle.tick_wheel.specs.Table.{AreAhead}
+use Rattle.tick_wheel.proofs.Cascading.{turning_due, turned_ahead, turned_apart, turned_same, turned_count, one_move}
 use Rattle.tick_wheel.proofs.cascade.place_last.Goals as goal
 
-pub slot_of-to-requires : goal.slot_of-to-requires
-slot_of-to-requires g c =
-    let t = turning_read c.args.slots.now c.args.index.now c.args.first c.args.width c.args.now c.in-Some.entry c.index-slots-from.result
-    c.requires.wheel c.requires.turns c.requires.room c.requires.linked c.requires.ahead c.in-Some.ensures in
-    t.1.due.0
+pub place_one-requires-clause-due : goal.place_one-requires-clause-due
+place_one-requires-clause-due g c = turning_due c.args.book.now c.args.first c.args.width c.args.now c.requires.wheel c.requires.turns c.requires.ahead
 
-pub tell-requires : goal.tell-requires
-tell-requires g c =
-    let t = turning_read c.args.slots.now c.args.index.now c.args.first c.args.width c.args.now c.in-Some.entry c.index-slots-from.result
-    c.requires.wheel c.requires.turns c.requires.room c.requires.linked c.requires.ahead c.in-Some.ensures in
-    known_held c.args.slots.now c.args.index.now c.args.first c.args.width c.args.now c.in-Some.entry t.1
+pub returns-in_err-more-clause-ahead : goal.returns-in_err-more-clause-ahead
+returns-in_err-more-clause-ahead g c = subst (λ book. AreAhead c.args.now book) (sym c.in_err-more.ensures.refused) c.requires.ahead
 
-pub returns-clause-linked : goal.returns-clause-linked
-returns-clause-linked g c =
-    let t = turning_read c.args.slots.now c.args.index.now c.args.first c.args.width c.args.now c.in-Some.entry c.index-slots-from.result
-    c.requires.wheel c.requires.turns c.requires.room c.requires.linked c.requires.ahead c.in-Some.ensures in
-    let s = shifted c.args.slots.now c.args.index.now c.args.first c.args.width c.args.now c.in-Some.entry c.tell.new.index c.slot_of-to.result
-    c.len-place.result c.index-slots-from-2.result c.index-slots-to.result c.index-slots-to-2.result c.put.new.self c.take.new.self c.take.result
-    c.requires.wheel c.requires.room c.requires.linked t c.slot_of-to.ensures.at c.in_ok-put.ensures.ok c.len-place.ensures c.take.ensures.last
-    c.take.ensures.none.0 c.tell.ensures in
-    s.linked
+pub returns-then-more-clause-apart : goal.returns-then-more-clause-apart
+returns-then-more-clause-apart g c =
+    turned_apart c.args.book.now c.place_one.new.self c.args.first c.args.width c.args.now c.requires.wheel c.requires.turns c.requires.ahead (c.in_ok-more.ensures.some c.if-more.true) c.requires.apart
 
-pub returns-clause-apart : goal.returns-clause-apart
-returns-clause-apart g c =
-    let t = turning_read c.args.slots.now c.args.index.now c.args.first c.args.width c.args.now c.in-Some.entry c.index-slots-from.result
-    c.requires.wheel c.requires.turns c.requires.room c.requires.linked c.requires.ahead c.in-Some.ensures in
-    let u = turned c.args.slots.now c.args.index.now c.args.first c.args.width c.args.now c.in-Some.entry c.tell.new.index c.slot_of-to.result
-    c.len-place.result c.requires.wheel c.requires.apart c.requires.ahead t.1 c.slot_of-to.ensures.at c.tell.ensures in
-    u.apart
+pub returns-then-more-clause-ahead : goal.returns-then-more-clause-ahead
+returns-then-more-clause-ahead g c =
+    turned_ahead c.args.book.now c.place_one.new.self c.args.first c.args.width c.args.now c.requires.wheel c.requires.turns c.requires.ahead (c.in_ok-more.ensures.some c.if-more.true)
+
+pub returns-then-more-clause-same : goal.returns-then-more-clause-same
+returns-then-more-clause-same g c =
+    turned_same c.args.book.now c.place_one.new.self c.args.first c.args.width c.args.now c.requires.wheel c.requires.turns c.requires.ahead (c.in_ok-more.ensures.some c.if-more.true)
+
+pub returns-then-more-clause-one : goal.returns-then-more-clause-one
+returns-then-more-clause-one g c = λ _.
+    turned_count c.args.book.now c.place_one.new.self c.args.first c.args.width c.args.now c.requires.wheel c.requires.turns c.requires.ahead (c.in_ok-more.ensures.some c.if-more.true)
+
+pub returns-then-more-clause-steps : goal.returns-then-more-clause-steps
+returns-then-more-clause-steps g c =
+    let steps = c.place_one.ensures.steps in
+    let one = one_move c.place_one.result c.in_ok-more.more c.in_ok-more.was c.if-more.true in
+    let count = turned_count c.args.book.now c.place_one.new.self c.args.first c.args.width c.args.now c.requires.wheel c.requires.turns c.requires.ahead (c.in_ok-more.ensures.some c.if-more.true) in
+    omega (arith, steps, one, count)
 
 pub returns-clause-ahead : goal.returns-clause-ahead
-returns-clause-ahead g c =
-    let t = turning_read c.args.slots.now c.args.index.now c.args.first c.args.width c.args.now c.in-Some.entry c.index-slots-from.result
-    c.requires.wheel c.requires.turns c.requires.room c.requires.linked c.requires.ahead c.in-Some.ensures in
-    let u = turned c.args.slots.now c.args.index.now c.args.first c.args.width c.args.now c.in-Some.entry c.tell.new.index c.slot_of-to.result
-    c.len-place.result c.requires.wheel c.requires.apart c.requires.ahead t.1 c.slot_of-to.ensures.at c.tell.ensures in
-    u.ahead
-
-pub returns-clause-same : goal.returns-clause-same
-returns-clause-same g c =
-    let t = turning_read c.args.slots.now c.args.index.now c.args.first c.args.width c.args.now c.in-Some.entry c.index-slots-from.result
-    c.requires.wheel c.requires.turns c.requires.room c.requires.linked c.requires.ahead c.in-Some.ensures in
-    let u = turned c.args.slots.now c.args.index.now c.args.first c.args.width c.args.now c.in-Some.entry c.tell.new.index c.slot_of-to.result
-    c.len-place.result c.requires.wheel c.requires.apart c.requires.ahead t.1 c.slot_of-to.ensures.at c.tell.ensures in
-    u.same
-
-pub returns-clause-one : goal.returns-clause-one
-returns-clause-one g c =
-    let t = turning_read c.args.slots.now c.args.index.now c.args.first c.args.width c.args.now c.in-Some.entry c.index-slots-from.result
-    c.requires.wheel c.requires.turns c.requires.room c.requires.linked c.requires.ahead c.in-Some.ensures in
-    let s = shifted c.args.slots.now c.args.index.now c.args.first c.args.width c.args.now c.in-Some.entry c.tell.new.index c.slot_of-to.result
-    c.len-place.result c.index-slots-from-2.result c.index-slots-to.result c.index-slots-to-2.result c.put.new.self c.take.new.self c.take.result
-    c.requires.wheel c.requires.room c.requires.linked t c.slot_of-to.ensures.at c.in_ok-put.ensures.ok c.len-place.ensures c.take.ensures.last
-    c.take.ensures.none.0 c.tell.ensures in
-    s.one
-
-pub returns-clause-steps : goal.returns-clause-steps
-returns-clause-steps g c =
-    let t = turning_read c.args.slots.now c.args.index.now c.args.first c.args.width c.args.now c.in-Some.entry c.index-slots-from.result
-    c.requires.wheel c.requires.turns c.requires.room c.requires.linked c.requires.ahead c.in-Some.ensures in
-    let s = shifted c.args.slots.now c.args.index.now c.args.first c.args.width c.args.now c.in-Some.entry c.tell.new.index c.slot_of-to.result
-    c.len-place.result c.index-slots-from-2.result c.index-slots-to.result c.index-slots-to-2.result c.put.new.self c.take.new.self c.take.result
-    c.requires.wheel c.requires.room c.requires.linked t c.slot_of-to.ensures.at c.in_ok-put.ensures.ok c.len-place.ensures c.take.ensures.last
-    c.take.ensures.none.0 c.tell.ensures in
-    let u = turned c.args.slots.now c.args.index.now c.args.first c.args.width c.args.now c.in-Some.entry c.tell.new.index c.slot_of-to.result
-    c.len-place.result c.requires.wheel c.requires.apart c.requires.ahead t.1 c.slot_of-to.ensures.at c.tell.ensures in
-    omega (arith, s.taken, u.count, c.take.ensures.steps)
+returns-clause-ahead g c = subst (λ book. AreAhead c.args.now book) (sym (c.in_ok-more.ensures.same c.if-more.false)) c.requires.ahead

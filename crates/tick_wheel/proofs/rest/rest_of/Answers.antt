@@ -1,12 +1,15 @@
-use Rattle.std.proofs.Common.{List, subst, sym, arith}
-use Rattle.tick_wheel.specs.declared.slot.Entry.{Entry}
-use Rattle.tick_wheel.specs.Table.{IsLinked}
-use Rattle.tick_wheel.proofs.Rested.{rested, rested_back}
+use Rattle.std.proofs.Common.{arith}
+use Rattle.tick_wheel.proofs.Rested.{rested_back, given_back}
 use Rattle.tick_wheel.proofs.rest.rest_of.Goals as goal
 
 pub invariant_of-result : goal.invariant_of-result
 invariant_of-result g c =
-    rested_back _ c.order_slots.new.slots c.args.slots.items c.args.index (omega (arith, c.order_slots.auto.slots, c.deref_mut.ensures.len))
-    (rested c.deref_mut.result.now c.order_slots.new.slots c.args.index (omega (arith, c.order_slots.auto.slots, c.deref_mut.ensures.len, c.args.slots.ok, c.requires.room))
-    (subst (λ (zs : List (List Entry)). IsLinked zs c.args.index) (sym c.deref_mut.ensures.value) c.requires.linked) c.requires.apart
-    c.requires.fits c.order_slots.ensures.same c.order_slots.ensures.falls)
+    (rested_back c.args.book c.into_entries-lanes.result.items c.deref_mut.result.now c.order.new.lanes _ _ c.requires.apart c.requires.fits c.into_entries-lanes.ensures
+    c.deref_mut.ensures.value c.order.ensures.same c.order.ensures.rises
+    (given_back c.order.new.lanes c.into_entries-lanes.result.items _ (let a = c.order.auto.lanes in let b = c.deref_mut.ensures.len in omega arith)) c.len-left.ensures).0
+
+pub returns : goal.returns
+returns g c =
+    (rested_back c.args.book c.into_entries-lanes.result.items c.deref_mut.result.now c.order.new.lanes _ _ c.requires.apart c.requires.fits c.into_entries-lanes.ensures
+    c.deref_mut.ensures.value c.order.ensures.same c.order.ensures.rises
+    (given_back c.order.new.lanes c.into_entries-lanes.result.items _ (let a = c.order.auto.lanes in let b = c.deref_mut.ensures.len in omega arith)) c.len-left.ensures).1

@@ -5,19 +5,17 @@ use Rattle.tick_wheel.proofs.sweep.take_all.Goals as goal
 
 pub loop-place-init : goal.loop-place-init
 loop-place-init g c = record {
-  room = c.requires.room;
-  linked = c.requires.linked;
   apart = c.requires.apart;
-  listed = listed_all c.args.ids.now c.args.index.now c.requires.apart c.requires.same c.requires.rises;
+  listed = listed_all c.args.ids.now c.args.book.now c.requires.apart c.requires.same c.requires.rises;
   moved = behind_none _ _ (nil_from_length _ (sym c.args.items.now.ok.0 ∙ c.requires.empty));
   len = c.requires.empty;
   spare = c.requires.spare;
 }
 
 pub returns-clause-gone : goal.returns-clause-gone
-returns-clause-gone g c = swept c.args.ids.now _ c.loop-place.index c.loop-place.invariant.listed c.loop-place-test.false
+returns-clause-gone g c = swept c.args.ids.now _ c.loop-place.book c.loop-place.invariant.listed c.loop-place-test.false
 
 pub returns-clause-items : goal.returns-clause-items
 returns-clause-items g c =
-    all_swept c.args.index.now c.loop-place.index _ c.loop-place.invariant.moved
-    (swept c.args.ids.now _ c.loop-place.index c.loop-place.invariant.listed c.loop-place-test.false)
+    all_swept c.args.book.now c.loop-place.book _ c.loop-place.invariant.moved
+    (swept c.args.ids.now _ c.loop-place.book c.loop-place.invariant.listed c.loop-place-test.false)

@@ -1,0 +1,5 @@
+pub mod Blocks
+pub mod Found
+pub mod Gathering
+pub mod Lanes
+pub mod Links
