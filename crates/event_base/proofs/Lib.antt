@@ -10,4 +10,4 @@ mod Executors
 mod SameBase
 mod Emptied
 mod Looked
-mod Messages
+pub mod Messages

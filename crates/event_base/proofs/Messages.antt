@@ -1,5 +1,5 @@
 -- A loop of messages alone: each run leaves the agenda as it was.
-use Rattle.std.proofs.Common.{◌≡◌, ℕ, Bool, true, false, List, [], ◌∷◌, ◌++◌, length, map, refl, sym, subst, ap, ◌∙◌, arith, append_assoc, append-nil}
+use Rattle.std.proofs.Common.{◌≡◌, ℕ, Bool, true, false, List, [], ◌∷◌, ◌++◌, map, refl, sym, subst, ap, ◌∙◌, arith, append_assoc, append-nil}
 use Rattle.fan_base.specs.declared.number.JobId.{JobId}
 use Rattle.fan_base.specs.declared.number.Mark.{Mark}
 use Rattle.job_trait.specs.declared.job.Head.{Head}
@@ -13,7 +13,7 @@ use Rattle.event_base.specs.Turns.{Turn, Place, LeavesAgenda, TakesBefore, Takes
 use Rattle.event_base.specs.Rounds.{Phases, TicksThrough, IsWholeRound, in_phase}
 use Rattle.event_base.specs.Looping.{RoundsThrough, IsRoundBehindLook, IsLoop, IsCutLoop, EndsFor}
 use Rattle.event_base.specs.Laws.{IsIdle, LeaveTheAgenda, RunsMessages}
-use Rattle.std.proofs.lemmas.List.{map-append}
+use Rattle.std.proofs.lemmas.List.{map-append, nil_from_length}
 
 module _ {J : Type 0} where
   -- an agenda that holds nothing, behind a loop phase that ran nothing
@@ -29,13 +29,9 @@ module _ {J : Type 0} where
       ap (λ (l : List J). record a { loops = l; later = []; in_loop = false }) none
       ∙ (ap (λ (l : List J). record a { later = l; in_loop = false }) (sym h.later) ∙ ap (λ (b : Bool). record a { in_loop = b }) (sym h.in_loop))
 
-  no_turns : (turns : List (Turn J)) → jobs_of turns ≡ [] → turns ≡ []
+  pub no_turns : (turns : List (Turn J)) → jobs_of turns ≡ [] → turns ≡ []
   no_turns [] e = refl
   no_turns (t ∷ ts) e = absurd cc
-
-none_of_length : {X : Type 0} (xs : List X) → length xs ≡ 0 → xs ≡ []
-none_of_length [] e = refl
-none_of_length (x ∷ xs) e = absurd (omega arith)
 
 module _ {W J : Type 0} (head : J → Head) (runs : JobId → Place W J → Mark → Place W J → Type 0) where
   agenda_stays : LeaveTheAgenda runs → (p q : Place W J) (turns : List (Turn J)) → TurnsThrough LeavesAgenda head runs p turns q → q.1 ≡ p.1
@@ -44,7 +40,7 @@ module _ {W J : Type 0} (head : J → Head) (runs : JobId → Place W J → Mark
       agenda_stays leave all.0 q ts all.2 ∙ (leave (head t.job).id (p.0, all.1.between) t.mark all.0 all.1.ran ∙ all.1.stepped)
 
   -- a loop phase that begins with nothing runs nothing
-  nothing_runs : (p q : Place W J) (turns : List (Turn J)) → p.1.loops ≡ [] → TurnsThrough TakesLoop head runs p turns q → p ≡ q
+  pub nothing_runs : (p q : Place W J) (turns : List (Turn J)) → p.1.loops ≡ [] → TurnsThrough TakesLoop head runs p turns q → p ≡ q
   nothing_runs p q [] none all = all
   nothing_runs p q (t ∷ ts) none all =
       let some : p.1.loops ≡ t.job ∷ all.1.between.loops = ap (λ (a : AgendaSeen J). a.loops) all.1.stepped in
@@ -66,7 +62,7 @@ module _ {W J : Type 0} (head : J → Head) (runs : JobId → Place W J → Mark
       let begin : up.after_before ≡ (w, a) = sym before ∙ ap (λ (b : AgendaSeen J). (w, b)) (settled_same a h) in
       let messages = subst (λ (u : Place W J). TurnsThrough LeavesAgenda head runs u did.messages up.after_messages) begin up.messages.ran.through in
       let ticks : TicksThrough head runs up.after_messages [] whole.after_ticks =
-      subst (λ (ts : List (List (Turn J))). TicksThrough head runs up.after_messages ts whole.after_ticks) (none_of_length did.ticks whole.each_tick) up.ticks.through in
+      subst (λ (ts : List (List (Turn J))). TicksThrough head runs up.after_messages ts whole.after_ticks) (nil_from_length did.ticks whole.each_tick) up.ticks.through in
       let agenda : up.after_messages.1 ≡ a = agenda_stays leave (w, a) up.after_messages did.messages messages in
       let later : whole.after_ticks.1 ≡ a = ap (λ (u : Place W J). u.1) (sym ticks) ∙ agenda in
       let loops : whole.after_ticks.1.loops ≡ [] = ap (λ (b : AgendaSeen J). b.loops) later ∙ h.loops in

@@ -1,5 +1,5 @@
 -- What comes at one line more.
-use Rattle.std.proofs.Common.{◌≡◌, ℕ, ◌≤◌, List, [], ◌∷◌, ◌++◌, length, Bool, true, false, ◌&&◌, ◌||◌, not, nat_lt, nat_eq, Option, Some, None, refl, sym, ap, ◌∙◌, arith, map, filter, append-nil, append_assoc}
+use Rattle.std.proofs.Common.{◌≡◌, ℕ, ◌≤◌, List, [], ◌∷◌, ◌++◌, length, Bool, true, false, ◌&&◌, ◌||◌, nat_lt, nat_eq, Option, Some, None, refl, sym, ap, ◌∙◌, arith, map, filter, append-nil, append_assoc}
 use Rattle.std.specs.Prelude.{IfSome}
 use Rattle.std.specs.List.{AllByRecursion, filter_map}
 use Rattle.std.proofs.lemmas.Bool.{eqb-true}
@@ -17,6 +17,7 @@ use Rattle.query_model.specs.Order.{Asked, Outcome, Turn, comes_before, docs_bef
 use Rattle.query_model.specs.Sorting.{sorted_by}
 use Rattle.query_model.proofs.ListLaws.{all-append, all-filter, all-implies, all-map, all-passed, heads_same, tails_same}
 use Rattle.query_model.proofs.SortedLists.{all-sorted_by, map-sorted_by, sorted-const, sorted-same}
+use Rattle.query_model.proofs.LineByLine.{adds_answered, adds_cancel, adds_delayed, adds_doc, adds_tick}
 use Rattle.fan_model.specs.Answered.{answered_in}
 use Rattle.fan_model.specs.Comings.{Coming, IsAsked, answered_at_line, answered_with, begun_by, cancelled_at_line, come_at_line, come_in, comings_of, coming_by, coming_of, due_first, left_at_line, query_of, reply_to, waits_with}
 use Rattle.fan_model.specs.Laws.{tells}
@@ -108,70 +109,59 @@ cancel_marks lines n those are =
     (all-map (λ (a : Asked). is_numbered n a ≡ true) (λ (t : Turn). mark_of_turn t ≡ (n, false)) (cancelled_at lines)
     (λ a yes. ap (λ (m : ℕ). (m, false)) (sym (eqb-true n a.number yes))) those are)))
 
--- what query_model says of one more line
-pub record LineByLine : Type 0 where
-  pub doc : (lines : List Line) (doc : Doc) → Adds lines (line.Doc doc) [] (left_in lines)
-  pub answered : (lines : List Line) (query : Query) → query.delay ≡ None → Adds lines (line.Query query) (answered_now lines query ∷ []) (left_in lines)
-  pub delayed : (lines : List Line) (query : Query) (delay : ℕ) → query.delay ≡ Some delay → 1 ≤ delay
-      → Adds lines (line.Query query) [] (left_in lines ++ next_asked lines query ∷ [])
-  pub tick : (lines : List Line) (n : ℕ)
-      → Adds lines (line.Tick n) (map (answered_at lines) (filter (is_due lines n) (left_in lines))) (filter (λ a. not (is_due lines n a)) (left_in lines))
-  pub cancel : (lines : List Line) (n : ℕ)
-      → Adds lines (line.Cancel n) (map (cancelled_at lines) (filter (is_numbered n) (left_in lines))) (filter (λ a. not (is_numbered n a)) (left_in lines))
-
 answered_line : (lines : List Line) (query : Query) → Adds lines (line.Query query) (answered_now lines query ∷ []) (left_in lines)
     → come_in (lines ++ line.Query query ∷ []) ≡ come_in lines ++ Coming.begins (next_asked lines query) ∷ []
 answered_line lines query adds =
     one_line_more lines (line.Query query) (answered_now lines query ∷ []) (left_in lines) (Coming.begins (next_asked lines query) ∷ []) adds
     (next_is_asked lines query, tt) (ap (λ (b : Bool). let l : List (ℕ × Bool) = ((next_asked lines query).number, b) ∷ [] in l) (sym (tell_all query.ask (docs_of lines))))
 
-query_line : LineByLine → (lines : List Line) (query : Query) (delay : Option ℕ) → query.delay ≡ delay → IfSome delay (λ d. (1 ≤ d) × (d ≤ 4294967295))
+query_line : (lines : List Line) (query : Query) (delay : Option ℕ) → query.delay ≡ delay → IfSome delay (λ d. (1 ≤ d) × (d ≤ 4294967295))
     → come_in (lines ++ line.Query query ∷ []) ≡ come_in lines ++ (map Coming.begins (answered_with lines query delay) ++ [])
-query_line laws lines query None is range = answered_line lines query (laws.answered lines query is)
-query_line laws lines query (Some delay) is range = none_more lines (line.Query query) _ (laws.delayed lines query delay is range.0)
+query_line lines query None is range = answered_line lines query (adds_answered lines query is)
+query_line lines query (Some delay) is range = none_more lines (line.Query query) _ (adds_delayed lines query delay is range.0)
 
 -- what comes behind one line more
-pub comes_more : LineByLine → (lines : List Line) (l : Line) → IsLine l → come_in (lines ++ l ∷ []) ≡ come_in lines ++ come_at_line lines l
-comes_more laws lines (line.Doc doc) is = none_more lines (line.Doc doc) (left_in lines) (laws.doc lines doc)
-comes_more laws lines (line.Query query) is = query_line laws lines query query.delay refl is.delay
-comes_more laws lines (line.Tick n) is =
+pub comes_more : (lines : List Line) (l : Line) → IsLine l → come_in (lines ++ l ∷ []) ≡ come_in lines ++ come_at_line lines l
+comes_more lines (line.Doc doc) is = none_more lines (line.Doc doc) (left_in lines) (adds_doc lines doc)
+comes_more lines (line.Query query) is = query_line lines query query.delay refl is.delay
+comes_more lines (line.Tick n) is =
     let due : List Asked = filter (is_due lines n) (left_in lines) in
     let all : List Asked = sorted_by (due_first lines) due in
-    one_line_more lines (line.Tick n) (map (answered_at lines) due) _ (map Coming.begins all ++ []) (laws.tick lines n)
+    one_line_more lines (line.Tick n) (map (answered_at lines) due) _ (map Coming.begins all ++ []) (adds_tick lines n)
     (all-append (λ (c : Coming). IsAsked (lines ++ line.Tick n ∷ []) (query_of c)) (map Coming.begins all) []
     (all-map (IsAsked lines) (λ (c : Coming). IsAsked (lines ++ line.Tick n ∷ []) (query_of c)) Coming.begins (λ a asked. asked_more lines (line.Tick n ∷ []) a asked) all
     (all-sorted_by (IsAsked lines) (due_first lines) due (all-filter (IsAsked lines) (is_due lines n) (left_in lines) (all_left_asked lines)))) tt)
     (ap (map mark_of) (append-nil (map Coming.begins all)) ∙ due_marks lines due)
-comes_more laws lines (line.Cancel n) is =
+comes_more lines (line.Cancel n) is =
     let those : List Asked = filter (is_numbered n) (left_in lines) in
-    one_line_more lines (line.Cancel n) (map (cancelled_at lines) those) _ (map Coming.cancels those) (laws.cancel lines n)
+    one_line_more lines (line.Cancel n) (map (cancelled_at lines) those) _ (map Coming.cancels those) (adds_cancel lines n)
     (all-map (IsAsked lines) (λ (c : Coming). IsAsked (lines ++ line.Cancel n ∷ []) (query_of c)) Coming.cancels (λ a asked. asked_more lines (line.Cancel n ∷ []) a asked) those
     (all-filter (IsAsked lines) (is_numbered n) (left_in lines) (all_left_asked lines)))
     (cancel_marks lines n those (all-passed (is_numbered n) (left_in lines)))
 
-query_leaves : LineByLine → (lines : List Line) (query : Query) (delay : Option ℕ) → query.delay ≡ delay → IfSome delay (λ d. (1 ≤ d) × (d ≤ 4294967295))
+query_leaves : (lines : List Line) (query : Query) (delay : Option ℕ) → query.delay ≡ delay → IfSome delay (λ d. (1 ≤ d) × (d ≤ 4294967295))
     → left_in (lines ++ line.Query query ∷ []) ≡ left_in lines ++ waits_with lines query delay
-query_leaves laws lines query None is range = (laws.answered lines query is).waiting_are ∙ sym (append-nil (left_in lines))
-query_leaves laws lines query (Some delay) is range = (laws.delayed lines query delay is range.0).waiting_are
+query_leaves lines query None is range = (adds_answered lines query is).waiting_are ∙ sym (append-nil (left_in lines))
+query_leaves lines query (Some delay) is range = (adds_delayed lines query delay is range.0).waiting_are
 
 -- who waits behind one line more
-pub left_more_line : LineByLine → (lines : List Line) (l : Line) → IsLine l → left_in (lines ++ l ∷ []) ≡ left_at_line lines l
-left_more_line laws lines (line.Doc doc) is = (laws.doc lines doc).waiting_are
-left_more_line laws lines (line.Query query) is = query_leaves laws lines query query.delay refl is.delay
-left_more_line laws lines (line.Tick n) is = (laws.tick lines n).waiting_are
-left_more_line laws lines (line.Cancel n) is = (laws.cancel lines n).waiting_are
+pub left_more_line : (lines : List Line) (l : Line) → IsLine l → left_in (lines ++ l ∷ []) ≡ left_at_line lines l
+left_more_line lines (line.Doc doc) is = (adds_doc lines doc).waiting_are
+left_more_line lines (line.Query query) is = query_leaves lines query query.delay refl is.delay
+left_more_line lines (line.Tick n) is = (adds_tick lines n).waiting_are
+left_more_line lines (line.Cancel n) is = (adds_cancel lines n).waiting_are
 
 -- the answered queries behind one line more
 begun_begin : (queries : List Asked) → filter_map begun_by (map Coming.begins queries) ≡ queries
 begun_begin [] = refl
 begun_begin (a ∷ queries) = ap (λ (l : List Asked). a ∷ l) (begun_begin queries)
 
-pub answered_more : LineByLine → (lines : List Line) (l : Line) → IsLine l → answered_in (lines ++ l ∷ []) ≡ answered_in lines ++ answered_at_line lines l
-answered_more laws lines l is =
+pub answered_more : (lines : List Line) (l : Line) → IsLine l → answered_in (lines ++ l ∷ []) ≡ answered_in lines ++ answered_at_line lines l
+answered_more lines l is =
     let a : List Asked = answered_at_line lines l in
     let c : List Asked = cancelled_at_line lines l in
     sym (begun_in_order (lines ++ l ∷ []))
-    ∙ (ap (filter_map begun_by) (comes_more laws lines l is)
+    ∙ (ap (filter_map begun_by) (comes_more lines l is)
     ∙ (filter_map-append begun_by (come_in lines) (come_at_line lines l)
     ∙ (ap (λ (q : List Asked). q ++ filter_map begun_by (come_at_line lines l)) (begun_in_order lines)
     ∙ ap (λ (q : List Asked). answered_in lines ++ q)
@@ -180,13 +170,13 @@ answered_more laws lines l is =
     ∙ (ap (λ (q : List Asked). a ++ q) (none_begun c) ∙ append-nil a))))))
 
 -- what comes at some lines comes first, whatever lines follow
-pub comes_first : LineByLine → (lines rest : List Line) → AllByRecursion IsLine rest → IsPrefix (come_in lines) (comings_of (lines ++ rest))
+pub comes_first : (lines rest : List Line) → AllByRecursion IsLine rest → IsPrefix (come_in lines) (comings_of (lines ++ rest))
 unfolding comings_of
-comes_first laws lines [] are = (map Coming.cancels (left_in lines), ap (λ (all : List Line). come_in all ++ map Coming.cancels (left_in all)) (sym (append-nil lines)))
-comes_first laws lines (l ∷ rest) are =
-    let later = comes_first laws (lines ++ l ∷ []) rest are.1 in (
+comes_first lines [] are = (map Coming.cancels (left_in lines), ap (λ (all : List Line). come_in all ++ map Coming.cancels (left_in all)) (sym (append-nil lines)))
+comes_first lines (l ∷ rest) are =
+    let later = comes_first (lines ++ l ∷ []) rest are.1 in (
       come_at_line lines l ++ later.0,
       sym (append_assoc (come_in lines) (come_at_line lines l) later.0)
-          ∙ (ap (λ (front : List Coming). front ++ later.0) (sym (comes_more laws lines l are.0))
+          ∙ (ap (λ (front : List Coming). front ++ later.0) (sym (comes_more lines l are.0))
           ∙ (later.1 ∙ ap comings_of (append_assoc lines (l ∷ []) rest))),
     )

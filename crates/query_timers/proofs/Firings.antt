@@ -1,9 +1,10 @@
 -- What one timer fires, and what the timers of one tick fire.
-use Rattle.std.proofs.Common.{◌≡◌, ℕ, ◌<◌, List, [], ◌∷◌, ◌++◌, Bool, true, false, ◌&&◌, not, cond, refl, sym, ap, ◌∙◌, subst, arith, map, filter, append-nil, append_assoc}
+use Rattle.std.proofs.Common.{◌≡◌, ℕ, ◌<◌, List, [], ◌∷◌, ◌++◌, Bool, true, false, not, cond, refl, sym, ap, ◌∙◌, subst, arith, map, filter, append-nil, append_assoc}
 use Rattle.std.specs.Prelude.{◌==◌}
 use Rattle.std.specs.List.{AllByRecursion}
 use Rattle.std.proofs.lemmas.Bool.Decides.{nat_tests}
 use Rattle.std.proofs.lemmas.List.Elements.{filter-append}
+use Rattle.std.proofs.lemmas.Bool.{and_left, and_right}
 use Rattle.fan_base.specs.declared.number.ExecId.{ExecId}
 use Rattle.query_model.proofs.ListLaws.{all-append, all-implies}
 use Rattle.event_base.specs.Seen.{AgendaSeen}
@@ -15,14 +16,6 @@ use Rattle.query_timers.specs.Firing.{Ascend, Fires, fired_at, fires_at, head_of
 use Rattle.query_timers.specs.Seen.{WaitersSeen}
 use Rattle.query_timers.proofs.Lists.{filter-none, filter-whole}
 use Rattle.query_timers.proofs.Numbers.{below_not}
-
-and_false : (a b : Bool) → b ≡ false → (a && b) ≡ false
-and_false true b h = h
-and_false false b h = refl
-
-false_and : (a b : Bool) → a ≡ false → (a && b) ≡ false
-false_and true b h = absurd cc
-false_and false b h = refl
 
 -- due exactly at a tick
 abbrev pub is_due_at : ℕ → DelayedQuery → Bool
@@ -36,7 +29,7 @@ pub quiet : (number tick : ℕ) (w : WaitersSeen) → Lasts tick w.waiting → f
 quiet number tick w later =
     let none : AllByRecursion (λ (q : DelayedQuery). fires_at number tick q ≡ false) w.waiting =
     all-implies (λ (q : DelayedQuery). tick < q.due) (λ (q : DelayedQuery). fires_at number tick q ≡ false)
-    (λ q lt. and_false (q.number == number) (q.due == tick) (below_not tick q.due lt)) w.waiting later in
+    (λ q lt. and_right (q.number == number) (q.due == tick) (below_not tick q.due lt)) w.waiting later in
     ap (λ (l : List DelayedQuery). record w { waiting = l; fired = w.fired ++ filter (fires_at number tick) w.waiting }) (filter-whole (fires_at number tick) w.waiting none)
     ∙ (ap (λ (l : List DelayedQuery). record w { fired = w.fired ++ l }) (filter-none (fires_at number tick) w.waiting none)
     ∙ ap (λ (l : List DelayedQuery). record w { fired = l }) (append-nil w.fired))
@@ -85,9 +78,9 @@ fire_one t P K x w is before hits after =
     let misses : DelayedQuery → Bool = λ q. not (p q) in
     let one : p x ≡ true = grind (arith, nat_tests, hits) in
     let none_before : AllByRecursion (λ q. p q ≡ false) P =
-    all-implies (λ q. is_due_at t q ≡ false) (λ q. p q ≡ false) (λ q h. and_false (q.number == x.number) (q.due == t) h) P before in
+    all-implies (λ q. is_due_at t q ≡ false) (λ q. p q ≡ false) (λ q h. and_right (q.number == x.number) (q.due == t) h) P before in
     let none_after : AllByRecursion (λ q. p q ≡ false) K =
-    all-implies (λ (q : DelayedQuery). x.number < q.number) (λ q. p q ≡ false) (λ q h. false_and (q.number == x.number) (q.due == t) (below_not x.number q.number h)) K after in
+    all-implies (λ (q : DelayedQuery). x.number < q.number) (λ q. p q ≡ false) (λ q h. and_left (q.number == x.number) (q.due == t) (below_not x.number q.number h)) K after in
     let hit : filter p (x ∷ K) ≡ x ∷ [] =
     ap (λ (b : Bool). cond b (x ∷ filter p K) (filter p K)) one ∙ ap (λ (l : List DelayedQuery). x ∷ l) (filter-none p K none_after) in
     let missed : filter misses (x ∷ K) ≡ K =

@@ -2,8 +2,7 @@
 use Rattle.std.proofs.Common.{◌≡◌, ℕ, ◌+◌, ◌<◌, ◌≤◌, List, [], ◌∷◌, ◌++◌, length, Bool, true, false, ◌⊎◌, inl, inr, not, cond, Some, None, Result, Ok, Err, refl, sym, ap, ◌∙◌, subst, arith, map, filter, append-nil, length-append}
 use Rattle.std.specs.Prelude.{◌==◌, OnOk, OnErr, slice_get}
 use Rattle.std.specs.List.{All, AllByRecursion, find}
-use Rattle.std.proofs.lemmas.Bool.{eqb-true}
-use Rattle.std.proofs.lemmas.Bool.Decides.{nat_tests}
+use Rattle.std.proofs.lemmas.Bool.{eqb-true, eq-eqb}
 use Rattle.std.proofs.lemmas.List.{map-append}
 use Rattle.std.proofs.lemmas.List.Elements.{All-cons, All-nil, filter-append}
 use Rattle.fan_base.specs.declared.number.JobId.{JobId}
@@ -67,15 +66,12 @@ linked_back a w query delay are number =
     let keeps : Timer DueQuery → Bool = λ s. not (s.id == query.number) in
     let others : AllByRecursion (λ (s : Timer DueQuery). (s.id == query.number) ≡ false) a.wheel.timers =
     subst (λ (n : ℕ). AllByRecursion (λ (s : Timer DueQuery). (s.id == n) ≡ false) a.wheel.timers) (sym number) (none_next a w are) in
-    let gone : filter keeps (t ∷ []) ≡ [] = ap (λ (b : Bool). cond (not b) (t ∷ []) []) (same_number query.number) in
+    let gone : filter keeps (t ∷ []) ≡ [] = ap (λ (b : Bool). cond (not b) (t ∷ []) []) (eq-eqb query.number query.number refl) in
     let back : filter keeps (a.wheel.timers ++ t ∷ []) ≡ a.wheel.timers =
     filter-append keeps a.wheel.timers (t ∷ [])
     ∙ (ap (λ (l : List (Timer DueQuery)). l ++ filter keeps (t ∷ [])) (filter-whole (λ (s : Timer DueQuery). s.id == query.number) a.wheel.timers others)
     ∙ (ap (λ (l : List (Timer DueQuery)). a.wheel.timers ++ l) gone ∙ append-nil a.wheel.timers)) in
     record { timers = back ∙ are.timers; later = are.later; ascend = are.ascend; few = are.few }
-  where
-    same_number : (n : ℕ) → (n == n) ≡ true
-    same_number n = grind (arith, nat_tests)
 
 -- one waits no more
 abbrev pub fewer : ℕ → WaitersSeen → WaitersSeen

@@ -3,7 +3,7 @@ use Rattle.std.proofs.Common.{◌≡◌, ℕ, zero, suc, ◌+◌, ◌<◌, ◌�
 use Rattle.std.specs.Prelude.{◌==◌}
 use Rattle.std.specs.List.{AllByRecursion}
 use Rattle.std.specs.Option.{option_to_list}
-use Rattle.std.proofs.lemmas.Bool.{eqb-true}
+use Rattle.std.proofs.lemmas.Bool.{eqb-true, eq-eqb}
 use Rattle.std.proofs.lemmas.Bool.Decides.{nat_tests}
 use Rattle.query_model.proofs.ListLaws.{all-implies}
 use Rattle.query_timers.specs.declared.query.DelayedQuery.{DelayedQuery}
@@ -15,9 +15,6 @@ use Rattle.query_timers.proofs.Lists.{filter-both, filter-none, filter-not-both,
 -- other numbers
 pub below_not : (n m : ℕ) → n < m → (m == n) ≡ false
 below_not n m h = grind (arith, nat_tests)
-
-pub same_yes : (n m : ℕ) → m ≡ n → (m == n) ≡ true
-same_yes n m h = grind (arith, nat_tests)
 
 pub above_not : (n m : ℕ) → m < n → (m == n) ≡ false
 above_not n m h = grind (arith, nat_tests)
@@ -46,7 +43,7 @@ at_place number n place [] h e = refl
 at_place number n zero (None ∷ slots) h e = sym (no_number n (number + 1) slots h (omega arith))
 at_place number n (suc place) (None ∷ slots) h e = at_place (number + 1) n place slots h (omega arith)
 at_place number n zero (Some query ∷ slots) h e =
-    sym (ap (λ (b : Bool). cond b (query ∷ filter (has_number n) (waiting_in slots)) (filter (has_number n) (waiting_in slots))) (same_yes n query.number (omega (arith, h.0)))
+    sym (ap (λ (b : Bool). cond b (query ∷ filter (has_number n) (waiting_in slots)) (filter (has_number n) (waiting_in slots))) (eq-eqb query.number n (omega (arith, h.0)))
     ∙ ap (λ (l : List DelayedQuery). query ∷ l) (no_number n (number + 1) slots h.1 (omega arith)))
 at_place number n (suc place) (Some query ∷ slots) h e =
     at_place (number + 1) n place slots h.1 (omega arith)
@@ -58,7 +55,7 @@ rest_at number n place [] h e = refl
 rest_at number n zero (None ∷ slots) h e = sym (all_other n (number + 1) slots h (omega arith))
 rest_at number n (suc place) (None ∷ slots) h e = rest_at (number + 1) n place slots h (omega arith)
 rest_at number n zero (Some query ∷ slots) h e =
-    sym (ap (λ (b : Bool). cond (not b) (query ∷ filter (λ q. not (has_number n q)) (waiting_in slots)) (filter (λ q. not (has_number n q)) (waiting_in slots))) (same_yes n query.number (omega (arith, h.0)))
+    sym (ap (λ (b : Bool). cond (not b) (query ∷ filter (λ q. not (has_number n q)) (waiting_in slots)) (filter (λ q. not (has_number n q)) (waiting_in slots))) (eq-eqb query.number n (omega (arith, h.0)))
     ∙ all_other n (number + 1) slots h.1 (omega arith))
 rest_at number n (suc place) (Some query ∷ slots) h e =
     ap (λ (l : List DelayedQuery). query ∷ l) (rest_at (number + 1) n place slots h.1 (omega arith))
@@ -142,7 +139,7 @@ all_due tick (q ∷ (r ∷ queries)) (Some d) is found = absurd cc
 all_due tick (q ∷ []) (Some d) is found =
     let same : d ≡ q.due = cc in
     let at : d ≡ tick = cc in
-    (same_yes tick q.due (sym same ∙ at), tt)
+    (eq-eqb q.due tick (sym same ∙ at), tt)
 
 -- where nobody with the number is due, nothing fires
 pub nothing_fires : (number tick : ℕ) (w : WaitersSeen) (due : Option ℕ) → option_to_list due ≡ map (λ (q : DelayedQuery). q.due) (filter (has_number number) w.waiting)

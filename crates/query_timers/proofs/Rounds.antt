@@ -4,6 +4,7 @@ use Rattle.std.specs.Prelude.{◌==◌}
 use Rattle.std.specs.List.{AllByRecursion}
 use Rattle.std.proofs.lemmas.Bool.Decides.{nat_tests}
 use Rattle.std.proofs.lemmas.Simd.{map-map}
+use Rattle.std.proofs.lemmas.Bool.{eqb-true}
 use Rattle.fan_base.specs.declared.number.ExecId.{ExecId}
 use Rattle.query_model.specs.Sorting.{put_by, sorted_by}
 use Rattle.query_model.proofs.ListLaws.{all-append, all-filter, all-implies, all-passed, filter-filter, filter-map}
@@ -36,8 +37,6 @@ ascend-filter p b (x ∷ queries) h = by (p x) (ascend-filter p x.number queries
     by false rest = ascend-lower b x.number (filter p queries) (omega (arith, h.0)) rest
 
 -- those that are due first come first
-due_is : (d t : ℕ) → (d == t) ≡ true → d ≡ t
-due_is d t e = grind (arith, nat_tests)
 
 not_before : (d e n m : ℕ) → e ≡ d → m < n → (nat_lt d e || (d == e && nat_lt n m)) ≡ false
 not_before d e n m same lt = grind (arith, nat_tests)
@@ -66,7 +65,7 @@ least_first t b (x ∷ queries) from ascend = by (is_due_at t x) refl (least_fir
     S = sorted_by due_first N
 
     due_all : AllByRecursion (λ (q : DelayedQuery). q.due ≡ t) D
-    due_all = all-implies (λ q. is_due_at t q ≡ true) (λ (q : DelayedQuery). q.due ≡ t) (λ q h. due_is q.due t h) D (all-passed (is_due_at t) queries)
+    due_all = all-implies (λ q. is_due_at t q ≡ true) (λ (q : DelayedQuery). q.due ≡ t) (λ q h. eqb-true q.due t h) D (all-passed (is_due_at t) queries)
 
     late_all : AllByRecursion (λ (q : DelayedQuery). t < q.due) S
     late_all =
@@ -80,7 +79,7 @@ least_first t b (x ∷ queries) from ascend = by (is_due_at t x) refl (least_fir
     by : (c : Bool) → is_due_at t x ≡ c → sorted_by due_first queries ≡ D ++ S
         → put_by due_first x (sorted_by due_first queries) ≡ cond c (x ∷ D) D ++ sorted_by due_first (cond (not c) (x ∷ N) N)
     by true is rest =
-        let now : x.due ≡ t = due_is x.due t is in
+        let now : x.due ≡ t = eqb-true x.due t is in
         ap (put_by due_first x) rest
         ∙ put-front due_first x [] (D ++ S)
         (all-append (λ (z : DelayedQuery). due_first z x ≡ false) D S

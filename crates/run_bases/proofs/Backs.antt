@@ -1,11 +1,12 @@
 -- Posters that are taken one by one, and ends that come back one by one.
-use Rattle.std.proofs.Common.{◌≡◌, ℕ, zero, suc, ◌<◌, ◌≤◌, List, [], ◌∷◌, ◌++◌, length, get_or, length-append, refl, sym, ap, ◌∙◌, subst, arith, All}
+use Rattle.std.proofs.Common.{◌≡◌, ℕ, zero, suc, ◌<◌, ◌≤◌, List, [], ◌∷◌, ◌++◌, length, length-append, refl, sym, ap, ◌∙◌, subst, arith, All}
 use Rattle.std.specs.Prelude.{slice_get, Some}
 use Rattle.std.specs.List.{Any, sum_by}
-use Rattle.std.proofs.lemmas.List.{get_or_push}
+use Rattle.std.proofs.lemmas.List.{get_or_append_left}
 use Rattle.std.proofs.lemmas.List.Sums.{sum_by-append}
-use Rattle.std.proofs.lemmas.List.Elements.{All-nil, All-cons, All-head, All-tail}
+use Rattle.std.proofs.lemmas.List.Elements.{All-nil, All-push}
 use Rattle.std.proofs.lemmas.Option.{same_Some}
+use Rattle.std.proofs.lemmas.List.Quantifiers.{Any-push}
 use mathlib.Core.Logic.{dite}
 use native.Mathlib.Decide.{ℕ_discrete}
 use Rattle.fan_base.specs.declared.number.ExecId.{ExecId}
@@ -23,24 +24,8 @@ get_last : {X : Type 0} (xs : List X) (y : X) → slice_get (xs ++ y ∷ []) (le
 get_last [] y = refl
 get_last (x ∷ xs) y = get_last xs y
 
-pub get_or_front : {X : Type 0} (xs ys : List X) (k : ℕ) (d : X) → k < length xs → get_or (xs ++ ys) k d ≡ get_or xs k d
-get_or_front [] ys k d lt = absurd (omega (arith, lt))
-get_or_front (x ∷ xs) ys zero d lt = refl
-get_or_front (x ∷ xs) ys (suc k) d lt = get_or_front xs ys k d (omega (arith, lt))
-
-pub none_left : {X : Type 0} (xs : List X) → length xs ≡ 0 → xs ≡ []
-none_left [] z = refl
-none_left (x ∷ xs) z = absurd (omega (arith, z))
-
-pub all_push : {X : Type 0} (P : X → Type 0) (xs : List X) (y : X) → All P xs → P y → All P (xs ++ y ∷ [])
-all_push P [] y all p = All-cons P y [] p (All-nil P)
-all_push P (x ∷ xs) y all p = All-cons P x (xs ++ y ∷ []) (All-head P x xs all) (all_push P xs y (All-tail P x xs all) p)
-
 any_front : {X : Type 0} (P : X → Type 0) (xs : List X) (y : X) → Any P xs → Any P (xs ++ y ∷ [])
-any_front P xs y a = (a.0, a.1, omega (arith, a.2, length-append xs (y ∷ [])), get_or_front xs (y ∷ []) a.0 a.1 a.2 ∙ a.3, a.4)
-
-any_last : {X : Type 0} (P : X → Type 0) (xs : List X) (y : X) → P y → Any P (xs ++ y ∷ [])
-any_last P xs y p = (length xs, y, omega (arith, length-append xs (y ∷ [])), get_or_push xs y y (length xs) refl, p)
+any_front P xs y a = (a.0, a.1, omega (arith, a.2, length-append xs (y ∷ [])), get_or_append_left xs (y ∷ []) a.1 a.0 a.2 ∙ a.3, a.4)
 
 module _ {J : Type 0} where
   -- the last of some unused posters
@@ -70,15 +55,15 @@ module _ {J : Type 0} (head : J → Head) where
   pub back_more : (queue : QueueId) (exec : ExecId) (senders low : ℕ) (ends : List (Sending J)) (e : Sending J) → AreBack head queue exec senders (suc low) ends
       → IsEndOf head queue low exec e → AreBack head queue exec senders low (ends ++ e ∷ [])
   back_more queue exec senders low ends e back is = record {
-    of_queue = all_push (λ (x : Sending J). x.queue ≡ queue) ends e back.of_queue is.queue_is;
-    on_base = all_push (λ (x : Sending J). All (λ job. (head job).exec ≡ exec) x.sent) ends e back.on_base is.on_base;
+    of_queue = All-push (λ (x : Sending J). x.queue ≡ queue) ends e back.of_queue is.queue_is;
+    on_base = All-push (λ (x : Sending J). All (λ job. (head job).exec ≡ exec) x.sent) ends e back.on_base is.on_base;
     each = λ number from to. each_of number from to;
     as_many = omega (arith, back.as_many, length-append ends (e ∷ []));
   }
     where
       each_of : (number : ℕ) → low ≤ number → number < senders → Any (λ (x : Sending J). x.number ≡ number) (ends ++ e ∷ [])
       each_of number from to = dite (ℕ_discrete low number)
-          (λ same. any_last (λ (x : Sending J). x.number ≡ number) ends e (is.number_is ∙ same))
+          (λ same. Any-push (λ (x : Sending J). x.number ≡ number) ends e (is.number_is ∙ same))
           (λ other. any_front (λ (x : Sending J). x.number ≡ number) ends e (back.each number (omega (arith, from, other)) to))
 
   pub all_back : (queue : QueueId) (exec : ExecId) (senders : ℕ) (ends : List (Sending J)) (base : Receiving J) → AreBack head queue exec senders 0 ends

@@ -1,6 +1,6 @@
 -- Rows that are taken and put back, column by column.
 use Rattle.std.proofs.Common.{◌≡◌, ℕ, suc, ◌+◌, ◌<◌, ◌≤◌, List, [], ◌∷◌, ◌++◌, length, get_or, get_or-set_other, set, length-append, refl, sym, ap, ◌∙◌, subst, arith}
-use Rattle.std.proofs.lemmas.List.{get_or_push, length-set}
+use Rattle.std.proofs.lemmas.List.{get_or_push, length-set, get_or_append_left}
 use Rattle.std.proofs.lemmas.Grind.{get_or-set_at}
 use mathlib.Core.Logic.{dite}
 use native.Mathlib.Decide.{ℕ_discrete}
@@ -8,7 +8,6 @@ use Rattle.job_trait.specs.declared.job.Head.{Head}
 use Rattle.notify_queue.specs.Ends.{QueueId, Sending, new_sender}
 use Rattle.run_bases.specs.declared.rows.Column.{Column}
 use Rattle.run_bases.specs.Columns.{AreColumns, IsColumn, IsEndOf, IsEndRow, IsRow, PutSoFar, TakenSoFar, exec_at}
-use Rattle.run_bases.proofs.Backs.{get_or_front}
 
 -- some item of a list that has one at this place
 pub pick : {X : Type 0} (xs : List X) (k : ℕ) → k < length xs → X
@@ -33,7 +32,7 @@ module _ {J : Type 0} (head : J → Head) (queues : List QueueId) (first senders
     long = omega (arith, ap length is, length-append row (p ∷ []), t.long);
     row_is = λ k d q lt. subst (λ (r : List (Sending J)). get_or r k d ≡ new_sender (get_or queues k q) left) (sym is) (dite (ℕ_discrete k place)
         (λ e. get_or_push row p d k (t.long ∙ sym e) ∙ subst (λ (n : ℕ). p ≡ new_sender (get_or queues n q) left) (sym e) (poster q))
-        (λ n. get_or_front row (p ∷ []) k d (omega (arith, lt, n, t.long)) ∙ t.row_is k d q (omega (arith, lt, n))));
+        (λ n. get_or_append_left row (p ∷ []) d k (omega (arith, lt, n, t.long)) ∙ t.row_is k d q (omega (arith, lt, n))));
     taken = λ k d q lt. dite (ℕ_discrete k place)
         (λ e. subst (λ (x : Column J). IsColumn head (get_or queues k q) (exec_at first k) senders left low x) (sym (get_or-set_at columns place k c d e (omega (arith, below, t.as_many))))
         (subst (λ (n : ℕ). IsColumn head (get_or queues n q) (exec_at first n) senders left low c) (sym e) (column q)))
@@ -73,7 +72,7 @@ module _ {J : Type 0} (head : J → Head) (queues : List QueueId) (first senders
         as_many = length-set columns place c ∙ t.as_many;
         within = omega (arith, t.within, long);
         row_is = λ k d q below. subst (λ (x : Sending J). IsEndOf head (get_or queues k q) low (exec_at first k) x)
-            (ap (λ (r : List (Sending J)). get_or r k d) is ∙ get_or_front row' (e ∷ []) k d below) (t.row_is k d q (omega (arith, below, long)));
+            (ap (λ (r : List (Sending J)). get_or r k d) is ∙ get_or_append_left row' (e ∷ []) d k below) (t.row_is k d q (omega (arith, below, long)));
         rest = λ k d q below. subst (λ (x : Column J). IsColumn head (get_or queues k q) (exec_at first k) senders left (suc low) x)
             (sym (get_or-set_other columns place k c d (λ same. omega (arith, below, same, place_is)))) (t.rest k d q (omega (arith, below, long)));
         put = λ k d q from below. dite (ℕ_discrete k place)

@@ -1,10 +1,11 @@
 -- Which messages fired, over turns, rounds and loops of a gathering base.
-use Rattle.std.proofs.Common.{◌≡◌, ℕ, ◌+◌, Bool, true, false, inl, inr, List, [], ◌∷◌, ◌++◌, length, map, refl, sym, subst, ap, ◌∙◌, arith, append_assoc, append-nil}
+use Rattle.std.proofs.Common.{◌≡◌, ℕ, ◌+◌, Bool, true, false, inl, inr, List, [], ◌∷◌, ◌++◌, map, refl, sym, subst, ap, ◌∙◌, arith, append_assoc, append-nil}
 use Rattle.std.specs.Prelude.{nat_lt, if◌then◌else◌}
 use Rattle.std.specs.List.{All, sum_by}
 use Rattle.std.proofs.lemmas.Bool.Decides.{nat_tests}
 use Rattle.std.proofs.lemmas.List.Elements.{All-append, All-cons, All-head, All-nil, All-tail}
 use Rattle.std.proofs.lemmas.List.Sums.{sum_by-append, sum_by-cons}
+use Rattle.std.proofs.lemmas.List.{nil_from_length}
 use Rattle.notify_queue.specs.declared.stamp.Stamped.{Stamped}
 use Rattle.event_base.specs.declared.round.Round.{Round}
 use Rattle.event_base.specs.declared.round.RoundMemory.{RoundMemory}
@@ -23,10 +24,6 @@ use Rattle.fan_parts.specs.declared.jobs.ScoreCall.{ScoreCall}
 use Rattle.run_gathering.specs.Seen.{GatheringSeen}
 use Rattle.run_gathering.specs.Gathering.{fires_at, fires_among, GathersBy, HoldsScorings, IsScoringJob, Runs, Schedules, TookIn}
 use Rattle.run_gathering.proofs.Counting.{nothing, join}
-
-none_of_length : {X : Type 0} (xs : List X) → length xs ≡ 0 → xs ≡ []
-none_of_length [] e = refl
-none_of_length (x ∷ xs) e = absurd (omega arith)
 
 either_all : {X : Type 0} (P : X → Type 0) (b : Bool) (xs ys : List X) → All P xs → All P ys → All P (if b then xs else ys)
 either_all P true xs ys first second = first
@@ -134,7 +131,7 @@ module _ {N : Type 0} where
       let before : TurnsThrough TakesBefore gather_head Runs (w, a) [] up.after_before =
       subst (λ (ts : List (Turn (GatherJob N))). TurnsThrough TakesBefore gather_head Runs (w, a) ts up.after_before) (no_turns did.before (up.before.jobs ∙ h.before)) up.before.ran.through in
       let ticks : TicksThrough gather_head Runs up.after_messages [] whole.after_ticks =
-      subst (λ (ts : List (List (Turn (GatherJob N)))). TicksThrough gather_head Runs up.after_messages ts whole.after_ticks) (none_of_length did.ticks whole.each_tick) up.ticks.through in
+      subst (λ (ts : List (List (Turn (GatherJob N)))). TicksThrough gather_head Runs up.after_messages ts whole.after_ticks) (nil_from_length did.ticks whole.each_tick) up.ticks.through in
       let begun : HoldsScorings up.after_before.1 = subst (λ (u : Place (GatheringSeen N) (GatherJob N)). HoldsScorings u.1) before (settle_keeps old.agenda h) in
       let messages = messages_fire up.after_before up.after_messages did.messages begun up.messages.ran.through in
       let from : FiresBy (sum_by fires_of did.messages) w up.after_messages.0 =

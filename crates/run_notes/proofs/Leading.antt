@@ -99,7 +99,3 @@ pub fewer_more : (was is : Bool) (records after left rest all : ℕ) → (was �
     → (is ≡ true → was ≡ false → after ≡ records) → after ≤ suc records → is ≡ true → after + rest < all
 fewer_more true is records after left rest all fewer whole next lost few missed = omega (arith, fewer refl, next, few)
 fewer_more false is records after left rest all fewer whole next lost few missed = omega (arith, whole refl, next, lost missed refl)
-
-pub not-false : (b : Bool) → (b ≡ false → ⊥) → b ≡ true
-not-false true h = refl
-not-false false h = absurd (h refl)

@@ -12,6 +12,7 @@ use Rattle.query_model.specs.declared.line.Line.TheVariants as line
 use Rattle.query_model.specs.Documents.{queries_of}
 use Rattle.query_model.specs.Lines.{is_query}
 use Rattle.query_model.specs.Order.{Asked, asked_in, left_in}
+use Rattle.query_model.proofs.ListFacts.{drop_one_more}
 use Rattle.fan_model.specs.Answered.{answered_in}
 use Rattle.fan_model.specs.Comings.{Coming, ComesAt, IsAsked, begun_by, come_in, comings_of, query_of}
 use Rattle.fan_model.specs.Report.{Asking}
@@ -22,7 +23,7 @@ use Rattle.run_plan.specs.declared.turn.BegunQuery.{BegunQuery}
 use Rattle.run_plan.specs.declared.turn.Turn.{Turn}
 use Rattle.run_plan.specs.declared.turn.Turn.TheVariants as turn
 use Rattle.run_plan.specs.Turns.{AreTurnsOf, begun_between, begun_in, begun_query, turn_of}
-use Rattle.run_plan.proofs.Lists.{all_get, count_first, length-filter_map-le, at_map, drop_none, drop_of_take, drop_one_less, given_between_more}
+use Rattle.run_plan.proofs.Lists.{all_get, count_first, length-filter_map-le, at_map, drop_none, drop_of_take, given_between_more}
 
 pub is_asked : (lines : List Line) (place : ℕ) (c : Coming) → All (λ (d : Coming). IsAsked lines (query_of d)) (come_in lines) → All (IsAsked lines) (left_in lines)
     → slice_get (comings_of lines) place ≡ Some c → IsAsked lines (query_of c)
@@ -126,11 +127,11 @@ one_on n = omega arith
 
 pub next_is_begun : (lines : List Line) (place : ℕ) (asked : Asked) → ComesAt lines place (Coming.begins asked) → begun_in (drop place (comings_of lines)) ≡ asked ∷ begun_in (drop (place + 1) (comings_of lines))
 next_is_begun lines place asked comes =
-    ap begun_in (drop_one_less (comings_of lines) place (Coming.begins asked) comes.at) ∙ ap (λ (n : ℕ). asked ∷ begun_in (drop n (comings_of lines))) (one_on place)
+    ap begun_in (drop_one_more (comings_of lines) place (Coming.begins asked) comes.at) ∙ ap (λ (n : ℕ). asked ∷ begun_in (drop n (comings_of lines))) (one_on place)
 
 pub next_is_cancelled : (lines : List Line) (place : ℕ) (asked : Asked) → ComesAt lines place (Coming.cancels asked) → begun_in (drop place (comings_of lines)) ≡ begun_in (drop (place + 1) (comings_of lines))
 next_is_cancelled lines place asked comes =
-    ap begun_in (drop_one_less (comings_of lines) place (Coming.cancels asked) comes.at) ∙ ap (λ (n : ℕ). begun_in (drop n (comings_of lines))) (one_on place)
+    ap begun_in (drop_one_more (comings_of lines) place (Coming.cancels asked) comes.at) ∙ ap (λ (n : ℕ). begun_in (drop n (comings_of lines))) (one_on place)
 
 pub few_between : (lines : List Line) (turns : List Turn) (start place most : ℕ) → length turns ≤ most → AreTurnsOf lines turns → length (begun_between lines start place) ≤ most
 few_between lines turns start place most few are =

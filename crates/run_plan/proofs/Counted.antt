@@ -6,6 +6,7 @@ use Rattle.std.proofs.lemmas.Bool.Decides.{nat_tests}
 use Rattle.std.proofs.lemmas.List.{length-append}
 use Rattle.std.proofs.lemmas.List.FromFn.{get_or-map-range_with_len, length-map-range_with_len}
 use Rattle.std.proofs.lemmas.List.Sums.{count_by-le-length}
+use Rattle.std.proofs.lemmas.Bool.{eq-eqb}
 use Rattle.query_model.specs.declared.line.Line.{Line}
 use Rattle.query_model.specs.Order.{Asked}
 use Rattle.fan_model.specs.Answered.{answered_in, is_top, tops_in}
@@ -25,9 +26,6 @@ count_no p xs x is = count_push p xs x ∙ ap (λ (b : Bool). cond b (count_by p
 other : (i j : ℕ) → (i == j) ≡ false → (j == i) ≡ false
 other i j e = grind (arith, nat_tests)
 
-itself : (i : ℕ) → (i == i) ≡ true
-itself i = grind (arith, nat_tests)
-
 -- by base
 pub gathered_more : (bases : ℕ) (queries : List Asked) (a : Asked) (k : ℕ) → k < bases → 1 + k ≡ base_of bases a.number
     → set (map (gathered_on bases queries) (range_with_len 1 bases)) k (get_or (map (gathered_on bases queries) (range_with_len 1 bases)) k 0 + 1) ≡ map (gathered_on bases (queries ++ a ∷ [])) (range_with_len 1 bases)
@@ -35,7 +33,7 @@ gathered_more bases queries a k lt is =
     let f : ℕ → ℕ = gathered_on bases queries in
     let g : ℕ → ℕ = gathered_on bases (queries ++ a ∷ []) in
     let at : get_or (map f (range_with_len 1 bases)) k 0 ≡ f (1 + k) = get_or-map-range_with_len f 1 bases k (1 + k) 0 lt refl in
-    let here : g (1 + k) ≡ f (1 + k) + 1 = count_yes (λ (b : Asked). base_of bases b.number == 1 + k) queries a (ap (λ (n : ℕ). n == 1 + k) (sym is) ∙ itself (1 + k)) in
+    let here : g (1 + k) ≡ f (1 + k) + 1 = count_yes (λ (b : Asked). base_of bases b.number == 1 + k) queries a (ap (λ (n : ℕ). n == 1 + k) (sym is) ∙ eq-eqb (1 + k) (1 + k) refl) in
     ap (λ (n : ℕ). set (map f (range_with_len 1 bases)) k (n + 1)) at
     ∙ set_computed f g 1 bases k lt here (λ i no. count_no (λ (b : Asked). base_of bases b.number == i) queries a (ap (λ (n : ℕ). n == i) (sym is) ∙ other i (1 + k) no))
 

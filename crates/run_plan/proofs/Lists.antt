@@ -8,6 +8,7 @@ use Rattle.std.proofs.lemmas.List.Sums.{sum_by-append}
 use Rattle.std.proofs.lemmas.Bool.Decides.{nat_tests}
 use Rattle.std.proofs.lemmas.Option.{slice_get_within}
 use Rattle.std.proofs.Math.Seq.{drop-append_seam, take-append_seam}
+use Rattle.query_model.proofs.ListFacts.{take_one_more}
 
 pub all_get : {A : Type 0} (P : A → Type 0) (xs : List A) (k : ℕ) (x : A) → All P xs → slice_get xs k ≡ Some x → P x
 all_get P [] k x all e = absurd cc
@@ -52,16 +53,6 @@ pub zeros_computed : (f : ℕ → ℕ) (n len : ℕ) → ((i : ℕ) → f i ≡ 
 zeros_computed f n zero none = refl
 zeros_computed f n (suc len) none = ap (λ (l : List ℕ). 0 ∷ l) (zeros_computed f (n + 1) len none) ∙ ap (λ (k : ℕ). k ∷ map f (range_with_len (n + 1) len)) (sym (none n))
 
-pub take_one_more : {A : Type 0} (xs : List A) (i : ℕ) (x : A) → slice_get xs i ≡ Some x → take (suc i) xs ≡ take i xs ++ x ∷ []
-take_one_more [] i x h = absurd cc
-take_one_more {A = A} (y ∷ xs) zero x h = let same : y ≡ x = cc in ap (λ (z : A). let l : List A = z ∷ [] in l) same
-take_one_more {A = A} (y ∷ xs) (suc i) x h = ap (λ (l : List A). y ∷ l) (take_one_more xs i x h)
-
-pub drop_one_less : {A : Type 0} (xs : List A) (i : ℕ) (x : A) → slice_get xs i ≡ Some x → drop i xs ≡ x ∷ drop (suc i) xs
-drop_one_less [] i x h = absurd cc
-drop_one_less {A = A} (y ∷ xs) zero x h = let same : y ≡ x = cc in ap (λ (z : A). z ∷ xs) same
-drop_one_less {A = A} (y ∷ xs) (suc i) x h = drop_one_less xs i x h
-
 pub drop_none : {A : Type 0} (xs : List A) → drop 0 xs ≡ xs
 drop_none [] = refl
 drop_none (x ∷ xs) = refl
@@ -96,11 +87,6 @@ pub at_map : {A B : Type 0} (f : A → B) (xs : List A) (k : ℕ) (b : B) → sl
 at_map f [] k b h = absurd cc
 at_map f (x ∷ xs) zero b h = (x, refl, cc)
 at_map f (x ∷ xs) (suc k) b h = at_map f xs k b h
-
-pub map_at : {A B : Type 0} (f : A → B) (xs : List A) (k : ℕ) (a : A) → slice_get xs k ≡ Some a → slice_get (map f xs) k ≡ Some (f a)
-map_at f [] k a h = absurd cc
-map_at f (x ∷ xs) zero a h = let same : x ≡ a = cc in cc
-map_at f (x ∷ xs) (suc k) a h = map_at f xs k a h
 
 -- where a function gives so many of the first items, these are the first of all that it gives
 pub split_given : {A B : Type 0} (f : A → Option B) (xs : List A) (i n : ℕ) → length (filter_map f (take i xs)) ≡ n

@@ -3,7 +3,7 @@ use Rattle.std.proofs.Common.{◌≡◌, ℕ, zero, suc, ◌<◌, ◌≤◌, Lis
 use Rattle.std.specs.Prelude.{IfNone, IfSome, nat_le}
 use Rattle.std.specs.List.{count_by, filter_map}
 use Rattle.std.proofs.lemmas.Bool.Decides.{nat_tests}
-use Rattle.std.proofs.lemmas.List.{take-map, take_all}
+use Rattle.std.proofs.lemmas.List.{take-map, take_all, drop_all}
 use Rattle.query_model.specs.declared.line.Line.{Line}
 use Rattle.query_model.specs.Order.{Asked}
 use Rattle.fan_model.specs.Answered.{answered_in}
@@ -17,12 +17,6 @@ begins_counted : (lines : List Line) (cs : List Coming) → count_by is_begin (m
 begins_counted lines [] = refl
 begins_counted lines (Coming.begins asked ∷ cs) = count_first is_begin (turn_of lines (Coming.begins asked)) (map (turn_of lines) cs) ∙ ap suc (begins_counted lines cs)
 begins_counted lines (Coming.cancels asked ∷ cs) = begins_counted lines cs
-
-drop_all : {A : Type 0} (n : ℕ) (xs : List A) → length xs ≤ n → drop n xs ≡ []
-drop_all zero [] le = refl
-drop_all (suc n) [] le = refl
-drop_all zero (x ∷ xs) le = absurd (omega arith)
-drop_all (suc n) (x ∷ xs) le = drop_all n xs (omega arith)
 
 reached : (n m : ℕ) → n ≤ m → nat_le n m ≡ true
 reached n m le = grind (arith, nat_tests)

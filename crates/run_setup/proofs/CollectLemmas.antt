@@ -1,5 +1,5 @@
 -- Bases that are closed one by one, and what is left of worlds.
-use Rattle.std.proofs.Common.{◌≡◌, ℕ, suc, ◌+◌, ◌-◌, List, [], ◌∷◌, ◌++◌, Bool, true, false, ◌||◌, length, get_or, length-append, map, refl, sym, ap, ◌∙◌, subst, arith}
+use Rattle.std.proofs.Common.{◌≡◌, ℕ, suc, ◌+◌, ◌-◌, List, [], ◌∷◌, ◌++◌, Bool, true, false, length, get_or, length-append, map, refl, sym, ap, ◌∙◌, subst, arith}
 use Rattle.std.specs.List.{All}
 use Rattle.std.proofs.lemmas.List.{length-map}
 use Rattle.std.proofs.lemmas.List.Elements.{All-cons, All-nil, All-push, All-weaker}
@@ -116,14 +116,6 @@ module _ {N : Type 0} where
         All-weaker (IsCellPass ids) (λ (p : SeenPass). (p.cells ≡ ids.cells) × (p.passes ≡ length passes)) (λ p c. (c.cells, c.passes ∙ sym long)) passes
             (subst (λ (l : List SeenPass). All (IsCellPass ids) l) (sym all) each),
       )
-
-pub or-assoc : (a b c : Bool) → (a || b) || c ≡ a || (b || c)
-or-assoc true b c = refl
-or-assoc false b c = refl
-
-pub or-none : (a : Bool) → a || false ≡ a
-or-none true = refl
-or-none false = refl
 
 pub merged-append : (counts : Counts) (xs ys : List Counts) → merged_with counts (xs ++ ys) ≡ merged_with (merged_with counts xs) ys
 merged-append counts [] ys = refl

@@ -1,6 +1,5 @@
 -- Lists whose items are numbered from some first number on.
-use Rattle.std.proofs.Common.{◌≡◌, ℕ, suc, ◌+◌, ◌<◌, List, [], ◌∷◌, ◌++◌, length, get_or, length-append, refl, sym, subst, arith}
-use Rattle.std.specs.List.{All}
+use Rattle.std.proofs.Common.{◌≡◌, ℕ, suc, ◌+◌, ◌<◌, List, [], ◌∷◌, ◌++◌, length, get_or, length-append, sym, subst, arith}
 use Rattle.std.proofs.lemmas.List.{get_or_append_left, get_or_push}
 use mathlib.Core.Logic.{dite}
 use native.Mathlib.Decide.{ℕ_discrete}
@@ -36,15 +35,3 @@ module _ {X : Type 0} (R : ℕ → X → Type 0) where
 
   pub down_rest : (x : X) (xs : List X) → EachDown (x ∷ xs) → EachDown xs
   down_rest x xs e = record { each = λ k j d below is. e.each (suc k) j d (omega (arith, below)) (omega (arith, is)) }
-
-module _ {X : Type 0} (P : X → Type 0) where
-  -- the last item of a list, and the others
-  pub all_last : (xs ys : List X) (y : X) → All P xs → xs ≡ ys ++ y ∷ [] → P y
-  all_last xs ys y all is = subst P (get_or_push ys y y (length ys) refl) (subst (λ (l : List X). All P l) is all (length ys) y (omega (arith, length-append ys (y ∷ []))))
-
-  pub all_front : (xs ys : List X) (y : X) → All P xs → xs ≡ ys ++ y ∷ [] → All P ys
-  all_front xs ys y all is = λ k d below. subst P (get_or_append_left ys (y ∷ []) d k below) (subst (λ (l : List X). All P l) is all k d (omega (arith, below, length-append ys (y ∷ []))))
-
-pub none_left : {X : Type 0} (xs : List X) → length xs ≡ 0 → xs ≡ []
-none_left [] none = refl
-none_left (x ∷ xs) none = absurd (omega (arith, none))

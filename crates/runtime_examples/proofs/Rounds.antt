@@ -6,6 +6,7 @@ use Rattle.std.proofs.lemmas.Bool.{OnTrue_from}
 use Rattle.fan_base.specs.declared.number.ExecId.{ExecId}
 use Rattle.std.specs.List.{All}
 use Rattle.std.proofs.lemmas.List.Elements.{All-head, All-tail}
+use Rattle.std.proofs.lemmas.List.{nil_from_length}
 use Rattle.fan_base.specs.declared.number.JobId.{JobId}
 use Rattle.fan_base.specs.declared.number.Mark.{Mark}
 use Rattle.job_trait.specs.declared.job.Head.{Head}
@@ -19,8 +20,9 @@ use Rattle.event_base.specs.Calls.{with_timer}
 use Rattle.event_base.specs.Laws.{KeepsBase}
 use Rattle.event_base.specs.Closing.{RestSeen, IsClosing}
 use Rattle.event_base.specs.Seen.{AgendaSeen, BaseSeen, NoteSeen, new_agenda, new_base, settled}
-use Rattle.event_base.specs.Turns.{Turn, Place, LeavesAgenda, TakesBefore, TakesLoop, TurnsThrough, jobs_of}
+use Rattle.event_base.specs.Turns.{Turn, Place, LeavesAgenda, TakesBefore, TurnsThrough, jobs_of}
 use Rattle.event_base.specs.Rounds.{Phases, TicksThrough, IsTick, IsCutRound, IsWholeRound, HasNotBegun, in_phase, ticked, due_next}
+use Rattle.event_base.proofs.Messages.{no_turns, nothing_runs}
 
 -- the messages of the one sender are all
 pub all_of_one : {M : Type 0} (xs : List (Stamped M)) → All (λ x. x.stamp.sender < 1) xs → messages_of 0 xs ≡ map (λ x. x.message) xs
@@ -31,15 +33,7 @@ all_of_one {M} (x ∷ xs) h =
     let rest = all_of_one xs (All-tail P x xs h) in
     grind (arith, zero_is, rest)
 
-none_of_length : {X : Type 0} (xs : List X) → length xs ≡ 0 → xs ≡ []
-none_of_length [] e = refl
-none_of_length (x ∷ xs) e = absurd (omega arith)
-
 module _ {W J : Type 0} (head : J → Head) (runs : JobId → Place W J → Mark → Place W J → Type 0) where
-  no_turns : (turns : List (Turn J)) → jobs_of turns ≡ [] → turns ≡ []
-  no_turns [] e = refl
-  no_turns (t ∷ ts) e = absurd cc
-
   -- one turn is a run of its job
   one_turn : (p q : Place W J) (job : J) (turns : List (Turn J)) → jobs_of turns ≡ job ∷ [] → TurnsThrough LeavesAgenda head runs p turns q
       → (mark : Mark) × runs (head job).id p mark q
@@ -56,13 +50,6 @@ module _ {W J : Type 0} (head : J → Head) (runs : JobId → Place W J → Mark
   one_tick p q (turns ∷ []) e all = (turns, subst (λ (u : Place W J). IsTick head runs p turns u) all.2 all.1)
   one_tick p q (turns ∷ more ∷ rest) e all = absurd (omega (arith, e))
 
-  -- a loop phase that begins with nothing runs nothing
-  nothing_runs : (p q : Place W J) (turns : List (Turn J)) → p.1.loops ≡ [] → TurnsThrough TakesLoop head runs p turns q → p ≡ q
-  nothing_runs p q [] none all = all
-  nothing_runs p q (t ∷ ts) none all =
-      let some : p.1.loops ≡ t.job ∷ all.1.between.loops = ap (λ (a : AgendaSeen J). a.loops) all.1.stepped in
-      absurd cc
-
 -- each run puts its job's id behind the last one
 abbrev Notes : {J : Type 0} → (JobId → Place (ℕ × ℕ) J → Mark → Place (ℕ × ℕ) J → Type 0) → Type 0
 Notes {J} runs = (id : JobId) (p : Place (ℕ × ℕ) J) (mark : Mark) (q : Place (ℕ × ℕ) J) → runs id p mark q → (q.0 ≡ (p.0.1, id.0)) × (q.1 ≡ p.1)
@@ -78,7 +65,7 @@ module _ {J : Type 0} (head : J → Head) (runs : JobId → Place (ℕ × ℕ) J
       let a : AgendaSeen J = old.agenda in
       let up = whole.up_to_ticks in
       let before : TurnsThrough TakesBefore head runs (w, settled a) [] up.after_before =
-      subst (λ (ts : List (Turn J)). TurnsThrough TakesBefore head runs (w, settled a) ts up.after_before) (no_turns head runs did.before (up.before.jobs ∙ none_before)) up.before.ran.through in
+      subst (λ (ts : List (Turn J)). TurnsThrough TakesBefore head runs (w, settled a) ts up.after_before) (no_turns did.before (up.before.jobs ∙ none_before)) up.before.ran.through in
       let begin : up.after_before ≡ (w, a) = sym before ∙ ap (λ (b : AgendaSeen J). (w, b)) same in
       let messages = subst (λ (u : Place (ℕ × ℕ) J). TurnsThrough LeavesAgenda head runs u did.messages up.after_messages) begin up.messages.ran.through in
       let first = one_turn head runs (w, a) up.after_messages posted did.messages (up.messages.each ∙ message) messages in
@@ -106,7 +93,7 @@ module _ {J : Type 0} (head : J → Head) (runs : JobId → Place (ℕ × ℕ) J
       → v ≡ ((head posted).id.0, (head timed).id.0)
   closed_in_order notes w old round did v new posted timed id end note rest same none_before none_loops wheel none_taken senders zero_is sent whole closing none_left =
       let taken : new.queue.taken ≡ did.took = whole.took.taken ∙ ap (λ (l : List (Stamped J)). l ++ did.took) none_taken in
-      let left : closing.left ≡ [] = none_of_length closing.left (sym closing.left_over ∙ none_left) in
+      let left : closing.left ≡ [] = nil_from_length closing.left (sym closing.left_over ∙ none_left) in
       let P : Sending J → Type 0 = λ e. messages_of e.number new.queue.taken ++ messages_of e.number closing.left ≡ e.sent in
       let of_end : messages_of end.number new.queue.taken ++ messages_of end.number closing.left ≡ end.sent = All-head P end [] closing.whole in
       let of_zero : messages_of 0 did.took ++ messages_of 0 closing.left ≡ end.sent =

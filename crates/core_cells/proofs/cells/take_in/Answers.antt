@@ -1,8 +1,9 @@
-use Rattle.std.proofs.Common.{◌≡◌, ap, ◌∙◌, arith}
+use Rattle.std.proofs.Common.{◌≡◌, ap, ◌∙◌, arith, Some}
+use Rattle.std.proofs.lemmas.List.Elements.{All-pop}
 use Rattle.crossbeam_queue.specs.Passes.{view}
 use Rattle.core_cells.specs.declared.view.View.{View}
 use Rattle.core_cells.specs.Seen.{SeenPass, queue_id}
-use Rattle.core_cells.proofs.Free.{takes_pass_in, took_in, put_in, all_before}
+use Rattle.core_cells.proofs.Free.{takes_pass_in, took_in, put_in}
 use Rattle.core_cells.proofs.cells.take_in.Goals as goal
 
 pub absorb-requires-clause-rule : goal.absorb-requires-clause-rule
@@ -25,7 +26,7 @@ loop-pass-preserved g c =
       omega (arith, i.3, c.in-Some.ensures.cases),
       ap (λ (v : View). v.passes) known ∙ i.4,
       ap (λ (v : View). v.homes) known ∙ i.5,
-      all_before (λ (pass : SeenPass). pass.cells.id ≡ queue_id c.args.free.now) c.loop-pass.passes.items c.pop.new.self.items c.in-Some.pass items i.6,
+      (All-pop (λ (pass : SeenPass). pass.cells.id ≡ queue_id c.args.free.now) c.loop-pass.passes.items c.pop.new.self.items (Some c.in-Some.pass) items i.6).0,
       λ weight. took_in weight (view c.loop-pass.whole) (view c.into_pass.result) (view c.absorb.new.pass) c.loop-pass.passes.items c.pop.new.self.items c.in-Some.pass _ items known (ap (λ (v : View). v.took) pass) (i.7 weight),
       λ weight. put_in weight (view c.loop-pass.whole) (view c.into_pass.result) (view c.absorb.new.pass) c.loop-pass.passes.items c.pop.new.self.items c.in-Some.pass _ items known (ap (λ (v : View). v.put) pass) (i.8 weight),
     )

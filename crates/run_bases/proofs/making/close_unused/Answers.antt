@@ -1,9 +1,10 @@
 use Rattle.std.proofs.Common.{◌≡◌, suc, [], ◌∷◌, ◌++◌, List, map, length, length-append, refl, sym, ap, ◌∙◌, subst, arith}
+use Rattle.std.proofs.lemmas.List.{nil_from_length}
 use Rattle.std.specs.List.{sum_by}
 use Rattle.notify_queue.specs.Ends.{AreNewSenders, Sending}
 use Rattle.event_base.specs.Closing.{held_by, message_of}
 use Rattle.run_bases.specs.Columns.{AreBack}
-use Rattle.run_bases.proofs.Backs.{back_more, last_poster, none_left, sent_push, unused_end}
+use Rattle.run_bases.proofs.Backs.{back_more, last_poster, sent_push, unused_end}
 use Rattle.run_bases.proofs.making.close_unused.Goals as goal
 
 pub posters-init : goal.posters-init
@@ -13,7 +14,7 @@ posters-init g c =
     let ends = c.args.column.ends.items in
     let column = r.2 in
     let exec_is : c.args.base.agenda.exec ≡ r.0 = ap (λ b. b.agenda.exec) r.1.is_new in
-    let none : ends ≡ [] = none_left ends (omega (arith, column.back.as_many)) in
+    let none : ends ≡ [] = nil_from_length ends (omega (arith, column.back.as_many)) in
     record {
       left = (refl, λ number below. column.posters.1 number (omega (arith, below, column.posters.0)));
       back = subst (λ x. AreBack g.J.Headed.head queue x c.args.senders (length c.args.column.posters.items) ends) (sym exec_is)
@@ -49,6 +50,6 @@ pub end-requires-2 : goal.end-requires-2
 end-requires-2 g c =
     let e = c.close-rest.ensures in
     let i = c.posters.invariant in
-    let none : e.left ≡ [] = none_left e.left (omega (arith, e.put, i.unused, e.all, e.left_over)) in
+    let none : e.left ≡ [] = nil_from_length e.left (omega (arith, e.put, i.unused, e.all, e.left_over)) in
     let held : held_by c.args.base.agenda ≡ [] = ap (λ b. held_by b.agenda) c.requires.1.is_new in
     e.jobs ∙ (ap (λ l. map message_of l ++ held_by c.args.base.agenda) none ∙ held)

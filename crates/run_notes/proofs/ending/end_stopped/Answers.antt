@@ -1,12 +1,13 @@
 use Rattle.std.proofs.Common.{◌++◌, List, sym, subst, map, All, arith}
 use Rattle.std.proofs.lemmas.List.{map-append}
+use Rattle.std.proofs.lemmas.Bool.{true_from_ne_false}
 use Rattle.fan_model.specs.Report.{IsEachOnce}
 use Rattle.fan_model.specs.Tasks.{Run}
 use Rattle.pool_model.specs.Seen.{task_of}
 use Rattle.run_notes.specs.Accounts.{runs_added}
 use Rattle.run_notes.specs.Told.{run_of}
 use Rattle.run_notes.proofs.Accounting.{WasDone, done_append, done_of_ends, each_once, records_of_append, runs_append}
-use Rattle.run_notes.proofs.Leading.{known, known_some, not-false}
+use Rattle.run_notes.proofs.Leading.{known, known_some}
 use Rattle.run_notes.proofs.ending.end_stopped.Goals as goal
 
 pub returns-clause-fact : goal.returns-clause-fact
@@ -39,5 +40,5 @@ returns-clause-missed g c =
     let many = (c.stop_accounts_for_each.ensures _ _ _ _ _ c.requires.stopping s.all).many in
     let back = c.run_back-records.ensures in (
       λ missed. omega (arith, back.missed missed, many, s.accepted),
-      λ few. not-false c.run_back-records.result.1 (λ whole. omega (arith, back.whole whole, many, s.accepted, few)),
+      λ few. true_from_ne_false c.run_back-records.result.1 (λ whole. omega (arith, back.whole whole, many, s.accepted, few)),
     )

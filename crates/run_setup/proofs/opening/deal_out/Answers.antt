@@ -1,4 +1,5 @@
 use Rattle.std.proofs.Common.{◌≡◌, ◌+◌, ℕ, List, [], ◌∷◌, length, refl, sym, ap, ◌∙◌, subst, arith}
+use Rattle.std.proofs.lemmas.List.{nil_from_length}
 use Rattle.fan_model.specs.Tasks.{pool_exec, printer_exec}
 use Rattle.fan_parts.specs.declared.jobs.PrintJob.{PrintJob}
 use Rattle.notify_queue.specs.Ends.{Sending}
@@ -7,7 +8,6 @@ use Rattle.prio_pool.specs.Made.{IsNewPool, new_workers}
 use Rattle.run_setup.specs.Opening.{HasOpened}
 use Rattle.run_setup.specs.Rooms.{HasRooms}
 use Rattle.run_setup.proofs.DealLemmas.{poster-new}
-use Rattle.run_setup.proofs.Each.{none_left}
 use Rattle.run_setup.proofs.OpenedLemmas.{dealing-first, ids_of, only-one, opened-bases, opened-column, opened-columns, opened-new, opened-workers}
 use Rattle.run_setup.proofs.opening.deal_out.Goals as goal
 
@@ -118,7 +118,7 @@ returns-clause-setup g c =
           columns = left.columns;
           printer = c.take_one.ensures.column ids.printer (printer_exec asked.bases) (asked.bases + 1) 0 (asked.bases + 1) one_left.is;
           no_notes = r.no_notes;
-          no_passes = none_left c.next_world-world.new.self.passes.items left.passes;
+          no_passes = nil_from_length c.next_world-world.new.self.passes.items left.passes;
           for_notes = r.for_notes;
           for_passes = left.for_passes;
         };

@@ -1,9 +1,9 @@
 use Rattle.std.proofs.Common.{◌≡◌, ℕ, true, false, Option, Some, None, [], ◌∷◌, sym, ap, ◌∙◌, eqb, map, filter}
 use Rattle.std.specs.Option.{option_eq}
-use Rattle.std.proofs.lemmas.Bool.{eqb-true}
+use Rattle.std.proofs.lemmas.Bool.{eqb-true, eq-eqb}
 use Rattle.query_timers.specs.declared.query.DelayedQuery.{DelayedQuery}
 use Rattle.query_timers.specs.Seen.{WaitersSeen, has_number}
-use Rattle.query_timers.proofs.Numbers.{nothing_fires, same_yes, seen_fires}
+use Rattle.query_timers.proofs.Numbers.{nothing_fires, seen_fires}
 use Rattle.query_timers.proofs.waiters.Waiters.fire.Goals as goal
 
 is_there : (o : Option ℕ) (t : ℕ) → option_eq eqb o (Some t) ≡ true → o ≡ Some t
@@ -14,7 +14,7 @@ is_not_there : (o : Option ℕ) (t : ℕ) → option_eq eqb o (Some t) ≡ false
 is_not_there None t h e = absurd cc
 is_not_there (Some d) t h e =
     let same : d ≡ t = cc in
-    let both : true ≡ false = sym (same_yes t d same) ∙ h in
+    let both : true ≡ false = sym (eq-eqb d t same) ∙ h in
     absurd cc
 
 pub returns-in-Some : goal.returns-in-Some

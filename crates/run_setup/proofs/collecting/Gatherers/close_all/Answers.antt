@@ -1,4 +1,6 @@
 use Rattle.std.proofs.Common.{◌≡◌, ℕ, ◌-◌, ◌||◌, Bool, suc, List, [], ◌∷◌, length, length-append, map, sym, ap, ◌∙◌, subst, arith}
+use Rattle.std.proofs.lemmas.List.{nil_from_length}
+use Rattle.std.proofs.Math.Bool.{or-false, or_assoc}
 use Rattle.std.specs.List.{list_any}
 use Rattle.std.specs.Vec.Iter.{into_iter_items}
 use Rattle.core_word.specs.Count.{Counts}
@@ -7,8 +9,8 @@ use Rattle.fan_parts.specs.declared.jobs.GatherJob.{GatherJob}
 use Rattle.run_bases.specs.declared.rows.Column.{Column}
 use Rattle.run_threads.specs.declared.gatherer.GatherSlot.{GatherSlot}
 use Rattle.run_setup.specs.Closing.{AreColumnsBack, AreGathered, IsFullColumn, IsGatheredSlot, IsPrinterBack, merged, merged_with}
-use Rattle.run_setup.proofs.CollectLemmas.{BasesSoFar, IsEmptiedAt, bases-more, bases-next, bases-none, notes-all, or-assoc, or-none, slot_refused, slot_tally}
-use Rattle.run_setup.proofs.Each.{EachFrom, each_first, each_none, each_push, none_left}
+use Rattle.run_setup.proofs.CollectLemmas.{BasesSoFar, IsEmptiedAt, bases-more, bases-next, bases-none, notes-all, slot_refused, slot_tally}
+use Rattle.run_setup.proofs.Each.{EachFrom, each_first, each_none, each_push}
 use Rattle.run_setup.proofs.SlotLemmas.{neither}
 use Rattle.run_setup.proofs.collecting.Gatherers.close_all.Goals as goal
 
@@ -79,7 +81,7 @@ loop-slot-preserved g c =
     record {
       room = omega (arith, i.room, c.put.ensures.capacity);
       refused = ap (λ (b : Bool). b || list_any slot_refused rest) (c.put.ensures.refused ∙ ap (λ (b : Bool). self.counted.refused || b) c.close_slot-end.ensures.refused)
-          ∙ (or-assoc self.counted.refused (slot_refused slot) (list_any slot_refused rest)
+          ∙ (or_assoc self.counted.refused (slot_refused slot) (list_any slot_refused rest)
           ∙ (ap (λ (l : List (GatherSlot g.row.N.Denot g.N.RunName)). self.counted.refused || list_any slot_refused l) (sym next) ∙ i.refused));
       calm = λ all. (neither (slot_refused slot) (list_any slot_refused rest) (ap (λ (l : List (GatherSlot g.row.N.Denot g.N.RunName)). list_any slot_refused l) (sym next) ∙ i.calm all)).1;
       tally = λ all.
@@ -114,16 +116,16 @@ returns-clause-emptied g c = λ all. notes-all c.loop-slot.self.notes.items (c.l
 
 pub returns-clause-printer : goal.returns-clause-printer
 returns-clause-printer g c = λ ids bases are back printer.
-    let none = none_left (into_iter_items c.loop-slot.left) (omega (arith, c.in_default.ensures.cases.0, c.loop-slot.left.rest.ok.0)) in
+    let none = nil_from_length (into_iter_items c.loop-slot.left) (omega (arith, c.in_default.ensures.cases.0, c.loop-slot.left.rest.ok.0)) in
     subst (λ (l : List (GatherSlot g.row.N.Denot g.N.RunName)). IsPrinterBack g.N.RunName.asked ids (suc (length l)) c.loop-slot.self.printer) none (c.loop-slot.invariant.so_far ids bases are back printer).printer_is
 
 pub returns-clause-tally : goal.returns-clause-tally
 returns-clause-tally g c = λ all.
-    let none = none_left (into_iter_items c.loop-slot.left) (omega (arith, c.in_default.ensures.cases.0, c.loop-slot.left.rest.ok.0)) in
+    let none = nil_from_length (into_iter_items c.loop-slot.left) (omega (arith, c.in_default.ensures.cases.0, c.loop-slot.left.rest.ok.0)) in
     ap (λ (l : List (GatherSlot g.row.N.Denot g.N.RunName)). merged_with c.loop-slot.self.counted.tally (map slot_tally l)) (sym none) ∙ c.loop-slot.invariant.tally all
 
 pub returns-clause-refused : goal.returns-clause-refused
 returns-clause-refused g c =
-    let none = none_left (into_iter_items c.loop-slot.left) (omega (arith, c.in_default.ensures.cases.0, c.loop-slot.left.rest.ok.0)) in
+    let none = nil_from_length (into_iter_items c.loop-slot.left) (omega (arith, c.in_default.ensures.cases.0, c.loop-slot.left.rest.ok.0)) in
     let refused = c.loop-slot.self.counted.refused in
-    sym (or-none refused) ∙ (ap (λ (l : List (GatherSlot g.row.N.Denot g.N.RunName)). refused || list_any slot_refused l) (sym none) ∙ c.loop-slot.invariant.refused)
+    sym (or-false refused) ∙ (ap (λ (l : List (GatherSlot g.row.N.Denot g.N.RunName)). refused || list_any slot_refused l) (sym none) ∙ c.loop-slot.invariant.refused)
