@@ -5,7 +5,8 @@ use Rattle.std.specs.declared.alloc.Global.{Global}
 use Rattle.std.proofs.lemmas.List.{reverse-append}
 use Rattle.crossbeam_queue.specs.SegTies.{SegId}
 use Rattle.task_queue.specs.Seen.{AdderSeen, GatheredSeen}
-use Rattle.prio_pool.specs.Gathering.{each_with, behind_with, only_adder, HasGathered}
+use Rattle.prio_pool.specs.Gathering.{each_with, behind_with, only_adder, HasGathered, ChangedAt}
+use Rattle.prio_pool.proofs.Taking.{got_is}
 
 module _ {G X : Type 0} (f : G → X → G) where
   -- one more, in front of the others
@@ -36,6 +37,14 @@ pub has_gathered : (gs : List GatheredSeen) (k : ℕ) (queue : SegId Global) →
 has_gathered [] k queue at = cc
 has_gathered (g ∷ gs) zero queue at = record { one = g; at = refl; of_queue = ap (λ (o : Option (SegId Global)). unwrap_or o g.queue) at }
 has_gathered (g ∷ gs) (suc k) queue at = let h = has_gathered gs k queue at in record { one = h.one; at = h.at; of_queue = h.of_queue }
+
+-- what was found at its place is of its queue, and was changed there
+module _ (old : List GatheredSeen) (k : ℕ) (queue : SegId Global) (h : HasGathered old k queue) (found : GatheredSeen) (is : found ≡ get_or old k found) where
+  pub found_queue : found.queue ≡ queue
+  found_queue = ap (λ (g : GatheredSeen). g.queue) (is ∙ got_is old k h.one found h.at) ∙ h.of_queue
+
+  pub found_changed : (f : GatheredSeen → GatheredSeen) (new : GatheredSeen) → new ≡ f found → ChangedAt f old k (set old k new)
+  found_changed f new made = record { one = h.one; at = h.at; new_is = ap (set old k) (made ∙ ap f (is ∙ got_is old k h.one found h.at)) }
 
 -- the queue at this place is this one
 pub same_queue : (qs : List (SegId Global)) (k : ℕ) (a q : SegId Global) → slice_get qs k ≡ Some a → q ≡ get_or qs k q → a ≡ q

@@ -1,5 +1,6 @@
 -- New passes.
-use Rattle.std.proofs.Common.{◌≡◌, ℕ, suc, ◌+◌, ◌<◌, List, [], ◌∷◌, length, map, refl, sym, ap, ◌∙◌, subst}
+use Rattle.std.proofs.Common.{◌≡◌, ℕ, suc, ◌+◌, ◌<◌, List, [], ◌∷◌, length, map, get_or, Some, refl, sym, ap, ◌∙◌, subst}
+use Rattle.std.specs.Prelude.{slice_get}
 use Rattle.std.specs.List.{All, sum_by, range_with_len}
 use Rattle.std.specs.declared.alloc.Global.{Global}
 use Rattle.crossbeam_queue.specs.SegTies.{SegId}
@@ -8,10 +9,15 @@ use Rattle.pool_model.specs.Passes.{adds_of, add_with, pushed_by}
 use Rattle.pool_model.specs.Seen.{PassSeen}
 use Rattle.pool_model.specs.Tasks.{Task, Add, upwards, numbered}
 use Rattle.prio_pool.proofs.Lists.{All-cons, All-none}
-use Rattle.task_queue.specs.Seen.{AdderSeen, TakerSeen}
+use Rattle.prio_pool.proofs.Taking.{got_is}
+use Rattle.task_queue.specs.Seen.{AdderSeen, MakerSeen, TakerSeen}
 use Rattle.prio_pool.specs.declared.make.Counts.{Counts}
 use Rattle.prio_pool.specs.Adders.{AreAdds}
-use Rattle.prio_pool.specs.Made.{new_adders, new_adder, new_takers, new_taker, nothing_on}
+use Rattle.prio_pool.specs.Made.{maker, new_adders, new_adder, new_takers, new_taker, nothing_on}
+
+-- the maker that was found at this place
+pub maker_at : (c : Counts) (q : SegId Global) (makers : List MakerSeen) (k : ℕ) (found : MakerSeen) → slice_get makers k ≡ Some (maker c q) → found ≡ get_or makers k found → found ≡ maker c q
+maker_at c q makers k found at is = is ∙ got_is makers k (maker c q) found at
 
 pub adder_queues : (c : Counts) (qs : List (SegId Global)) → map (λ (a : AdderSeen). a.queue) (new_adders c qs) ≡ qs
 adder_queues c [] = refl

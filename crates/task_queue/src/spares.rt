@@ -30,19 +30,29 @@ impl<X> Bundle<X> {
     fn pop(&mut self) -> Option<Block<X>> {
         let last = self.count.checked_sub(1)?;
         self.count = last;
-        self.blocks.get_mut(last)?.take()
+        take_at(&mut self.blocks, last)
     }
 
     // Gives it back where there is no room.
     fn push(&mut self, block: Block<X>) -> Option<Block<X>> {
-        match self.blocks.get_mut(self.count) {
-            Some(place) => {
-                *place = Some(block);
-                self.count = self.count.saturating_add(1);
-                None
-            }
-            None => Some(block),
+        let over = put_at(&mut self.blocks, self.count, block);
+        if over.is_none() {
+            self.count = self.count.saturating_add(1);
         }
+        over
+    }
+}
+
+// Takes what lies at a place. Its type is a parameter, so that this is proved without what a block is.
+fn take_at<T>(places: &mut [Option<T>], at: usize) -> Option<T> {
+    places.get_mut(at)?.take()
+}
+
+// Puts an item at a place, and gives back what lay there, or the item where there is no such place.
+fn put_at<T>(places: &mut [Option<T>], at: usize, item: T) -> Option<T> {
+    match places.get_mut(at) {
+        Some(place) => place.replace(item),
+        None => Some(item),
     }
 }
 

@@ -1,14 +1,14 @@
-use Rattle.std.proofs.Common.{◌∙◌, set, ap}
+use Rattle.std.proofs.Common.{arith}
 use Rattle.task_queue.specs.Seen.{GatheredSeen, and_adder}
-use Rattle.prio_pool.proofs.Taking.{got_is}
+use Rattle.prio_pool.proofs.Gathered.{found_queue, found_changed}
 use Rattle.prio_pool.proofs.gather.put_adder_at.Goals as goal
+
+pub put_adder-requires : goal.put_adder-requires
+put_adder-requires g c =
+    let queue = found_queue c.args.gathered.now.items c.args.number c.args.queue.now c.requires.at c.index_mut.result.now c.index_mut.ensures.value in
+    (omega arith, (queue, c.requires.queue))
 
 pub returns : goal.returns
 returns g c =
-    let old = c.args.gathered.now.items in
-    let is = c.index_mut.ensures.value ∙ got_is old c.args.number c.requires.at.one c.index_mut.result.now c.requires.at.at in
-    record {
-      one = c.requires.at.one;
-      at = c.requires.at.at;
-      new_is = ap (set old c.args.number) (c.put_adder.ensures ∙ ap (λ (x : GatheredSeen). and_adder x c.args.adder) is);
-    }
+    found_changed c.args.gathered.now.items c.args.number c.args.queue.now c.requires.at c.index_mut.result.now c.index_mut.ensures.value
+    (λ (x : GatheredSeen). and_adder x c.args.adder) c.put_adder.new.gathered c.put_adder.ensures

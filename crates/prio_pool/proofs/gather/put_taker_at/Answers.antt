@@ -1,14 +1,14 @@
-use Rattle.std.proofs.Common.{◌∙◌, set, ap}
+use Rattle.std.proofs.Common.{arith}
 use Rattle.task_queue.specs.Seen.{GatheredSeen, and_taker}
-use Rattle.prio_pool.proofs.Taking.{got_is}
+use Rattle.prio_pool.proofs.Gathered.{found_queue, found_changed}
 use Rattle.prio_pool.proofs.gather.put_taker_at.Goals as goal
+
+pub put_taker-requires : goal.put_taker-requires
+put_taker-requires g c =
+    let queue = found_queue c.args.gathered.now.items c.args.number c.args.queue.now c.requires.at c.index_mut.result.now c.index_mut.ensures.value in
+    (omega arith, (queue, c.requires.queue))
 
 pub returns : goal.returns
 returns g c =
-    let old = c.args.gathered.now.items in
-    let is = c.index_mut.ensures.value ∙ got_is old c.args.number c.requires.at.one c.index_mut.result.now c.requires.at.at in
-    record {
-      one = c.requires.at.one;
-      at = c.requires.at.at;
-      new_is = ap (set old c.args.number) (c.put_taker.ensures ∙ ap (λ (x : GatheredSeen). and_taker x c.args.taker) is);
-    }
+    found_changed c.args.gathered.now.items c.args.number c.args.queue.now c.requires.at c.index_mut.result.now c.index_mut.ensures.value
+    (λ (x : GatheredSeen). and_taker x c.args.taker) c.put_taker.new.gathered c.put_taker.ensures
