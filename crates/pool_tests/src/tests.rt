@@ -1,7 +1,7 @@
 // Pools on one thread and on several.
 ghost use Rattle.std.specs.Prelude.{◌≡◌, ◌⊎◌, ◌+◌, ◌<◌, ◌≤◌, ◌∷◌, ◌++◌, [], length, All};
 ghost use Rattle.pool_model.specs.Passes.{AreAllPasses, AreAllEnds, adds_of};
-ghost use Rattle.prio_pool.specs.Made.{new_passes, new_workers};
+ghost use Rattle.prio_pool.specs.Made.{new_ends, new_passes, new_workers};
 
 use fan_base::{ExecId, JobId, Mark, OpenGate, Parcel};
 use job_trait::{Head, Headed, Job};
@@ -97,6 +97,26 @@ fn add<R: Abort + Wait>(
     }
 }
 
+// Adds the first notes of a pass, each with its priority and id. (A loop, since each add in a row of calls makes the next one dearer to prove.)
+fn add_rows<R: Abort + Wait>(
+    rt: &R,
+    pool: &Pool<Note>,
+    keep: &KeepAlive,
+    pass: &mut PoolPass<Note>,
+    rows: &[(i8, u64)],
+)
+    requires keep { keep.now.count ≡ pool.now.count }
+    requires pass { (pass.old.pool ≡ pool.now.id) × (adds_of pass.old ≡ []) }
+    requires exec { pool.now.exec.0 ≡ 7 }
+    requires few { length rows.now ≤ 1000 }
+    ensures { pass.new.pool ≡ pass.old.pool }
+{
+    for index in 0..rows.len() {
+        let (priority, id) = rows[index];
+        assert_eq!(rt; add(rt, pool, keep, pass, priority, id), (0, index as u64));
+    }
+}
+
 // A list of one.
 fn list_of<X, R: Abort>(rt: &R, alloc: Global, item: X) -> Vec<X>
     ensures { result.items ≡ item ∷ [] }
@@ -134,6 +154,95 @@ fn all_ends<J: Headed, R: Abort>(
     list_of(rt, alloc, end)
 }
 
+// Lets the keep-alive go, and begins to join. (Tests call the pool by such functions, which tell them no more than they need.)
+fn begin_to_join<J: Headed, R: Abort + Wait>(
+    rt: &R,
+    alloc: Global,
+    pool: &Pool<J>,
+    owner: KeepOwner,
+    keep: KeepAlive,
+    pass: PoolPass<J>,
+) -> Joining<J>
+    requires owner { owner.count ≡ pool.now.count }
+    requires pass { pass.pool ≡ pool.now.id }
+    requires one { pool.now.adders ≡ 1 }
+    ensures passes { AreAllPasses pool.now.id pool.now.adders result.passes }
+    ensures pool { result.pool ≡ pool.now.id }
+{
+    let _ = keep.release();
+    let passes = all_passes(rt, alloc, pool, pass);
+    pool.begin_join(rt, owner, passes)
+}
+
+// Lets the keep-alive go, and begins to stop.
+fn begin_to_stop<J: Headed, R: Abort + Wait>(
+    rt: &R,
+    alloc: Global,
+    pool: &Pool<J>,
+    owner: KeepOwner,
+    keep: KeepAlive,
+    pass: PoolPass<J>,
+) -> Stopping<J>
+    requires owner { owner.count ≡ pool.now.count }
+    requires pass { pass.pool ≡ pool.now.id }
+    requires one { pool.now.adders ≡ 1 }
+    ensures passes { AreAllPasses pool.now.id pool.now.adders result.passes }
+    ensures pool { result.pool ≡ pool.now.id }
+{
+    let _ = keep.release();
+    let passes = all_passes(rt, alloc, pool, pass);
+    pool.begin_stop(rt, owner, passes)
+}
+
+// Works with the one worker of a pool.
+fn work_at<J: Job<Vec<u64>>, R: Abort + Wait>(
+    rt: &R,
+    alloc: Global,
+    pool: &Pool<J>,
+    pass: WorkerPass<J>,
+    world: &mut Vec<u64>,
+) -> Vec<WorkerEnd<J>>
+    requires pass { pass.pool ≡ pool.now.id }
+    requires one { pool.now.workers ≡ 1 }
+    ensures { AreAllEnds pool.now.id pool.now.workers result.items }
+{
+    let end = pool.work(rt, pass, world, &OpenGate);
+    all_ends(rt, alloc, pool, end)
+}
+
+// Joins a pool that has no helpers.
+fn end_join<J: Job<Vec<u64>>, R: Wait>(
+    rt: &R,
+    alloc: Global,
+    pool: Pool<J>,
+    joining: Joining<J>,
+    ends: Vec<WorkerEnd<J>>,
+    world: &mut Vec<u64>,
+) -> PoolEnd<J>
+    requires pool { joining.pool ≡ pool.id }
+    requires passes { AreAllPasses pool.id pool.adders joining.passes }
+    requires ends { AreAllEnds pool.id pool.workers ends.items }
+    requires helpers { pool.helpers ≡ 0 }
+{
+    pool.join(rt, joining, ends, Vec::new(alloc), world)
+}
+
+// Stops a pool that has no helpers.
+fn end_stop<J: Headed, R: Wait>(
+    rt: &R,
+    alloc: Global,
+    pool: Pool<J>,
+    stopping: Stopping<J>,
+    ends: Vec<WorkerEnd<J>>,
+) -> PoolEnd<J>
+    requires pool { stopping.pool ≡ pool.id }
+    requires passes { AreAllPasses pool.id pool.adders stopping.passes }
+    requires ends { AreAllEnds pool.id pool.workers ends.items }
+    requires helpers { pool.helpers ≡ 0 }
+{
+    pool.stop(rt, stopping, ends, Vec::new(alloc))
+}
+
 // The ids of the records, in order, and how many there are.
 fn ids<R: Abort>(rt: &R, alloc: Global, mut ran: Runs) -> Vec<u64> {
     let mut ids = Vec::new(alloc);
@@ -144,23 +253,40 @@ fn ids<R: Abort>(rt: &R, alloc: Global, mut ran: Runs) -> Vec<u64> {
     ids
 }
 
+// The one item of a list. Its type is a parameter, so that this is proved without what a pass is.
+fn only_of<X, R: Abort>(rt: &R, mut list: Vec<X>) -> X
+    requires { length list.items ≡ 1 }
+    ensures { list.items ≡ result ∷ [] }
+{
+    let Some(item) = list.pop() else {
+        rt.panic("an item")
+    };
+    list.destroy_empty();
+    item
+}
+
 // The one pass of a new pool with one adder.
-#[tactic(auto, using(crate::proofs::Lists::popped))]
-fn only_pass<J: Headed, R: Abort>(
-    rt: &R,
-    pool: &Pool<J>,
-    mut adders: Vec<PoolPass<J>>,
-) -> PoolPass<J>
+fn only_pass<J: Headed, R: Abort>(rt: &R, pool: &Pool<J>, adders: Vec<PoolPass<J>>) -> PoolPass<J>
     requires { adders.items ≡ new_passes pool.now.id 0 1 }
     ensures { (result.pool ≡ pool.now.id) × (adds_of result ≡ []) }
 {
     let _ = pool;
     new_passes_are_unused();
-    if let Some(pass) = adders.pop() {
-        adders.destroy_empty();
-        return pass;
-    }
-    rt.panic("a pass")
+    only_of(rt, adders)
+}
+
+// The one helper's pass of a new pool with one worker and one helper.
+fn only_helper<J: Headed, R: Abort>(
+    rt: &R,
+    pool: &Pool<J>,
+    helpers: Vec<HelperPass<J>>,
+) -> HelperPass<J>
+    requires { helpers.items ≡ new_ends pool.now.id 1 1 }
+    ensures { result.pool ≡ pool.now.id }
+{
+    let _ = pool;
+    new_passes_are_unused();
+    only_of(rt, helpers)
 }
 
 // The workers' passes of a new pool.
@@ -245,21 +371,16 @@ fn the_highest_queue_runs_first(rt: HostRuntime) {
         mut pass,
         worker,
     } = open_pool(&rt, alloc);
-    assert_eq!(rt; add(&rt, &pool, &keep, &mut pass, 0, 10), (0, 0));
-    assert_eq!(rt; add(&rt, &pool, &keep, &mut pass, -128, 11), (0, 1));
-    assert_eq!(rt; add(&rt, &pool, &keep, &mut pass, 127, 12), (0, 2));
-    assert_eq!(rt; add(&rt, &pool, &keep, &mut pass, 0, 13), (0, 3));
-    let _ = keep.release();
-    let passes = all_passes(&rt, alloc, &pool, pass);
-    let joining = pool.begin_join(&rt, owner, passes);
+    let rows = [(0, 10), (-128, 11), (127, 12), (0, 13)];
+    add_rows(&rt, &pool, &keep, &mut pass, &rows);
+    let joining = begin_to_join(&rt, alloc, &pool, owner, keep, pass);
     let mut world = Vec::new(alloc);
-    let end = pool.work(&rt, worker, &mut world, &OpenGate);
-    let ends = all_ends(&rt, alloc, &pool, end);
+    let ends = work_at(&rt, alloc, &pool, worker, &mut world);
     let PoolEnd {
         accepted,
         ran,
         mut returned,
-    } = pool.join(&rt, joining, ends, Vec::new(alloc), &mut world);
+    } = end_join(&rt, alloc, pool, joining, ends, &mut world);
     assert_eq!(rt;
         (accepted, ran.len(), ran.stopped(), returned.len()),
         (4, 4, false, 0)
@@ -282,19 +403,15 @@ fn a_stopped_pool_hands_its_tasks_back(rt: HostRuntime) {
         mut pass,
         worker,
     } = open_pool(&rt, alloc);
-    assert_eq!(rt; add(&rt, &pool, &keep, &mut pass, 0, 20), (0, 0));
-    assert_eq!(rt; add(&rt, &pool, &keep, &mut pass, 0, 21), (0, 1));
-    let _ = keep.release();
-    let passes = all_passes(&rt, alloc, &pool, pass);
-    let stopping = pool.begin_stop(&rt, owner, passes);
+    add_rows(&rt, &pool, &keep, &mut pass, &[(0, 20), (0, 21)]);
+    let stopping = begin_to_stop(&rt, alloc, &pool, owner, keep, pass);
     let mut world = Vec::new(alloc);
-    let end = pool.work(&rt, worker, &mut world, &OpenGate);
-    let ends = all_ends(&rt, alloc, &pool, end);
+    let ends = work_at(&rt, alloc, &pool, worker, &mut world);
     let PoolEnd {
         accepted,
         ran,
         mut returned,
-    } = pool.stop(&rt, stopping, ends, Vec::new(alloc));
+    } = end_stop(&rt, alloc, pool, stopping, ends);
     assert_eq!(rt;
         (accepted, ran.len(), ran.stopped(), returned.len()),
         (2, 0, true, 2)
@@ -326,17 +443,14 @@ fn an_empty_pool_ends(rt: HostRuntime) {
         pass,
         worker,
     } = open_pool(&rt, alloc);
-    let _ = keep.release();
     let mut world = Vec::new(alloc);
-    let passes = all_passes(&rt, alloc, &pool, pass);
-    let joining = pool.begin_join(&rt, owner, passes);
-    let end = pool.work(&rt, worker, &mut world, &OpenGate);
-    let ends = all_ends(&rt, alloc, &pool, end);
+    let joining = begin_to_join(&rt, alloc, &pool, owner, keep, pass);
+    let ends = work_at(&rt, alloc, &pool, worker, &mut world);
     let PoolEnd {
         accepted,
         ran,
         returned,
-    } = pool.join(&rt, joining, ends, Vec::new(alloc), &mut world);
+    } = end_join(&rt, alloc, pool, joining, ends, &mut world);
     assert_eq!(rt;
         (accepted, ran.len(), returned.len(), world.len()),
         (0, 0, 0, 0)
@@ -363,23 +477,7 @@ fn add_and_begin_join<R: Abort + Wait>(
         let priority = if id % 2 == 0 { 0 } else { 127 };
         let _ = add(rt, pool, &keep, &mut pass, priority, id);
     }
-    let _ = keep.release();
-    let passes = all_passes(rt, alloc, pool, pass);
-    pool.begin_join(rt, owner, passes)
-}
-
-// Works with a world of its own.
-fn work<R: Abort + Wait>(
-    rt: &R,
-    alloc: Global,
-    pool: &Pool<Note>,
-    pass: WorkerPass<Note>,
-) -> WorkerEnd<Note>
-    requires { pass.pool ≡ pool.now.id }
-    ensures { result.pool ≡ pool.now.id }
-{
-    let mut world = Vec::new(alloc);
-    pool.work(rt, pass, &mut world, &OpenGate)
+    begin_to_join(rt, alloc, pool, owner, keep, pass)
 }
 
 // In a parcel a pass or an end can go into a closure.
@@ -430,16 +528,15 @@ struct Large {
     owner: KeepOwner,
     keep: KeepAlive,
     pass: PoolPass<Note>,
-    front: (WorkerPass<Note>, WorkerPass<Note>),
-    back: (WorkerPass<Note>, WorkerPass<Note>),
+    workers: Vec<WorkerPass<Note>>,
 }
 
 fn large_pool<R: Abort>(rt: &R, alloc: Global) -> Large
     ensures pool { (result.pool.adders ≡ 1) × (result.pool.workers ≡ 4) × (result.pool.helpers ≡ 0) × (result.pool.exec.0 ≡ 7) }
     ensures keeps { (result.owner.count ≡ result.pool.count) × (result.keep.count ≡ result.pool.count) }
     ensures pass { (result.pass.pool ≡ result.pool.id) × (adds_of result.pass ≡ []) }
-    ensures front { (result.front.0.pool ≡ result.pool.id) × (result.front.1.pool ≡ result.pool.id) }
-    ensures back { (result.back.0.pool ≡ result.pool.id) × (result.back.1.pool ≡ result.pool.id) }
+    ensures workers { All (λ w. w.pool ≡ result.pool.id) result.workers.items }
+    ensures four { length result.workers.items ≡ 4 }
 {
     let PoolParts {
         pool,
@@ -451,19 +548,13 @@ fn large_pool<R: Abort>(rt: &R, alloc: Global) -> Large
     } = Pool::new(alloc, ExecId(7), 3, 1, 4, 0, 0).expect(rt, "memory");
     helpers.destroy_empty();
     let pass = only_pass(rt, &pool, adders);
-    let mut workers = workers_of(&pool, workers, 4);
-    let fourth = next_worker(rt, &pool, &mut workers);
-    let third = next_worker(rt, &pool, &mut workers);
-    let second = next_worker(rt, &pool, &mut workers);
-    let first = next_worker(rt, &pool, &mut workers);
-    workers.destroy_empty();
+    let workers = workers_of(&pool, workers, 4);
     Large {
         pool,
         owner,
         keep,
         pass,
-        front: (first, second),
-        back: (third, fourth),
+        workers,
     }
 }
 

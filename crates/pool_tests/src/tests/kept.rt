@@ -71,14 +71,13 @@ fn open_trio<R: Abort>(rt: &R, alloc: Global) -> Trio
         keep,
         adders,
         workers,
-        mut helpers,
+        helpers,
     } = Pool::new(alloc, ExecId(7), 3, 1, 1, 1, 0).expect(rt, "memory");
     let pass = only_pass(rt, &pool, adders);
     let mut workers = workers_of(&pool, workers, 1);
     let worker = next_worker(rt, &pool, &mut workers);
     workers.destroy_empty();
-    let helper = helpers.pop().expect(rt, "a pass");
-    helpers.destroy_empty();
+    let helper = only_helper(rt, &pool, helpers);
     Trio {
         pool,
         owner,
@@ -179,9 +178,8 @@ fn add_and_help<R: Abort + Wait>(
         add_kept(rt, pool, &keep, &mut pass, id);
         let _ = help_once(rt, pool, &mut helper, &mut world);
     }
-    let _ = keep.release();
-    let passes = all_passes(rt, alloc, pool, pass);
-    (pool.begin_join(rt, owner, passes), helper.end())
+    let joining = begin_to_join(rt, alloc, pool, owner, keep, pass);
+    (joining, helper.end())
 }
 
 #[test]
@@ -246,6 +244,57 @@ fn back_ids<R: Abort>(rt: &R, alloc: Global, mut returned: Returned<Kept>) -> Ve
     back
 }
 
+// Adds four jobs.
+fn add_four<R: Abort + Wait>(rt: &R, pool: &Pool<Kept>, keep: &KeepAlive, pass: &mut PoolPass<Kept>)
+    requires keep { keep.now.count ≡ pool.now.count }
+    requires pass { (pass.old.pool ≡ pool.now.id) × (adds_of pass.old ≡ []) }
+    requires exec { pool.now.exec.0 ≡ 7 }
+    ensures { pass.new.pool ≡ pass.old.pool }
+{
+    for id in 0..4 {
+        add_kept(rt, pool, keep, pass, id);
+    }
+}
+
+// Stops a pool with a worker and a helper. Of four jobs one ran, and three come back.
+fn end_stopped<R: Abort + Wait>(
+    rt: &R,
+    alloc: Global,
+    pool: Pool<Kept>,
+    stopping: Stopping<Kept>,
+    end: WorkerEnd<Kept>,
+    helped: HelperEnd<Kept>,
+) -> Returned<Kept>
+    requires pool { stopping.pool ≡ pool.id }
+    requires passes { AreAllPasses pool.id pool.adders stopping.passes }
+    requires end { end.pool ≡ pool.id }
+    requires helped { helped.pool ≡ pool.id }
+    requires one { (pool.workers ≡ 1) × (pool.helpers ≡ 1) }
+{
+    let ends = all_ends(rt, alloc, &pool, end);
+    let helped = only_helped(rt, alloc, &pool, helped);
+    let PoolEnd {
+        accepted,
+        ran,
+        returned,
+    } = pool.stop(rt, stopping, ends, helped);
+    assert_eq!(rt;
+        (accepted, ran.len(), ran.stopped(), returned.len()),
+        (4, 1, true, 3)
+    );
+    returned
+}
+
+// Runs the next job that was handed back, and says which it was.
+fn run_back<R: Abort + Wait>(
+    rt: &R,
+    returned: &mut Returned<Kept>,
+    world: &mut Vec<u64>,
+) -> (JobId, Mark) {
+    let record = returned.run_next(rt, world).expect(rt, "a task");
+    (record.job(), record.mark())
+}
+
 #[test]
 fn jobs_that_may_not_be_dropped_come_back(rt: HostRuntime) {
     let alloc = rt.alloc();
@@ -259,28 +308,15 @@ fn jobs_that_may_not_be_dropped_come_back(rt: HostRuntime) {
     } = open_trio(&rt, alloc);
     let mut world = Vec::new(alloc);
     assert!(rt; !help_once(&rt, &pool, &mut helper, &mut world));
-    add_kept(&rt, &pool, &keep, &mut pass, 0);
-    add_kept(&rt, &pool, &keep, &mut pass, 1);
-    add_kept(&rt, &pool, &keep, &mut pass, 2);
-    add_kept(&rt, &pool, &keep, &mut pass, 3);
+    add_four(&rt, &pool, &keep, &mut pass);
     assert!(rt; help_once(&rt, &pool, &mut helper, &mut world));
-    let _ = keep.release();
-    let passes = all_passes(&rt, alloc, &pool, pass);
-    let stopping = pool.begin_stop(&rt, owner, passes);
+    let stopping = begin_to_stop(&rt, alloc, &pool, owner, keep, pass);
     let end = work_kept(&rt, alloc, &pool, worker);
-    let ends = all_ends(&rt, alloc, &pool, end);
-    let helped = only_helped(&rt, alloc, &pool, helper.end());
-    let PoolEnd {
-        accepted,
-        ran,
-        mut returned,
-    } = pool.stop(&rt, stopping, ends, helped);
+    let mut returned = end_stopped(&rt, alloc, pool, stopping, end, helper.end());
     assert_eq!(rt;
-        (accepted, ran.len(), ran.stopped(), returned.len()),
-        (4, 1, true, 3)
+        run_back(&rt, &mut returned, &mut world),
+        (JobId(1), Mark::Done(1))
     );
-    let record = returned.run_next(&rt, &mut world).expect(&rt, "a task");
-    assert_eq!(rt; (record.job(), record.mark()), (JobId(1), Mark::Done(1)));
     assert_eq!(rt;
         back_ids(&rt, alloc, returned).as_slice(),
         [2, 3].as_slice()

@@ -210,28 +210,6 @@ fn four_work_at<R: Abort + Wait + Threads + Sync>(
     four_ends(rt, alloc, pool, (first, second), (third, fourth))
 }
 
-// The passes in one list.
-fn four_passes<R: Abort>(
-    rt: &R,
-    alloc: Global,
-    pool: &Pool<Note>,
-    front: (WorkerPass<Note>, WorkerPass<Note>),
-    back: (WorkerPass<Note>, WorkerPass<Note>),
-) -> Vec<WorkerPass<Note>>
-    requires front { (front.0.pool ≡ pool.now.id) × (front.1.pool ≡ pool.now.id) }
-    requires back { (back.0.pool ≡ pool.now.id) × (back.1.pool ≡ pool.now.id) }
-    ensures passes { All (λ w. w.pool ≡ pool.now.id) result.items }
-    ensures four { length result.items ≡ 4 }
-{
-    let _ = pool;
-    let mut passes = Vec::with_capacity(alloc, 4).expect(rt, "memory");
-    passes.push_reserved(front.0);
-    passes.push_reserved(front.1);
-    passes.push_reserved(back.0);
-    passes.push_reserved(back.1);
-    passes
-}
-
 // Adds tasks, and waits after each so many until all of them have ended, so that the workers go to sleep and are woken in between.
 // Then it begins to join.
 fn add_in_groups<R: Abort + Wait>(
@@ -262,9 +240,7 @@ fn add_in_groups<R: Abort + Wait>(
         }
         await_count(&gate.ended, added);
     }
-    let _ = keep.release();
-    let passes = all_passes(rt, alloc, pool, pass);
-    pool.begin_join(rt, owner, passes)
+    begin_to_join(rt, alloc, pool, owner, keep, pass)
 }
 
 // Adds a thousand tasks, waits until so many have begun where the gate holds any, begins to stop, and then opens the gate.
@@ -291,9 +267,7 @@ fn add_and_stop<R: Abort + Wait>(
     if gate.most < u64::MAX {
         await_count(&gate.begun, gate.most.saturating_add(4));
     }
-    let _ = keep.release();
-    let passes = all_passes(rt, alloc, pool, pass);
-    let stopping = pool.begin_stop(rt, owner, passes);
+    let stopping = begin_to_stop(rt, alloc, pool, owner, keep, pass);
     gate.opened.store(1, Ordering::SeqCst);
     stopping
 }
@@ -318,7 +292,7 @@ fn end_joined<R: Abort + Wait>(
         accepted,
         ran,
         returned,
-    } = pool.join(rt, joining, ends, Vec::new(alloc), &mut world);
+    } = end_join(rt, alloc, pool, joining, ends, &mut world);
     assert_eq!(rt;
         (accepted, ran.len() as u64, returned.len(), world.len()),
         (tasks, tasks, 0, 0)
@@ -334,19 +308,17 @@ fn four_workers_run_a_thousand_tasks(rt: HostRuntime) {
         owner,
         keep,
         pass,
-        front,
-        back,
+        workers,
     } = large_pool(&rt, alloc);
-    let passes = four_passes(&rt, alloc, &pool, front, back);
     let counts = CountGate::new(&rt, alloc, u64::MAX, 1000);
     let joining = add_and_begin_join(&rt, alloc, &pool, owner, keep, pass);
-    let ends = four_work_at(&rt, alloc, &pool, &counts, passes);
+    let ends = four_work_at(&rt, alloc, &pool, &counts, workers);
     let mut world = Vec::new(alloc);
     let PoolEnd {
         accepted,
         ran,
         returned,
-    } = pool.join(&rt, joining, ends, Vec::new(alloc), &mut world);
+    } = end_join(&rt, alloc, pool, joining, ends, &mut world);
     assert_eq!(rt; (accepted, ran.len(), returned.len()), (1000, 1000, 0));
     assert_eq!(rt; counts.passed(), (1000, 0));
     let ids = ids(&rt, alloc, ran);
@@ -363,11 +335,9 @@ fn no_task_is_slept_through(rt: HostRuntime) {
             owner,
             keep,
             pass,
-            front,
-            back,
+            workers,
         } = large_pool(&rt, alloc);
-        let passes = four_passes(&rt, alloc, &pool, front, back);
-        let passes = wrapped(&rt, alloc, passes);
+        let passes = wrapped(&rt, alloc, workers);
         let owner = wrapped(&rt, alloc, owner);
         let keep = wrapped(&rt, alloc, keep);
         let pass = wrapped(&rt, alloc, pass);
@@ -414,11 +384,9 @@ fn a_stop_among_a_thousand_tasks_loses_none(rt: HostRuntime) {
             owner,
             keep,
             pass,
-            front,
-            back,
+            workers,
         } = large_pool(&rt, alloc);
-        let passes = four_passes(&rt, alloc, &pool, front, back);
-        let passes = wrapped(&rt, alloc, passes);
+        let passes = wrapped(&rt, alloc, workers);
         let owner = wrapped(&rt, alloc, owner);
         let keep = wrapped(&rt, alloc, keep);
         let pass = wrapped(&rt, alloc, pass);
@@ -452,7 +420,7 @@ fn a_stop_among_a_thousand_tasks_loses_none(rt: HostRuntime) {
             accepted,
             ran,
             returned,
-        } = pool.stop(&rt, stopping, ends, Vec::new(alloc));
+        } = end_stop(&rt, alloc, pool, stopping, ends);
         let records = ran.len();
         assert_eq!(rt;
             (
