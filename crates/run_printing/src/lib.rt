@@ -2,10 +2,10 @@
 //! go out in the order of answers, as far as the sink takes them.
 //!
 //! ```text
-//! gathering bases --Reply(fire)--┐
-//!                                ├--> queue --> print_replies: take, unpack, print  --> sink
-//! front ----------Cancelled------┘              until all posters have ended
-//!                                           close_printing, with the posters' ends --> PrintEnd: outcome, note, tally
+//! gathering bases --Replied(fire)--┐
+//!                                  ├--> queue --> print_replies: take, unpack, print  --> sink
+//! front ----------Cancelled--------┘              until all posters have ended
+//!                                             close_printing, with the posters' ends --> PrintEnd: outcome, note, tally
 //! ```
 //!
 //! [`print_replies`] runs the base until it is closed, in the printer's thread; [`close_printing`] comes once all posters have ended. What is proved, by
