@@ -67,7 +67,8 @@ module _ {W : Type 0} (runs : JobId → W → Mark → W → Type 0) where
       → (w v : W) (xs : List Ran) → Leads runs w xs v → P w v
   leads_relates P at_rest joined each w v xs leads = through_relates P at_rest joined each w v xs leads.through
 
-are_marks-append : (hs gs : List Head) (xs ys : List Ran) → AreMarksOf hs xs → AreMarksOf gs ys → AreMarksOf (hs ++ gs) (xs ++ ys)
+-- marks of a list after marks of a list
+pub are_marks-append : (hs gs : List Head) (xs ys : List Ran) → AreMarksOf hs xs → AreMarksOf gs ys → AreMarksOf (hs ++ gs) (xs ++ ys)
 are_marks-append [] gs [] ys first second = second
 are_marks-append [] gs (x ∷ xs) ys first second = absurd first
 are_marks-append (h ∷ hs) gs [] ys first second = absurd first

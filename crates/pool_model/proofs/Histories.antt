@@ -13,7 +13,7 @@ accepts-append (accepted e ∷ h) k = ap (λ (l : List Entry). e ∷ l) (accepts
 accepts-append (taken w e ∷ h) k = accepts-append h k
 accepts-append (left e ∷ h) k = accepts-append h k
 
-out_in_order : (h : List Event) → PoolHistory h → IsPrefix (outs h) (accepts h)
+pub out_in_order : (h : List Event) → PoolHistory h → IsPrefix (outs h) (accepts h)
 out_in_order h lawful = let f = take_all (length h) h (omega arith) in rw f at (lawful.in_order (length h))
 
 pub outs_ascend : (h : List Event) → PoolHistory h → Ascend (tickets_of (outs h))

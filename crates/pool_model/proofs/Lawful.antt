@@ -4,6 +4,7 @@ use Rattle.std.specs.Prelude.{slice_get, slice_index_or, unwrap_or}
 use Rattle.std.specs.List.{All}
 use Rattle.std.proofs.lemmas.List.{map-append}
 use Rattle.std.proofs.lemmas.List.Sums.{sum_by-cons}
+use Rattle.std.proofs.lemmas.List.Elements.{All-head, All-tail}
 use mathlib.Core.List.{IsPrefix}
 use mathlib.Core.Logic.{dite}
 use native.Mathlib.Decide.{dec_le}
@@ -13,7 +14,6 @@ use Rattle.pool_model.specs.History.{Event, accepts, outs, PoolHistory}
 use Rattle.pool_model.specs.Seen.{PoolId, PassSeen}
 use Rattle.pool_model.specs.Passes.{passes_with, AreAllPasses, AreNumbered}
 use Rattle.pool_model.specs.Tickets.{IsBefore, Ascend, tickets_of}
-use Rattle.pool_model.proofs.Lists.{All-head, All-tail}
 use Rattle.pool_model.proofs.Tickets.{ascend-front}
 use Rattle.pool_model.proofs.Histories.{accepts-append, outs_ascend}
 

@@ -1,6 +1,7 @@
 -- In turns each take stands behind the looks that it wants.
 use Rattle.std.proofs.Common.{◌≡◌, ◌≢◌, ℕ, zero, suc, ◌+◌, ◌-◌, ◌<◌, ◌≤◌, ◌⊎◌, inl, inr, ⊎_elim, List, [], ◌∷◌, ◌++◌, Option, Some, refl, sym, ap, ◌∙◌, subst, append_assoc, append-nil, arith}
 use Rattle.std.specs.List.{All, flat_map}
+use Rattle.std.proofs.lemmas.List.Elements.{All-head, All-tail}
 use mathlib.Core.Logic.{dite}
 use native.Mathlib.Decide.{ℕ_discrete}
 use Rattle.pool_model.specs.declared.task.Ending.{Ending}
@@ -8,7 +9,6 @@ use Rattle.pool_model.specs.declared.task.Ending.TheVariants.{Stops}
 use Rattle.pool_model.specs.declared.task.Entry.{Entry}
 use Rattle.pool_model.specs.Tasks.{Task}
 use Rattle.pool_model.specs.Steps.{Step, looked, found_empty, took, tasks_taken, empty_from_the_top, Turn, ran, idle, stopped, steps_of, GoesOn, IsLast, Worked, IsSinceTheLastTake, MayTake, TakesFromTheHighest}
-use Rattle.pool_model.proofs.Lists.{All-head, All-tail}
 
 taken-append : (xs ys : List Step) → tasks_taken (xs ++ ys) ≡ tasks_taken xs ++ tasks_taken ys
 taken-append [] ys = refl

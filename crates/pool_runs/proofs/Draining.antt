@@ -12,7 +12,7 @@ use Rattle.task_queue.specs.declared.rule.Queued.{Queued}
 use Rattle.pool_runs.specs.declared.placed.Placed.{Placed}
 use Rattle.pool_runs.specs.Returning.{back_of}
 use Rattle.pool_runs.specs.Running.{Drained, DrainedSoFar, RanOnce, task_in}
-use Rattle.pool_runs.proofs.Leading.{leads_more}
+use Rattle.job_trait.proofs.Histories.{leads_more}
 use Rattle.pool_runs.proofs.Lists.{one_over}
 use Rattle.pool_runs.proofs.Lists.{runs-append}
 

@@ -1,13 +1,8 @@
 -- Lists that are changed at one place, cut in two, or are records of runs.
-use Rattle.std.proofs.Common.{◌≡◌, ℕ, zero, suc, ◌<◌, List, [], ◌∷◌, ◌++◌, length, set, get_or, Option, Some, refl, sym, ap, ◌∙◌, append_assoc, arith}
+use Rattle.std.proofs.Common.{◌≡◌, ℕ, zero, suc, List, [], ◌∷◌, ◌++◌, set, Option, Some, sym, ap, ◌∙◌, append_assoc}
 use Rattle.std.specs.Prelude.{slice_get, unwrap_or}
 use Rattle.pool_model.specs.Records.{Record, AreRunsOf}
 use Rattle.pool_model.specs.Tasks.{Task}
-
-pub at_index : {X : Type 0} (xs : List X) (k : ℕ) (d : X) → k < length xs → slice_get xs k ≡ Some (get_or xs k d)
-at_index [] k d within = absurd (omega (arith, within))
-at_index (y ∷ ys) zero d within = refl
-at_index (y ∷ ys) (suc k) d within = at_index ys k d (omega (arith, within))
 
 pub set_same : {X : Type 0} (xs : List X) (k : ℕ) (x : X) → slice_get xs k ≡ Some x → set xs k x ≡ xs
 set_same [] k x at = cc

@@ -4,6 +4,7 @@ use Rattle.std.specs.List.{All, flat_map, sum_by}
 use Rattle.std.specs.declared.alloc.Global.{Global}
 use Rattle.std.proofs.lemmas.List.{map-append}
 use Rattle.std.proofs.lemmas.List.Sums.{sum_by-append, sum_by-cons}
+use Rattle.std.proofs.lemmas.List.Elements.{All-cons, All-head, All-tail, All-nil}
 use Rattle.crossbeam_queue.specs.SegTies.{SegId}
 use Rattle.job_trait.specs.declared.job.Head.{Head}
 use Rattle.pool_model.specs.declared.task.Entry.{Entry}
@@ -23,11 +24,10 @@ use Rattle.pool_runs.specs.declared.placed.Placed.{Placed}
 use Rattle.prio_pool.specs.Adders.{entry_of}
 use Rattle.prio_pool.specs.Gathering.{gathered_at, gathered_from, AllSettled, IsWhole}
 use Rattle.pool_runs.specs.Returning.{back_of, back_from}
-use Rattle.prio_pool.proofs.Lists.{All-cons, All-head, All-tail, All-none}
 use Rattle.pool_runs.proofs.Lists.{runs-append}
 
 all_of_map : {X Y : Type 0} (f : X → Y) (P : Y → Type 0) (xs : List X) → All P (map f xs) → All (λ x. P (f x)) xs
-all_of_map f P [] all = All-none (λ (x : _). P (f x))
+all_of_map f P [] all = All-nil (λ (x : _). P (f x))
 all_of_map f P (x ∷ xs) all = All-cons (λ (y : _). P (f y)) x xs (All-head P (f x) (map f xs) all) (all_of_map f P xs (All-tail P (f x) (map f xs) all))
 
 entries_of_map : {X : Type 0} (number : X → ℕ) (entries : X → List Entry) (xs : List X) → entries_of (map (λ x. share (number x) (entries x)) xs) ≡ flat_map entries xs
@@ -210,7 +210,7 @@ all_accounted head whole passes ends qs rests gaps pushed ran_all popped settled
 
 -- all passes of each queue are here, where there are as many as the pool has
 pub all_whole : (whole : ℕ) (passes : List PassSeen) (ends : List EndSeen) (k : ℕ) (qs : List (SegId Global)) → length passes + length ends ≡ whole → All IsWhole (gathered_from whole passes ends k qs)
-all_whole whole passes ends k [] count = All-none IsWhole
+all_whole whole passes ends k [] count = All-nil IsWhole
 all_whole whole passes ends k (q ∷ qs) count = All-cons IsWhole (gathered_at whole passes ends k q) (gathered_from whole passes ends (k + 1) qs) count (all_whole whole passes ends (k + 1) qs count)
 
 module _ {J : Type 0} (head : J → Head) where

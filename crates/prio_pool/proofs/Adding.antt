@@ -4,7 +4,7 @@ use Rattle.std.specs.Prelude.{slice_get, slice_index_or, unwrap_or}
 use Rattle.std.specs.List.{All, filter, sum_by, range_with_len}
 use Rattle.std.specs.declared.alloc.Global.{Global}
 use Rattle.std.proofs.lemmas.List.{map-append, length-map}
-use Rattle.std.proofs.lemmas.List.Elements.{filter-append, All-append}
+use Rattle.std.proofs.lemmas.List.Elements.{filter-append, All-append, All-cons, All-head, All-tail, All-nil, All-weaker}
 use Rattle.std.proofs.lemmas.List.FromFn.{map-range_with_len_more, length-map-range_with_len}
 use Rattle.std.proofs.lemmas.List.Sums.{sum_by-append, sum_by-cons, sum_by_push}
 use Rattle.crossbeam_queue.specs.SegTies.{SegId}
@@ -13,7 +13,7 @@ use Rattle.pool_model.specs.declared.task.Entry.{Entry}
 use Rattle.pool_model.specs.Passes.{adds_of, add_with, first_add, pushed_by}
 use Rattle.pool_model.specs.Seen.{PassSeen, at_queue}
 use Rattle.pool_model.specs.Tasks.{Task, Add, add_of, in_queue, upwards, numbered}
-use Rattle.prio_pool.proofs.Lists.{All-cons, All-head, All-tail, All-none, All-front, All-into}
+use Rattle.pool_model.proofs.Lists.{All-front}
 use Rattle.task_queue.specs.Seen.{AdderSeen}
 use Rattle.prio_pool.specs.Adders.{AreAdds, MayPush, PushedAt}
 
@@ -113,7 +113,7 @@ module _ (task : Task) (old new : List Task) (m : OneMore task old new) where
       → map (add_with new) (range_with_len 0 (length new)) ≡ map (add_with old) (range_with_len 0 (length old)) ++ add_of task ∷ []
   adds_longer count is own below =
       let n = length old in
-      let none = All-into (λ (t : Task). t.ticket.index < count) (λ (t : Task). with_index count t ≡ false) old (λ t lt. ne_eqb t.ticket.index count (λ e. omega (arith, lt, e))) below in
+      let none = All-weaker (λ (t : Task). t.ticket.index < count) (λ (t : Task). with_index count t ≡ false) (λ t lt. ne_eqb t.ticket.index count (λ e. omega (arith, lt, e))) old below in
       let last : add_with new count ≡ add_of task = ap first_add (more_filter_new (with_index count) none (eq-eqb task.ticket.index count own)) in
       ap (λ (k : ℕ). map (add_with new) (range_with_len 0 k)) (more_length task old new m)
       ∙ (map-range_with_len_more (add_with new) 0 n count (omega (arith, is))
@@ -149,7 +149,7 @@ adds_more count p k e within are ticket =
     record {
       are = record {
         numbers = more_all task (pushed_by p) (pushed_by q) m (λ t. t.ticket.adder ≡ p.number) are.numbers number;
-        below = more_all task (pushed_by p) (pushed_by q) m (λ t. t.ticket.index < count + 1) (All-into (λ (t : Task). t.ticket.index < count) (λ (t : Task). t.ticket.index < count + 1) (pushed_by p) (λ t lt. omega (arith, lt)) are.below) (omega (arith, index));
+        below = more_all task (pushed_by p) (pushed_by q) m (λ t. t.ticket.index < count + 1) (All-weaker (λ (t : Task). t.ticket.index < count) (λ (t : Task). t.ticket.index < count + 1) (λ t lt. omega (arith, lt)) (pushed_by p) are.below) (omega (arith, index));
         count_is = omega (arith, are.count_is, more_length task (pushed_by p) (pushed_by q) m);
         all = record {
           sums = λ h. omega (
@@ -213,7 +213,7 @@ all_in P first (x ∷ xs) (suc k) a at all =
     behind (y ∷ ys) zs a = behind ys zs (All-tail P y (ys ++ zs) a)
 
 entries_below : (count q : ℕ) (entries : List Entry) → All (λ t. t.ticket.index < count) (in_queue q entries) → All (λ e. e.ticket.index < count) entries
-entries_below count q [] all = All-none (λ (e : Entry). e.ticket.index < count)
+entries_below count q [] all = All-nil (λ (e : Entry). e.ticket.index < count)
 entries_below count q (e ∷ es) all = All-cons (λ (x : Entry). x.ticket.index < count) e es
     (All-head (λ (t : Task). t.ticket.index < count) record { ticket = e.ticket; queue = q; head = e.head } (in_queue q es) all)
     (entries_below count q es (All-tail (λ (t : Task). t.ticket.index < count) record { ticket = e.ticket; queue = q; head = e.head } (in_queue q es) all))
@@ -242,7 +242,7 @@ may_push items p passes count k queue ticket pushed queues each are within of is
       at = x.1;
       of_queue = queue_at items k a queue x.1 (subst (λ (l : List (SegId Global)). slice_index_or l k queue ≡ queue) queues of);
       own = ap (λ (t : Ticket). t.adder) is ∙ sym own.1;
-      above = All-into (λ (e : Entry). e.ticket.index < count) (λ (e : Entry). e.ticket.index < ticket.index) a.pushed (λ e lt. omega (arith, lt, index)) (entries_below count (0 + k) a.pushed all);
+      above = All-weaker (λ (e : Entry). e.ticket.index < count) (λ (e : Entry). e.ticket.index < ticket.index) (λ e lt. omega (arith, lt, index)) a.pushed (entries_below count (0 + k) a.pushed all);
       room = omega (arith, few, are.count_is, one_is_short 0 items k a x.1, ap (λ (l : List (List Entry)). length (upwards 0 l)) pushed);
     }
   where

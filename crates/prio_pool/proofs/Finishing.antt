@@ -5,6 +5,7 @@ use Rattle.std.specs.declared.alloc.Global.{Global}
 use Rattle.std.proofs.lemmas.Grind.{flat_map-append}
 use Rattle.std.proofs.lemmas.List.{length-map}
 use Rattle.std.proofs.lemmas.List.Sums.{sum_by-cons}
+use Rattle.std.proofs.lemmas.List.Elements.{All-weaker}
 use Rattle.crossbeam_queue.specs.SegTies.{SegId}
 use Rattle.fan_base.specs.declared.number.JobId.{JobId}
 use Rattle.fan_base.specs.declared.number.Mark.{Mark}
@@ -26,7 +27,6 @@ use Rattle.prio_pool.specs.Gathering.{FoundAs}
 use Rattle.pool_runs.specs.Returning.{back_from}
 use Rattle.pool_runs.specs.Running.{Drained}
 use Rattle.prio_pool.proofs.Accounting.{all_accounted, as_many_rests, ends_ran, entries_in, histories_of, tasks_back}
-use Rattle.prio_pool.proofs.Lists.{All-into}
 use Rattle.prio_pool.proofs.Orders.{same-length}
 use Rattle.pool_runs.proofs.Lists.{runs-append}
 use Rattle.prio_pool.proofs.Recording.{length-runs}
@@ -56,7 +56,7 @@ module _ {J : Type 0} (head : J → Head) (whole : ℕ) (qs : List (SegId Global
   told_of ending came = record {
     no_gaps = came.gaps;
     ran = came.ran;
-    found = All-into (FoundAs (Some ending)) (FoundNoOther ending) (ends ++ helped) (λ e f. f.same) came.found;
+    found = All-weaker (FoundAs (Some ending)) (FoundNoOther ending) (λ e f. f.same) (ends ++ helped) came.found;
   }
 
   have_histories : (found : Option Ending) → CameTo head whole qs found passes (ends ++ helped) rests → HaveHistories (length qs) passes (ends ++ helped) (entries_in head rests)

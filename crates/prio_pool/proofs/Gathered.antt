@@ -6,7 +6,7 @@ use Rattle.std.proofs.lemmas.List.{reverse-append}
 use Rattle.crossbeam_queue.specs.SegTies.{SegId}
 use Rattle.task_queue.specs.Seen.{AdderSeen, GatheredSeen}
 use Rattle.prio_pool.specs.Gathering.{each_with, behind_with, only_adder, HasGathered, ChangedAt}
-use Rattle.prio_pool.proofs.Taking.{got_is}
+use Rattle.std.proofs.lemmas.Option.{get_or_from_slice_get}
 
 module _ {G X : Type 0} (f : G → X → G) where
   -- one more, in front of the others
@@ -41,10 +41,10 @@ has_gathered (g ∷ gs) (suc k) queue at = let h = has_gathered gs k queue at in
 -- what was found at its place is of its queue, and was changed there
 module _ (old : List GatheredSeen) (k : ℕ) (queue : SegId Global) (h : HasGathered old k queue) (found : GatheredSeen) (is : found ≡ get_or old k found) where
   pub found_queue : found.queue ≡ queue
-  found_queue = ap (λ (g : GatheredSeen). g.queue) (is ∙ got_is old k h.one found h.at) ∙ h.of_queue
+  found_queue = ap (λ (g : GatheredSeen). g.queue) (is ∙ get_or_from_slice_get old k h.one found h.at) ∙ h.of_queue
 
   pub found_changed : (f : GatheredSeen → GatheredSeen) (new : GatheredSeen) → new ≡ f found → ChangedAt f old k (set old k new)
-  found_changed f new made = record { one = h.one; at = h.at; new_is = ap (set old k) (made ∙ ap f (is ∙ got_is old k h.one found h.at)) }
+  found_changed f new made = record { one = h.one; at = h.at; new_is = ap (set old k) (made ∙ ap f (is ∙ get_or_from_slice_get old k h.one found h.at)) }
 
 -- the queue at this place is this one
 pub same_queue : (qs : List (SegId Global)) (k : ℕ) (a q : SegId Global) → slice_get qs k ≡ Some a → q ≡ get_or qs k q → a ≡ q
@@ -67,22 +67,3 @@ next_queue qs all adders more a gathered q queues whole is at =
     let list : gathered ++ only_adder a ∷ map only_adder (reverse more) ≡ map only_adder all = ap (λ (l : List GatheredSeen). gathered ++ l) (sym (next_only adders more a is)) ∙ whole in
     let seen : map (λ (g : GatheredSeen). g.queue) (gathered ++ only_adder a ∷ map only_adder (reverse more)) ≡ qs = ap (map (λ (g : GatheredSeen). g.queue)) list ∙ (queues_of_only all ∙ queues) in
     same_queue qs (length gathered) a.queue q (subst (λ (l : List (SegId Global)). slice_get l (length gathered) ≡ Some a.queue) seen (middle (λ (g : GatheredSeen). g.queue) gathered (only_adder a) (map only_adder (reverse more)))) at
-
--- two lists that end in one are the same before it
-pub snoc_same : {X : Type 0} (xs ys : List X) (x y : X) → xs ++ x ∷ [] ≡ ys ++ y ∷ [] → (xs ≡ ys) × (x ≡ y)
-snoc_same [] [] x y is = (refl, cc)
-snoc_same [] (w ∷ ys) x y is = absurd (not_none ys y (cc))
-  where
-    not_none : {X : Type 0} (zs : List X) (z : X) → zs ++ z ∷ [] ≡ [] → ⊥
-    not_none [] z e = cc
-    not_none (u ∷ zs) z e = cc
-snoc_same (w ∷ xs) [] x y is = absurd (not_none xs x (cc))
-  where
-    not_none : {X : Type 0} (zs : List X) (z : X) → zs ++ z ∷ [] ≡ [] → ⊥
-    not_none [] z e = cc
-    not_none (u ∷ zs) z e = cc
-snoc_same (w ∷ xs) (v ∷ ys) x y is =
-    let first : w ≡ v = cc in
-    let rest : xs ++ x ∷ [] ≡ ys ++ y ∷ [] = cc in
-    let h = snoc_same xs ys x y rest in
-    ((λ i. first i ∷ h.0 i), h.1)

@@ -1,13 +1,13 @@
 -- Lists of new passes.
-use Rattle.std.proofs.Common.{◌≡◌, ℕ, zero, suc, ◌+◌, List, [], ◌∷◌, ◌++◌, length, map, refl, sym, ap, ◌∙◌, append_assoc, arith}
+use Rattle.std.proofs.Common.{◌≡◌, ℕ, zero, suc, ◌+◌, List, [], ◌∷◌, ◌++◌, length, map, refl, sym, ap, ◌∙◌, arith}
 use Rattle.std.specs.List.{All}
 use Rattle.std.proofs.lemmas.List.{map-append}
+use Rattle.std.proofs.lemmas.List.Elements.{All-cons, All-nil}
 use Rattle.pool_model.specs.declared.task.Entry.{Entry}
 use Rattle.pool_model.specs.Seen.{PoolId, PassSeen, WorkerSeen, EndSeen}
 use Rattle.prio_pool.specs.Made.{new_pass, new_passes, new_takers_seen, new_takers_from, new_workers, new_end, new_ends, in_places, IsPlace, worker_seen, helper_seen}
 use Rattle.prio_pool.specs.Passes.{TookNothing}
 use Rattle.prio_pool.specs.Takers.{TakersSeen}
-use Rattle.prio_pool.proofs.Lists.{All-cons, All-none}
 use Rattle.prio_pool.proofs.Making.{nothing_all}
 
 pub one_pass_more : (pool : PoolId) (first n k : ℕ) → k ≡ first + n → new_passes pool first (suc n) ≡ new_passes pool first n ++ new_pass pool k ∷ []
@@ -36,11 +36,11 @@ count_takers pool first zero = refl
 count_takers pool first (suc n) = ap suc (count_takers pool (first + 1) n)
 
 pub each_place : (pool : PoolId) (first n : ℕ) → All (IsPlace pool.mark) (in_places (new_passes pool first n))
-each_place pool first zero = All-none (IsPlace pool.mark)
+each_place pool first zero = All-nil (IsPlace pool.mark)
 each_place pool first (suc n) = All-cons (IsPlace pool.mark) (new_pass pool first ∷ []) (in_places (new_passes pool (first + 1) n)) record { pass = new_pass pool first; one = refl; of_mark = refl } (each_place pool (first + 1) n)
 
 pub each_took_none : (pool : PoolId) (first n : ℕ) → All TookNothing (new_takers_from pool first n)
-each_took_none pool first zero = All-none TookNothing
+each_took_none pool first zero = All-nil TookNothing
 each_took_none pool first (suc n) = All-cons TookNothing (new_takers_seen pool first) (new_takers_from pool (first + 1) n)
     record { none = nothing_all (λ (e : List Entry). e ≡ []) pool.queues refl; looks = refl; found = refl }
     (each_took_none pool (first + 1) n)

@@ -3,13 +3,13 @@ use Rattle.std.proofs.Common.{◌≡◌, ℕ, suc, ◌+◌, List, [], ◌∷◌,
 use Rattle.std.specs.List.{All}
 use Rattle.std.specs.declared.alloc.Global.{Global}
 use Rattle.std.proofs.lemmas.List.{map-append}
+use Rattle.std.proofs.lemmas.List.Elements.{All-head, All-tail}
 use Rattle.crossbeam_queue.specs.SegTies.{SegId}
 use Rattle.pool_model.specs.Seen.{PassSeen, EndSeen, at_queue}
 use Rattle.task_queue.specs.declared.view.Share.{Share}
 use Rattle.task_queue.specs.Seen.{AdderSeen, TakerSeen, GatheredSeen, and_adder, and_taker}
 use Rattle.task_queue.specs.Views.{share}
 use Rattle.prio_pool.specs.Gathering.{gathered_at, gathered_from, and_adders, and_takers, only_adder}
-use Rattle.prio_pool.proofs.Lists.{All-head, All-tail}
 
 module _ (whole : ℕ) (passes : List PassSeen) (ends : List EndSeen) where
   one_adder : (k : ℕ) (p : PassSeen) (a : AdderSeen) → (a.number ≡ p.number) → a.pushed ≡ at_queue p.pushed k → and_adder (gathered_at whole passes ends k a.queue) a ≡ gathered_at whole (passes ++ p ∷ []) ends k a.queue

@@ -6,7 +6,7 @@ use Rattle.std.specs.declared.alloc.Global.{Global}
 use Rattle.std.proofs.lemmas.Grind.{flat_map-append}
 use Rattle.std.proofs.lemmas.Bool.{eq-eqb, ne_eqb}
 use Rattle.std.proofs.lemmas.List.{length-map, map-append}
-use Rattle.std.proofs.lemmas.List.Elements.{filter-append}
+use Rattle.std.proofs.lemmas.List.Elements.{filter-append, All-head, All-tail, All-nil, All-push}
 use Rattle.std.proofs.lemmas.List.Sums.{sum_by_push}
 use mathlib.Core.Logic.{dite}
 use native.Mathlib.Decide.{ℕ_discrete}
@@ -23,7 +23,6 @@ use Rattle.prio_pool.specs.Passes.{TookNothing, end_seen}
 use Rattle.prio_pool.specs.Takers.{TakersSeen, HasTaken, RanTaken, and_popped}
 use Rattle.prio_pool.specs.Turned.{WorkedSoFar}
 use Rattle.pool_runs.proofs.Lists.{runs-append}
-use Rattle.prio_pool.proofs.Lists.{All-head, All-tail, All-none, All-snoc}
 use Rattle.prio_pool.proofs.Orders.{same-length}
 use Rattle.prio_pool.proofs.Adding.{upwards_more, more_sum, length-set, task_at}
 
@@ -71,7 +70,7 @@ pub taken_same : (t : TakersSeen) (count : ℕ) (found : Option Ending) (l : Loo
 taken_same t count found l at none has =
     let same : tasks_taken (steps_in (t.looks ++ l ∷ [])) ≡ tasks_taken (steps_in t.looks) = tasks_more t.looks l ∙ (ap (λ (x : List Task). tasks_taken (steps_in t.looks) ++ x) none ∙ append-nil (tasks_taken (steps_in t.looks))) in
     record {
-      looks = All-snoc (λ (x : LookSeen). IsAt t.pool x.place x.step) t.looks l has.looks at;
+      looks = All-push (λ (x : LookSeen). IsAt t.pool x.place x.step) t.looks l has.looks at;
       of_queues = λ q. ap (filter (in_it q)) same ∙ has.of_queues q;
       all = record { sums = λ h. ap (sum_by h) same ∙ has.all.sums h };
       ascend = has.ascend;
@@ -93,7 +92,7 @@ taken_more t k at e within here up short has =
     let m = upwards_more 0 popped k k e within (omega arith) in
     let is : tasks_taken (steps_in (t.looks ++ l ∷ [])) ≡ tasks ++ task ∷ [] = tasks_more t.looks l in
     record {
-      looks = All-snoc (λ (x : LookSeen). IsAt t.pool x.place x.step) t.looks l has.looks (get_map of_queue t.pool.queues k at here);
+      looks = All-push (λ (x : LookSeen). IsAt t.pool x.place x.step) t.looks l has.looks (get_map of_queue t.pool.queues k at here);
       of_queues = λ q. ap (filter (in_it q)) is ∙ (filter-append (in_it q) tasks (task ∷ []) ∙ dite (ℕ_discrete q k)
           (λ same.
           let yes_here : eqb k q ≡ eqb q q = ap (λ (n : ℕ). eqb n q) (sym same) in
@@ -163,13 +162,13 @@ turn_steps t u v found more first next = next ∙ (ap (λ (l : List Step). l ++ 
 
 -- a worker's turns, one by one
 pub so_far_none : (queues : ℕ) (steps : List Step) → steps ≡ [] → WorkedSoFar queues steps
-so_far_none queues steps is = record { turns = []; list = is; each = All-none (GoesOn queues) }
+so_far_none queues steps is = record { turns = []; list = is; each = All-nil (GoesOn queues) }
 
 pub so_far_more : (queues : ℕ) (steps more : List Step) (t : Turn) → WorkedSoFar queues steps → GoesOn queues t → more ≡ steps ++ steps_of queues t → WorkedSoFar queues more
 so_far_more queues steps more t so_far well is = record {
   turns = so_far.turns ++ t ∷ [];
   list = is ∙ (ap (λ (l : List Step). l ++ steps_of queues t) so_far.list ∙ (sym (ap (λ (l : List Step). flat_map (steps_of queues) so_far.turns ++ l) (append-nil (steps_of queues t))) ∙ sym (flat_map-append (steps_of queues) so_far.turns (t ∷ []))));
-  each = All-snoc (GoesOn queues) so_far.turns t so_far.each well;
+  each = All-push (GoesOn queues) so_far.turns t so_far.each well;
 }
 
 pub worked_all : (queues : ℕ) (steps more : List Step) (t : Turn) → WorkedSoFar queues steps → IsLast t → more ≡ steps ++ steps_of queues t → Worked queues more
@@ -203,7 +202,7 @@ pub nothing_taken : (t : TakersSeen) → TookNothing t → length t.popped ≤ 2
 nothing_taken t took_none few as_many =
     let tasks : tasks_taken (steps_in t.looks) ≡ [] = ap (λ (l : List LookSeen). tasks_taken (steps_in l)) took_none.looks in
     record {
-      looks = subst (All (λ (x : LookSeen). IsAt t.pool x.place x.step)) (sym took_none.looks) (All-none (λ (x : LookSeen). IsAt t.pool x.place x.step));
+      looks = subst (All (λ (x : LookSeen). IsAt t.pool x.place x.step)) (sym took_none.looks) (All-nil (λ (x : LookSeen). IsAt t.pool x.place x.step));
       of_queues = λ q. ap (filter (in_it q)) tasks ∙ ap (in_queue q) (sym (none_at t.popped q took_none.none));
       all = record { sums = λ h. ap (sum_by h) tasks ∙ ap (sum_by h) (sym (none_up 0 t.popped took_none.none)) };
       ascend = all_none (λ entries. Ascend (tickets_of entries)) t.popped tt took_none.none;

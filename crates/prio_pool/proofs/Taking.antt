@@ -1,15 +1,15 @@
 -- One take more.
-use Rattle.std.proofs.Common.{◌≡◌, ℕ, zero, suc, ◌<◌, ◌≤◌, ◌^◌, List, [], ◌∷◌, ◌++◌, length, map, set, get_or, Option, Some, None, refl, sym, ap, ◌∙◌, subst, arith}
+use Rattle.std.proofs.Common.{◌≡◌, ℕ, zero, suc, ◌<◌, ◌≤◌, ◌^◌, List, [], ◌∷◌, ◌++◌, length, map, set, Option, Some, None, refl, sym, ap, ◌∙◌, subst, arith}
 use Rattle.std.specs.Prelude.{slice_get, unwrap_or}
 use Rattle.std.specs.List.{All}
 use Rattle.std.specs.declared.alloc.Global.{Global}
+use Rattle.std.proofs.lemmas.List.Elements.{All-cons, All-head, All-tail}
 use Rattle.crossbeam_queue.specs.SegTies.{SegId}
 use Rattle.job_trait.specs.declared.job.Head.{Head}
 use Rattle.pool_model.specs.declared.task.Entry.{Entry}
 use Rattle.pool_model.specs.Seen.{at_queue}
 use Rattle.pool_model.specs.Tickets.{Ascend, tickets_of}
 use Rattle.pool_runs.proofs.Lists.{set_same}
-use Rattle.prio_pool.proofs.Lists.{All-cons, All-head, All-tail}
 use Rattle.task_queue.specs.declared.rule.Queued.{Queued}
 use Rattle.task_queue.specs.Seen.{TakerSeen}
 use Rattle.task_queue.specs.Settled.{TakeTold}
@@ -104,8 +104,3 @@ now_is passes number k e items new each up short did =
       ascend = subst (λ (l : List TakerSeen). All (λ entries. Ascend (tickets_of entries)) (map (λ (p : TakerSeen). p.popped) l)) (sym did.new_is) (map_all (λ entries. Ascend (tickets_of entries)) items k b up did.ascend);
       short = subst (λ (l : List TakerSeen). All (λ (entries : List Entry). length entries ≤ 2 ^ 38) (map (λ (p : TakerSeen). p.popped) l)) (sym did.new_is) (map_all (λ (entries : List Entry). length entries ≤ 2 ^ 38) items k b short did.short);
     }
-
-pub got_is : {X : Type 0} (xs : List X) (k : ℕ) (x d : X) → slice_get xs k ≡ Some x → get_or xs k d ≡ x
-got_is [] k x d at = cc
-got_is (y ∷ ys) zero x d at = some_is y x at
-got_is (y ∷ ys) (suc k) x d at = got_is ys k x d at

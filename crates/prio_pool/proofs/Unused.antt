@@ -3,13 +3,13 @@ use Rattle.std.proofs.Common.{◌≡◌, ℕ, zero, suc, ◌+◌, ◌<◌, List,
 use Rattle.std.specs.Prelude.{slice_index_or}
 use Rattle.std.specs.List.{All, range_with_len}
 use Rattle.std.specs.declared.alloc.Global.{Global}
+use Rattle.std.proofs.lemmas.List.Elements.{All-cons, All-nil}
 use Rattle.crossbeam_queue.specs.SegTies.{SegId}
 use Rattle.pool_model.specs.Passes.{AreNumbered, adds_of, add_with}
 use Rattle.pool_model.specs.Seen.{PoolId, PassSeen, WorkerSeen, EndSeen}
 use Rattle.pool_model.specs.Tasks.{Task, upwards}
 use Rattle.prio_pool.specs.Made.{new_pass, new_passes, new_workers, new_end, new_ends, nothing_on}
 use Rattle.prio_pool.proofs.Listing.{count_passes}
-use Rattle.prio_pool.proofs.Lists.{All-cons, All-none}
 
 nothing_up : (first : ℕ) (qs : List (SegId Global)) → upwards first (nothing_on qs) ≡ []
 nothing_up first [] = refl
@@ -19,15 +19,15 @@ added_none : (pool : PoolId) (number : ℕ) → adds_of (new_pass pool number) �
 added_none pool number = ap (λ (l : List Task). map (add_with l) (range_with_len 0 (length l))) (nothing_up 0 pool.queues)
 
 pub unused_passes : (pool : PoolId) (first n : ℕ) → All (λ p. (p.pool ≡ pool) × (adds_of p ≡ [])) (new_passes pool first n)
-unused_passes pool first zero = All-none (λ (p : PassSeen). (p.pool ≡ pool) × (adds_of p ≡ []))
+unused_passes pool first zero = All-nil (λ (p : PassSeen). (p.pool ≡ pool) × (adds_of p ≡ []))
 unused_passes pool first (suc n) = All-cons (λ (p : PassSeen). (p.pool ≡ pool) × (adds_of p ≡ [])) (new_pass pool first) (new_passes pool (first + 1) n) (refl, added_none pool first) (unused_passes pool (first + 1) n)
 
 pub own_workers : (pool : PoolId) (first n : ℕ) → All (λ w. w.pool ≡ pool) (new_workers pool first n)
-own_workers pool first zero = All-none (λ (w : WorkerSeen). w.pool ≡ pool)
+own_workers pool first zero = All-nil (λ (w : WorkerSeen). w.pool ≡ pool)
 own_workers pool first (suc n) = All-cons (λ (w : WorkerSeen). w.pool ≡ pool) record { pool = pool; number = first } (new_workers pool (first + 1) n) refl (own_workers pool (first + 1) n)
 
 pub own_helpers : (pool : PoolId) (first n : ℕ) → All (λ e. e.pool ≡ pool) (new_ends pool first n)
-own_helpers pool first zero = All-none (λ (e : EndSeen). e.pool ≡ pool)
+own_helpers pool first zero = All-nil (λ (e : EndSeen). e.pool ≡ pool)
 own_helpers pool first (suc n) = All-cons (λ (e : EndSeen). e.pool ≡ pool) (new_end pool first) (new_ends pool (first + 1) n) refl (own_helpers pool (first + 1) n)
 
 at_number : (pool : PoolId) (first n k : ℕ) (d : PassSeen) → k < length (new_passes pool first n) → ((slice_index_or (new_passes pool first n) k d).pool ≡ pool) × ((slice_index_or (new_passes pool first n) k d).number ≡ first + k)

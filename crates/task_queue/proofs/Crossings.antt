@@ -43,7 +43,7 @@ use Rattle.task_queue.specs.contracts.rule.Queued as queued
 use Rattle.task_queue.specs.contracts.spares.Bundle as bundle
 use Rattle.task_queue.specs.contracts.looks.Looks as looks
 use Rattle.task_queue.specs.contracts.looks.Looks.TheInside as of_looks
-use Rattle.task_queue.proofs.trail.Trail.TheSendSync as trail_task_queue
+use Rattle.queue_looks.proofs.trail.Trail.TheSendSync as trail_queue_looks
 use Rattle.task_queue.specs.contracts.queue.TaskQueue as queue
 use Rattle.task_queue.specs.contracts.queue.TaskQueue.TheInside as of_queue
 
@@ -100,7 +100,7 @@ pub TaskQueue-send : (J : RattleType) (g : Ghosts J.Denot) → IsSend J → IsSe
 TaskQueue-send J g s = view_send (of_queue.the_row J g) _ _ _ _ (queue_inside_send J g s)
 
 looks_inside : (J : RattleType) → IsSend (of_looks.the_row J)
-looks_inside J = recorded_send (of_looks.the_field J).row _ _ (of_looks.the_type J).to_one (struct_send (shape (of_looks.the_type J)) (search (trail_task_queue.the_send, all) depth 60 fits 20000, tt))
+looks_inside J = recorded_send (of_looks.the_field J).row _ _ (of_looks.the_type J).to_one (struct_send (shape (of_looks.the_type J)) (search (trail_queue_looks.the_send, all) depth 60 fits 20000, tt))
 
 pub Looks-send : (J : RattleType) → IsSend (looks.the_row J)
 Looks-send J = view_send (of_looks.the_row J) _ _ _ _ (looks_inside J)

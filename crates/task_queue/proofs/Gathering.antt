@@ -4,10 +4,10 @@ use Rattle.std.specs.List.{sum_by}
 use Rattle.std.proofs.lemmas.Bool.{eq-eqb, ne_eqb}
 use Rattle.std.proofs.lemmas.Grind.{flat_map-append}
 use Rattle.std.proofs.lemmas.List.Sums.{sum_by-append}
+use Rattle.std.proofs.lemmas.List.Elements.{All-cons, All-nil, All-push, All-weaker}
 use Rattle.crossbeam_queue.specs.Fifo.{Forks, Merges}
 use Rattle.job_trait.specs.declared.job.Head.{Head}
 use Rattle.pool_model.specs.declared.task.Entry.{Entry}
-use Rattle.task_queue.proofs.Lists.{All-cons, All-none, All-snoc, All-into}
 use Rattle.task_queue.specs.declared.view.Share.{Share}
 use Rattle.task_queue.specs.declared.view.View.{View}
 use Rattle.task_queue.specs.Views.{adding, taking, gathered, nobody, share, entries_of, pushes_of, pops_of, room_of}
@@ -66,8 +66,8 @@ module _ {J : Type 0} (head : J → Head) where
             record {
               parts = omega arith;
               whole = mine.whole;
-              added = All-cons (IsAdderShare g) (share number pushed) [] own (All-none (IsAdderShare g));
-              taken = All-none (IsTakerShare g);
+              added = All-cons (IsAdderShare g) (share number pushed) [] own (All-nil (IsAdderShare g));
+              taken = All-nil (IsTakerShare g);
               left = mine.none_left;
             }
             (λ j u apart there. knows_still pass pass f g steps j u apart apart (d.knows j u there)));
@@ -117,8 +117,8 @@ module _ {J : Type 0} (head : J → Head) where
             (λ _. record {
               parts = omega (arith, mine.parts);
               whole = mine.whole;
-              added = All-snoc (IsAdderShare g) added (share number pushed) (All-into (IsAdderShare f) (IsAdderShare g) added (adder_share pass other f g steps) mine.added) own;
-              taken = All-into (IsTakerShare f) (IsTakerShare g) taken_shares (taker_share pass other f g steps) mine.taken;
+              added = All-push (IsAdderShare g) added (share number pushed) (All-weaker (IsAdderShare f) (IsAdderShare g) (adder_share pass other f g steps) added mine.added) own;
+              taken = All-weaker (IsTakerShare f) (IsTakerShare g) (taker_share pass other f g steps) taken_shares mine.taken;
               left = theirs.none_left;
             })
             (λ i y not_pass here not_there. knows_still pass other f g steps i y not_pass not_there (d.knows i y here)) j u at not_other);
@@ -167,8 +167,8 @@ module _ {J : Type 0} (head : J → Head) where
             (λ _. record {
               parts = omega (arith, mine.parts);
               whole = mine.whole;
-              added = All-into (IsAdderShare f) (IsAdderShare g) added (adder_share pass other f g steps) mine.added;
-              taken = All-snoc (IsTakerShare g) taken_shares (share number theirs_popped) (All-into (IsTakerShare f) (IsTakerShare g) taken_shares (taker_share pass other f g steps) mine.taken) own;
+              added = All-weaker (IsAdderShare f) (IsAdderShare g) (adder_share pass other f g steps) added mine.added;
+              taken = All-push (IsTakerShare g) taken_shares (share number theirs_popped) (All-weaker (IsTakerShare f) (IsTakerShare g) (taker_share pass other f g steps) taken_shares mine.taken) own;
               left = theirs.none_left;
             })
             (λ i y not_pass here not_there. knows_still pass other f g steps i y not_pass not_there (d.knows i y here)) j u at not_other);

@@ -3,7 +3,7 @@ use Rattle.std.proofs.Common.{◌≡◌, ◌≢◌, ℕ, suc, ◌+◌, ◌<◌, 
 use Rattle.std.specs.List.{All, filter, sum_by}
 use Rattle.std.proofs.lemmas.Bool.{eq-eqb, ne_eqb}
 use Rattle.std.proofs.lemmas.List.{take-append-le, take_all, map-append, length-append}
-use Rattle.std.proofs.lemmas.List.Elements.{filter-append}
+use Rattle.std.proofs.lemmas.List.Elements.{filter-append, All-cons, All-head, All-tail}
 use Rattle.std.proofs.lemmas.List.Sums.{sum_by-cons}
 use mathlib.Core.List.{IsPrefix}
 use mathlib.Core.Logic.{dite}
@@ -12,14 +12,8 @@ use Rattle.pool_model.specs.declared.task.Ticket.{Ticket}
 use Rattle.pool_model.specs.declared.task.Entry.{Entry}
 use Rattle.pool_model.specs.History.{Event, accepted, taken, left, accepts, takes, lefts, outs, accepted_by, taken_by, PoolHistory}
 use Rattle.pool_model.specs.Tickets.{IsBefore, Ascend, tickets_of}
-use Rattle.task_queue.proofs.Lists.{All-cons, All-head, All-tail}
-use Rattle.task_queue.proofs.Tickets.{ascend-snoc, ascend-front, behind}
-
-pub accepts-append : (h k : List Event) → accepts (h ++ k) ≡ accepts h ++ accepts k
-accepts-append [] k = refl
-accepts-append (accepted e ∷ h) k = ap (λ (l : List Entry). e ∷ l) (accepts-append h k)
-accepts-append (taken w e ∷ h) k = accepts-append h k
-accepts-append (left e ∷ h) k = accepts-append h k
+use Rattle.pool_model.proofs.Histories.{accepts-append, out_in_order}
+use Rattle.task_queue.proofs.Tickets.{ascend-snoc, behind}
 
 pub takes-append : (h k : List Event) → takes (h ++ k) ≡ takes h ++ takes k
 takes-append [] k = refl
@@ -74,9 +68,6 @@ moments : (h : List Event) (e : Event) → ((n : ℕ) → IsPrefix (outs (take n
 moments h e before last n = dite (dec_le n (length h))
     (λ le. let f = take-append-le n h (e ∷ []) le in rw f (before n))
     (λ gt. let f = take_all n (h ++ e ∷ []) (omega (arith, length-append h (e ∷ []), gt)) in rw f last)
-
-pub out_in_order : (h : List Event) → PoolHistory h → IsPrefix (outs h) (accepts h)
-out_in_order h lawful = let f = take_all (length h) h (omega arith) in rw f at (lawful.in_order (length h))
 
 -- a task is accepted whose index is above those that its adder had
 pub lawful_accept : (h : List Event) (e : Entry) → PoolHistory h → All (λ x. x.ticket.index < e.ticket.index) (accepted_by e.ticket.adder h) → PoolHistory (h ++ accepted e ∷ [])
@@ -156,12 +147,6 @@ length-lefts [] = omega arith
 length-lefts (accepted e ∷ h) = length-lefts h
 length-lefts (taken w e ∷ h) = let rest = length-lefts h in omega (arith, rest)
 length-lefts (left e ∷ h) = let rest = length-lefts h in omega (arith, rest)
-
-pub outs_ascend : (h : List Event) → PoolHistory h → Ascend (tickets_of (outs h))
-outs_ascend h lawful =
-    let p = out_in_order h lawful in
-    let is : tickets_of (accepts h) ≡ tickets_of (outs h) ++ tickets_of p.0 = ap tickets_of (sym p.1) ∙ map-append (λ (x : Entry). x.ticket) (outs h) p.0 in
-    ascend-front (tickets_of (outs h)) (tickets_of p.0) (subst Ascend is lawful.ascend)
 
 pub outs_short : (h : List Event) → PoolHistory h → length (outs h) ≤ length (accepts h)
 outs_short h lawful = let p = out_in_order h lawful in omega (arith, length-append (outs h) p.0, ap length p.1)

@@ -1,11 +1,11 @@
 -- What a pass knows stays so while others step.
 use Rattle.std.proofs.Common.{◌≡◌, ◌≢◌, ℕ, ◌*◌, ◌<◌, ◌≤◌, List, [], ◌∷◌, length, length-append, Some, sym, refl, ◌∙◌, arith}
 use Rattle.std.specs.List.{All, sum_by}
+use Rattle.std.proofs.lemmas.List.Elements.{All-head, All-tail, All-weaker}
 use mathlib.Core.Option.{some}
 use lib.ListN.{get_elem?}
 use Rattle.job_trait.specs.declared.job.Head.{Head}
 use Rattle.pool_model.specs.History.{accepts, lefts, accepted_by, taken_by}
-use Rattle.task_queue.proofs.Lists.{All-head, All-tail, All-into}
 use Rattle.task_queue.proofs.Orders.{sum_by-ones}
 use Rattle.task_queue.specs.declared.rule.Queued.{Queued}
 use Rattle.task_queue.specs.declared.view.Role.{Role}
@@ -51,8 +51,8 @@ module _ (p q : ℕ) (f g : Facts) (s : Steps p q f g) where
   knows_as Gathered j u not_p not_q k = record {
     parts = k.parts;
     whole = k.whole ∙ sym s.whole;
-    added = All-into (IsAdderShare f) (IsAdderShare g) u.added adder_share k.added;
-    taken = All-into (IsTakerShare f) (IsTakerShare g) u.taken taker_share k.taken;
+    added = All-weaker (IsAdderShare f) (IsAdderShare g) adder_share u.added k.added;
+    taken = All-weaker (IsTakerShare f) (IsTakerShare g) taker_share u.taken k.taken;
     left = s.left ∙ k.left;
   }
   knows_as Nobody j u not_p not_q k = k

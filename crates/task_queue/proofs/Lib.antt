@@ -1,5 +1,4 @@
 pub mod Strings
-pub mod Lists
 pub mod Orders
 pub mod Tickets
 pub mod Histories
@@ -14,5 +13,4 @@ pub mod Calls
 pub mod Settling
 pub mod Marking
 pub mod Looking
-pub mod Walks
 pub mod Crossings

@@ -2,12 +2,12 @@
 use Rattle.std.proofs.Common.{◌≡◌, ℕ, zero, suc, ◌+◌, ◌-◌, ◌<◌, cond, eqb, Bool, List, [], ◌∷◌, length, take, set, Option, Some, None, sym, refl, ap, ◌∙◌, subst, arith}
 use Rattle.std.specs.List.{All, sum_by, filter}
 use Rattle.std.proofs.lemmas.Bool.{eq-eqb, ne_eqb}
+use Rattle.std.proofs.lemmas.List.Elements.{All-head, All-tail, All-nil, All-weaker}
 use mathlib.Core.List.{IsPrefix}
 use Rattle.crossbeam_queue.specs.Fifo.{Forks}
 use Rattle.job_trait.specs.declared.job.Head.{Head}
 use Rattle.pool_model.specs.declared.task.Entry.{Entry}
 use Rattle.pool_model.specs.History.{accepts, outs}
-use Rattle.task_queue.proofs.Lists.{All-head, All-tail, All-none, All-into}
 use Rattle.task_queue.specs.declared.view.View.{View}
 use Rattle.task_queue.specs.Views.{making, adding, taking, nobody, pushes_of, pops_of, room_of}
 use Rattle.task_queue.specs.Rule.{Facts, QueueHolds, Knows}
@@ -27,7 +27,7 @@ begins head = record {
   facts = nothing;
   lawful = record { ascend = tt; in_order = nothing_yet };
   waits = refl;
-  from_adders = All-none (λ (e : Entry). e.ticket.adder < 0);
+  from_adders = All-nil (λ (e : Entry). e.ticket.adder < 0);
   from_takers = λ n _. refl;
   parts = refl;
   pushed = λ h. refl;
@@ -96,7 +96,7 @@ module _ {J : Type 0} (head : J → Head) where
         facts = g;
         lawful = d.lawful;
         waits = d.waits;
-        from_adders = All-into (λ (e : Entry). e.ticket.adder < f.adders) (λ (e : Entry). e.ticket.adder < a + 1) (accepts f.history) (λ e lt. omega (arith, lt, number)) d.from_adders;
+        from_adders = All-weaker (λ (e : Entry). e.ticket.adder < f.adders) (λ (e : Entry). e.ticket.adder < a + 1) (λ e lt. omega (arith, lt, number)) (accepts f.history) d.from_adders;
         from_takers = d.from_takers;
         parts = let s = sum-fork (λ (x : View). x.parts) views 0 v left right here in let whole = d.parts in omega arith;
         pushed = λ h. let s = sum-fork (λ (x : View). sum_by h (pushes_of x)) views 0 v left right here in let is = d.pushed h in omega (arith, s, is);

@@ -2,13 +2,14 @@
 use Rattle.std.proofs.Common.{◌≡◌, ℕ, ◌<◌, List, [], ◌∷◌, ◌++◌, length, map, sym, refl, ap, ◌∙◌, subst, append_assoc, append-nil, arith}
 use Rattle.std.specs.List.{All, sum_by}
 use Rattle.std.proofs.lemmas.List.Sums.{sum_by_push}
+use Rattle.std.proofs.lemmas.List.Elements.{All-weaker}
 use Rattle.crossbeam_queue.specs.Fifo.{Pops, Learns}
 use Rattle.job_trait.specs.declared.job.Head.{Head}
 use Rattle.pool_model.specs.declared.task.Entry.{Entry}
 use Rattle.pool_model.specs.History.{PoolHistory, taken, left, accepts, takes, outs, lefts, accepted_by, taken_by}
 use Rattle.pool_model.specs.Tickets.{Ascend, tickets_of}
-use Rattle.task_queue.proofs.Lists.{All-into}
-use Rattle.task_queue.proofs.Histories.{accepts-append, takes-append, lefts-append, outs-append, taken_by-append, accepted_by-append, taken_by-same, taken_by-other, lawful_take, lawful_left, outs_ascend, outs_short, ascend_taken_by, ascend_lefts, length-taken_by, length-lefts}
+use Rattle.pool_model.proofs.Histories.{accepts-append, outs_ascend}
+use Rattle.task_queue.proofs.Histories.{takes-append, lefts-append, outs-append, taken_by-append, accepted_by-append, taken_by-same, taken_by-other, lawful_take, lawful_left, outs_short, ascend_taken_by, ascend_lefts, length-taken_by, length-lefts}
 use Rattle.task_queue.specs.declared.view.Share.{Share}
 use Rattle.task_queue.specs.declared.view.View.{View}
 use Rattle.task_queue.specs.Views.{taking, gathered, entry_of, pushes_of, pops_of, room_of}
@@ -109,8 +110,8 @@ module _ {J : Type 0} (head : J → Head) where
               record {
                 parts = mine.parts;
                 whole = mine.whole;
-                added = All-into (IsAdderShare f) (IsAdderShare g) added (λ s is. record { gone = is.gone; made = is.made; list = accepted_is s.number ∙ is.list; short = is.short }) mine.added;
-                taken = All-into (IsTakerShare f) (IsTakerShare g) taken_shares (λ s is. record { gone = is.gone; made = is.made; list = taken_is s.number ∙ is.list }) mine.taken;
+                added = All-weaker (IsAdderShare f) (IsAdderShare g) (λ s is. record { gone = is.gone; made = is.made; list = accepted_is s.number ∙ is.list; short = is.short }) added mine.added;
+                taken = All-weaker (IsTakerShare f) (IsTakerShare g) (λ s is. record { gone = is.gone; made = is.made; list = taken_is s.number ∙ is.list }) taken_shares mine.taken;
                 left = left_is;
               }
               (others_know_still head (x ∷ items) views d pass v here mine.whole g refl refl refl mine.parts);
@@ -132,8 +133,8 @@ module _ {J : Type 0} (head : J → Head) where
         f.history,
         record {
           lawful = d.lawful;
-          accepted = All-into (IsAdderShare f) (λ (s : Share). accepted_by s.number f.history ≡ s.entries) added (λ s is. is.list) mine.added;
-          taken_is = All-into (IsTakerShare f) (λ (s : Share). taken_by s.number f.history ≡ s.entries) taken_shares (λ s is. is.list) mine.taken;
+          accepted = All-weaker (IsAdderShare f) (λ (s : Share). accepted_by s.number f.history ≡ s.entries) (λ s is. is.list) added mine.added;
+          taken_is = All-weaker (IsTakerShare f) (λ (s : Share). taken_by s.number f.history ≡ s.entries) (λ s is. is.list) taken_shares mine.taken;
           all_accepted = record { sums = λ h. sym (sum_one (λ (y : View). sum_by h (pushes_of y)) views pass v here (λ j u apart there. ap (sum_by h) (others j u apart there).0)) ∙ d.pushed h };
           all_taken = record { sums = λ h. sym (sum_one (λ (y : View). sum_by h (pops_of y)) views pass v here (λ j u apart there. ap (sum_by h) (others j u apart there).1)) ∙ d.popped h };
           left = mine.left;

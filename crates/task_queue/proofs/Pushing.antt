@@ -3,12 +3,13 @@ use Rattle.std.proofs.Common.{◌≡◌, ℕ, ◌<◌, List, [], ◌∷◌, ◌+
 use Rattle.std.specs.List.{All, sum_by}
 use Rattle.std.proofs.lemmas.List.{map-append}
 use Rattle.std.proofs.lemmas.List.Sums.{sum_by_push}
+use Rattle.std.proofs.lemmas.List.Elements.{All-push}
 use Rattle.crossbeam_queue.specs.Fifo.{Pushes}
 use Rattle.job_trait.specs.declared.job.Head.{Head}
 use Rattle.pool_model.specs.declared.task.Entry.{Entry}
 use Rattle.pool_model.specs.History.{accepted, accepts, takes, outs, lefts, accepted_by, taken_by}
-use Rattle.task_queue.proofs.Lists.{All-snoc}
-use Rattle.task_queue.proofs.Histories.{accepts-append, takes-append, lefts-append, outs-append, taken_by-append, accepted_by-same, accepted_by-other, lawful_accept}
+use Rattle.pool_model.proofs.Histories.{accepts-append}
+use Rattle.task_queue.proofs.Histories.{takes-append, lefts-append, outs-append, taken_by-append, accepted_by-same, accepted_by-other, lawful_accept}
 use Rattle.task_queue.specs.declared.rule.Queued.{Queued}
 use Rattle.task_queue.specs.declared.view.View.{View}
 use Rattle.task_queue.specs.Views.{adding, entry_of, pushes_of, pops_of, room_of, most}
@@ -48,7 +49,7 @@ module _ {J : Type 0} (head : J → Head) where
           facts = g;
           lawful = lawful_accept f.history e d.lawful (subst (All (λ (y : Entry). y.ticket.index < x.ticket.index)) (sym (ap (λ (a : ℕ). accepted_by a f.history) from ∙ mine.list)) below);
           waits = accept_is ∙ (ap (λ (l : List Entry). l ++ e ∷ []) d.waits ∙ (append_assoc (outs f.history) (map (entry_of head) items) (e ∷ []) ∙ (ap (λ (l : List Entry). outs f.history ++ l) (sym (map-append (entry_of head) items (x ∷ []))) ∙ ap (λ (l : List Entry). l ++ map (entry_of head) (items ++ x ∷ [])) (sym out_is))));
-          from_adders = subst (All (λ (y : Entry). y.ticket.adder < f.adders)) (sym accept_is) (All-snoc (λ (y : Entry). y.ticket.adder < f.adders) (accepts f.history) e d.from_adders (rw from mine.made));
+          from_adders = subst (All (λ (y : Entry). y.ticket.adder < f.adders)) (sym accept_is) (All-push (λ (y : Entry). y.ticket.adder < f.adders) (accepts f.history) e d.from_adders (rw from mine.made));
           from_takers = λ m le. taken_is m ∙ d.from_takers m le;
           parts = let s = sum-set (λ (y : View). y.parts) views pass v u here in let whole = d.parts in omega arith;
           pushed = λ h.

@@ -2,29 +2,25 @@
 use Rattle.std.proofs.Common.{◌≡◌, ◌<◌, List, [], ◌∷◌, ◌++◌, cond, eqb, Bool, ap, subst}
 use Rattle.std.specs.List.{All, filter}
 use Rattle.std.proofs.lemmas.Bool.{eq-eqb, ne_eqb}
+use Rattle.std.proofs.lemmas.List.Elements.{All-cons, All-head, All-tail, All-nil, All-push}
 use mathlib.Core.Logic.{dite}
 use native.Mathlib.Decide.{ℕ_discrete}
 use Rattle.pool_model.specs.declared.task.Ticket.{Ticket}
 use Rattle.pool_model.specs.declared.task.Entry.{Entry}
 use Rattle.pool_model.specs.Tickets.{IsBefore, Ascend, tickets_of}
-use Rattle.task_queue.proofs.Lists.{All-cons, All-head, All-tail, All-none, All-snoc, All-front}
 
 -- one ticket more, behind all others
 pub ascend-snoc : (ts : List Ticket) (t : Ticket) → Ascend ts → All (λ s. IsBefore s t) ts → Ascend (ts ++ t ∷ [])
-ascend-snoc [] t up before = (All-none (IsBefore t), tt)
+ascend-snoc [] t up before = (All-nil (IsBefore t), tt)
 ascend-snoc (s ∷ ss) t up before = (
-  All-snoc (IsBefore s) ss t up.0 (All-head (λ (x : Ticket). IsBefore x t) s ss before),
+  All-push (IsBefore s) ss t up.0 (All-head (λ (x : Ticket). IsBefore x t) s ss before),
   ascend-snoc ss t up.1 (All-tail (λ (x : Ticket). IsBefore x t) s ss before),
 )
-
-pub ascend-front : (xs ys : List Ticket) → Ascend (xs ++ ys) → Ascend xs
-ascend-front [] ys up = tt
-ascend-front (x ∷ xs) ys up = (All-front (IsBefore x) xs ys up.0, ascend-front xs ys up.1)
 
 -- a task whose index is above those of its adder stands behind all
 pub behind : (xs : List Entry) (e : Entry) → All (λ x. x.ticket.index < e.ticket.index) (filter (λ x. eqb x.ticket.adder e.ticket.adder) xs)
     → All (λ t. IsBefore t e.ticket) (tickets_of xs)
-behind [] e below = All-none (λ (t : Ticket). IsBefore t e.ticket)
+behind [] e below = All-nil (λ (t : Ticket). IsBefore t e.ticket)
 behind (x ∷ xs) e below = dite (ℕ_discrete x.ticket.adder e.ticket.adder)
     (λ same.
     let is : filter (λ (y : Entry). eqb y.ticket.adder e.ticket.adder) (x ∷ xs) ≡ x ∷ filter (λ (y : Entry). eqb y.ticket.adder e.ticket.adder) xs =

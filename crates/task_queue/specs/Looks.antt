@@ -7,9 +7,10 @@ use Rattle.job_trait.specs.declared.job.Head.{Head}
 use Rattle.pool_model.specs.declared.task.Ending.{Ending}
 use Rattle.pool_model.specs.declared.task.Entry.{Entry}
 use Rattle.pool_model.specs.Steps.{of_queue, of_mark, LookSeen, looked, found_empty, took}
-use Rattle.task_queue.specs.declared.looks.Noted.{Noted}
-use Rattle.task_queue.specs.declared.looks.Noted.TheVariants.{Took, FoundEmpty, Looked}
+use Rattle.queue_looks.specs.declared.pops.Noted.{Noted}
+use Rattle.queue_looks.specs.declared.pops.Noted.TheVariants.{Took, FoundEmpty, Looked}
 use Rattle.task_queue.specs.declared.rule.Queued.{Queued}
+use Rattle.task_queue.specs.Marks.{WatchSeen}
 use Rattle.task_queue.specs.Passes.{Pass}
 use Rattle.task_queue.specs.Views.{entry_of}
 
@@ -25,7 +26,7 @@ abbrev pub queue_of : {J : Type 0} → Pass J → SegId Global
 queue_of p = record { web = p.web; heap = p.heap }
 
 -- what is noted: a pop, with what its pass had popped by then, or a look at the mark
-abbrev pub look_of : {J : Type 0} → Noted J → LookSeen
+abbrev pub look_of : {J : Type 0} → Noted (Pass J) WatchSeen → LookSeen
 look_of (Took place pass) = record { place = of_queue (queue_of pass.value); step = took place (last_or no_entry pass.value.me.view.client.popped) }
 look_of (FoundEmpty place pass) = record { place = of_queue (queue_of pass.value); step = found_empty place }
 look_of (Looked watch) = record { place = of_mark watch.value.mark; step = looked watch.value.found }

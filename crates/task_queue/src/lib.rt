@@ -30,7 +30,6 @@ mod queue;
 mod rule;
 mod spares;
 mod steps;
-mod trail;
 mod view;
 
 pub use looks::Looks;

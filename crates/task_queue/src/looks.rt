@@ -6,24 +6,16 @@ ghost use Rattle.task_queue.specs.Steps.{Popped, MayPop};
 
 use crate::mark::Watch;
 use crate::packet::Packet;
-use crate::rule::{Line, Pass, Queued};
+use crate::rule::{Line, Pass, QueueRule, Queued};
 use crate::steps::Pop;
-use crate::trail::Trail;
+use crate::view::View;
 use job_trait::Headed;
+use queue_looks::Trail;
 use std::marker::Model;
-use std::snapshot::Snapshot;
 use std::sync::Wait;
 
-/// What is noted of a look.
-#[derive(Drop)]
-pub(crate) enum Noted<J> {
-    /// A pop gave a task: the place that the caller calls the queue by, and the pass afterwards.
-    Took(u32, Snapshot<Pass<J>>),
-    /// A pop found the queue empty.
-    FoundEmpty(u32, Snapshot<Pass<J>>),
-    /// A look at the mark.
-    Looked(Snapshot<Watch>),
-}
+/// What is noted of a look at a queue or at the mark.
+pub(crate) type Noted<J> = queue_looks::Noted<Pass<J>, Watch>;
 
 /// All looks of one worker or helper, at queues and at the mark, oldest first. Contracts see each: at which queue or mark it was,
 /// and what it found. It has no bytes, may be dropped, and only a pop and a look at the mark make it longer.
@@ -75,16 +67,11 @@ pub(crate) fn pop<J: Headed, R: Wait>(
     ensures popped { Popped J.head pass.old.me.view.client pass.new.me.view.client result }
     ensures noted { looks.new ≡ looks.old ++ pop_seen J.head line.now place result ∷ [] }
 {
-    let popped = line.pop_as::<Pop, R>(rt, pass);
-    let after = Snapshot::of(&*pass);
-    match popped {
-        Some(packet) => {
-            looks.note(Noted::Took(place, after));
-            Some(packet)
-        }
-        None => {
-            looks.note(Noted::FoundEmpty(place, after));
-            None
-        }
-    }
+    queue_looks::pop::<Packet<Queued<J>>, View, QueueRule<J>, Pop, Watch, R>(
+        line,
+        rt,
+        pass,
+        place,
+        &mut looks.trail,
+    )
 }

@@ -3,11 +3,12 @@ ghost use Rattle.std.specs.Prelude.{◌≡◌, ◌≢◌, ◌+◌, ◌-◌, ◌<
 ghost use Rattle.task_queue.specs.Looks.{mark_seen};
 ghost use Rattle.task_queue.specs.Marks.{ending_of};
 
-use crate::looks::{Looks, Noted};
+use crate::looks::Looks;
 use atomic_table::{Join, Play, Seat, Split, Table, TableRule};
 use fan_base::Memory;
 use keep_alive::{Joined, KeepAlive};
 use pool_model::Ending;
+use queue_looks::Noted;
 use std::alloc::{AllocError, Global};
 use std::marker::Model;
 use std::snapshot::Snapshot;

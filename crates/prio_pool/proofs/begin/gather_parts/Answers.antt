@@ -1,7 +1,7 @@
 use Rattle.std.proofs.Common.{◌≡◌, ◌+◌, List, [], ◌∷◌, ◌++◌, length, length-append, ap, sym, subst, ◌∙◌, append_assoc, arith}
 use Rattle.std.specs.List.{All}
 use Rattle.pool_model.specs.Seen.{PassSeen}
-use Rattle.prio_pool.proofs.Lists.{All-front}
+use Rattle.pool_model.proofs.Lists.{All-front}
 use Rattle.task_queue.specs.Marks.{OpenSeen}
 use Rattle.prio_pool.specs.Passes.{first_pass}
 use Rattle.prio_pool.proofs.begin.gather_parts.Goals as goal

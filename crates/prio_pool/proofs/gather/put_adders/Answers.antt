@@ -6,7 +6,7 @@ use Rattle.crossbeam_queue.specs.SegTies.{SegId}
 use Rattle.task_queue.specs.Seen.{AdderSeen, GatheredSeen, and_adder}
 use Rattle.prio_pool.specs.Gathering.{behind_with}
 use Rattle.prio_pool.proofs.Gathered.{one_more, still_there, none_yet, middle, has_gathered, same_queue}
-use Rattle.pool_runs.proofs.Lists.{at_index}
+use Rattle.std.proofs.lemmas.Option.{slice_get-get_or}
 use Rattle.prio_pool.proofs.gather.put_adders.Goals as goal
 
 pub loop-adder-init : goal.loop-adder-init
@@ -30,7 +30,7 @@ put_adder_at-requires g c =
     let old = c.args.gathered.now.items in
     let count : length c.loop-adder.adders.items ≡ suc n = omega (arith, ap length c.in-Some.ensures.items, length-append more (x ∷ []), c.len-number.ensures) in
     let within : n < length qs = omega (arith, count, ap length i.all, length-append c.loop-adder.adders.items i.done, ap length c.requires.queues, length-map c.args.adders.items (λ (y : AdderSeen). y.queue)) in
-    let at : slice_get qs n ≡ Some q = at_index qs n q within ∙ ap (λ (y : SegId Global). Some y) (sym c.index.ensures) in
+    let at : slice_get qs n ≡ Some q = slice_get-get_or qs n q within ∙ ap (λ (y : SegId Global). Some y) (sym c.index.ensures) in
     let h = has_gathered old n q (subst (λ (l : List (SegId Global)). slice_get l n ≡ Some q) (sym c.requires.gathered) at) in
     let now : c.loop-adder.gathered.items ≡ behind_with and_adder (suc n) old i.done = i.gathered ∙ ap (λ (k : ℕ). behind_with and_adder k old i.done) count in
     let left : n ≡ length more = omega (arith, c.len-number.ensures) in

@@ -6,7 +6,7 @@ use Rattle.crossbeam_queue.specs.SegTies.{SegId}
 use Rattle.task_queue.specs.Seen.{TakerSeen, GatheredSeen, and_taker}
 use Rattle.prio_pool.specs.Gathering.{behind_with}
 use Rattle.prio_pool.proofs.Gathered.{one_more, still_there, none_yet, middle, has_gathered, same_queue}
-use Rattle.pool_runs.proofs.Lists.{at_index}
+use Rattle.std.proofs.lemmas.Option.{slice_get-get_or}
 use Rattle.prio_pool.proofs.gather.put_takers.Goals as goal
 
 pub loop-taker-init : goal.loop-taker-init
@@ -30,7 +30,7 @@ put_taker_at-requires g c =
     let old = c.args.gathered.now.items in
     let count : length c.loop-taker.takers.items ≡ suc n = omega (arith, ap length c.in-Some.ensures.items, length-append more (x ∷ []), c.len-number.ensures) in
     let within : n < length qs = omega (arith, count, ap length i.all, length-append c.loop-taker.takers.items i.done, ap length c.requires.queues, length-map c.args.takers.items (λ (y : TakerSeen). y.queue)) in
-    let at : slice_get qs n ≡ Some q = at_index qs n q within ∙ ap (λ (y : SegId Global). Some y) (sym c.index.ensures) in
+    let at : slice_get qs n ≡ Some q = slice_get-get_or qs n q within ∙ ap (λ (y : SegId Global). Some y) (sym c.index.ensures) in
     let h = has_gathered old n q (subst (λ (l : List (SegId Global)). slice_get l n ≡ Some q) (sym c.requires.gathered) at) in
     let now : c.loop-taker.gathered.items ≡ behind_with and_taker (suc n) old i.done = i.gathered ∙ ap (λ (k : ℕ). behind_with and_taker k old i.done) count in
     let left : n ≡ length more = omega (arith, c.len-number.ensures) in

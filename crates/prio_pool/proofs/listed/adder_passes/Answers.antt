@@ -1,12 +1,12 @@
 use Rattle.std.proofs.Common.{◌≡◌, ◌-◌, List, [], ◌∷◌, ◌++◌, length, length-append, ap, sym, subst, ◌∙◌, arith}
 use Rattle.std.specs.List.{All}
 use Rattle.std.proofs.lemmas.List.{map-append}
+use Rattle.std.proofs.lemmas.List.Elements.{All-head, All-tail}
 use Rattle.pool_model.specs.Seen.{PassSeen}
 use Rattle.task_queue.specs.Marks.{OpenSeen}
 use Rattle.prio_pool.specs.Made.{in_places, IsPlace}
 use Rattle.prio_pool.specs.Passes.{first_pass}
 use Rattle.pool_runs.proofs.Lists.{one_over}
-use Rattle.prio_pool.proofs.Lists.{All-head, All-tail}
 use Rattle.prio_pool.proofs.listed.adder_passes.Goals as goal
 
 pub loop-adders-preserved : goal.loop-adders-preserved

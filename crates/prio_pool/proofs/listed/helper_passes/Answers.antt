@@ -1,11 +1,11 @@
 use Rattle.std.proofs.Common.{◌≡◌, List, [], ◌∷◌, ◌++◌, length, length-append, map, ap, subst, ◌∙◌, arith}
 use Rattle.std.specs.List.{All}
+use Rattle.std.proofs.lemmas.List.Elements.{All-tail}
 use Rattle.pool_model.specs.Seen.{EndSeen}
 use Rattle.prio_pool.specs.Made.{helper_seen}
 use Rattle.prio_pool.specs.Passes.{TookNothing}
 use Rattle.prio_pool.specs.Takers.{TakersSeen}
 use Rattle.pool_runs.proofs.Lists.{one_over}
-use Rattle.prio_pool.proofs.Lists.{All-tail}
 use Rattle.prio_pool.proofs.listed.helper_passes.Goals as goal
 
 pub loop-takers-preserved : goal.loop-takers-preserved

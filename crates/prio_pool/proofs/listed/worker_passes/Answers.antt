@@ -1,12 +1,12 @@
 use Rattle.std.proofs.Common.{◌≡◌, ◌^◌, List, [], ◌∷◌, ◌++◌, length, length-append, map, ap, subst, sym, ◌∙◌, arith}
 use Rattle.std.specs.List.{All}
+use Rattle.std.proofs.lemmas.List.Elements.{All-tail}
 use Rattle.pool_model.specs.Seen.{WorkerSeen}
 use Rattle.prio_pool.specs.Made.{worker_seen}
 use Rattle.prio_pool.specs.Passes.{TookNothing}
 use Rattle.prio_pool.specs.Sleeping.{parkers_of, bits_of}
 use Rattle.prio_pool.specs.Takers.{TakersSeen}
 use Rattle.pool_runs.proofs.Lists.{one_over}
-use Rattle.prio_pool.proofs.Lists.{All-tail}
 use Rattle.prio_pool.proofs.Sleeping.{same_others}
 use Rattle.prio_pool.proofs.listed.worker_passes.Goals as goal
 

@@ -5,7 +5,7 @@ use Rattle.std.proofs.lemmas.List.{map-append}
 use Rattle.crossbeam_queue.specs.SegTies.{SegId}
 use Rattle.task_queue.specs.Seen.{MakerSeen}
 use Rattle.prio_pool.specs.Made.{maker, one_taker, new_taker, mixed}
-use Rattle.pool_runs.proofs.Lists.{at_index}
+use Rattle.std.proofs.lemmas.Option.{slice_get-get_or}
 use Rattle.prio_pool.proofs.Mixing.{mixed_at, mixed_set, mixed_all, take_one}
 use Rattle.prio_pool.proofs.make.next_takers.Goals as goal
 
@@ -15,7 +15,7 @@ next_taker_at-requires g c =
     let k = c.loop-number.number in
     let q : SegId Global = c.index.result.now in
     let within : k < length qs = omega (arith, c.loop-number-test.true, c.len-number-end.ensures) in
-    let at : slice_get qs k ≡ Some q = at_index qs k q within ∙ ap (λ (x : SegId Global). Some x) (sym c.index.ensures) in
+    let at : slice_get qs k ≡ Some q = slice_get-get_or qs k q within ∙ ap (λ (x : SegId Global). Some x) (sym c.index.ensures) in
     (omega arith, (subst (λ (l : List MakerSeen). slice_get l k ≡ Some (maker c.args.counts q)) (sym c.loop-number.invariant.makers) (mixed_at (maker (one_taker c.args.counts)) (maker c.args.counts) qs k q at), c.requires.some))
 
 pub loop-number-preserved : goal.loop-number-preserved
@@ -27,7 +27,7 @@ loop-number-preserved g c =
     let f = maker (one_taker c.args.counts) in
     let h = maker c.args.counts in
     let within : k < length qs = omega (arith, c.loop-number-test.true, c.len-number-end.ensures) in
-    let at : slice_get qs k ≡ Some q = at_index qs k q within ∙ ap (λ (x : SegId Global). Some x) (sym c.index.ensures) in
+    let at : slice_get qs k ≡ Some q = slice_get-get_or qs k q within ∙ ap (λ (x : SegId Global). Some x) (sym c.index.ensures) in
     let next : suc k ≡ k + 1 = omega arith in
     record {
       makers = c.next_taker_at.ensures.makers ∙ (ap (λ (l : List MakerSeen). set l k (f q)) i.makers ∙ (mixed_set f h qs k q at ∙ ap (λ (n : ℕ). mixed f h n qs) next));

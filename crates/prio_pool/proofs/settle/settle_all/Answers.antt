@@ -5,8 +5,8 @@ use Rattle.std.proofs.lemmas.List.{map-append, reverse-append}
 use Rattle.crossbeam_queue.specs.SegTies.{SegId}
 use Rattle.task_queue.specs.Seen.{GatheredSeen}
 use Rattle.prio_pool.specs.Gathering.{AllSettled, IsWhole}
-use Rattle.prio_pool.proofs.Gathered.{snoc_same}
-use Rattle.prio_pool.proofs.Lists.{All-front}
+use Rattle.std.proofs.lemmas.List.{same_from_push}
+use Rattle.pool_model.proofs.Lists.{All-front}
 use Rattle.prio_pool.proofs.settle.settle_all.Goals as goal
 
 pub loop-queue-preserved : goal.loop-queue-preserved
@@ -20,7 +20,7 @@ loop-queue-preserved g c =
     let queue_items : c.loop-queue.queues.items ≡ qs ++ q ∷ [] = c.in-Some.ensures.items in
     let items : c.loop-queue.gathered.items ≡ gs ++ one ∷ [] = c.in-Some-pop.ensures.items in
     let seen = sym (map-append (λ (x : GatheredSeen). x.queue) gs (one ∷ [])) ∙ (ap (map (λ (x : GatheredSeen). x.queue)) (sym items) ∙ (i.queues ∙ queue_items)) in
-    let parts = snoc_same (map (λ (x : GatheredSeen). x.queue) gs) qs one.queue q seen in
+    let parts = same_from_push (map (λ (x : GatheredSeen). x.queue) gs) qs one.queue q seen in
     let turned = ap reverse c.push_reserved.ensures.items ∙ reverse-append old (c.settle.result ∷ []) in
     record {
       done = one ∷ i.done;

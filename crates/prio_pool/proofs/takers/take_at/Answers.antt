@@ -1,12 +1,13 @@
 use Rattle.std.proofs.Common.{◌∙◌, subst}
 use Rattle.task_queue.specs.Seen.{TakerSeen}
 use Rattle.task_queue.specs.Settled.{TakeTold}
-use Rattle.prio_pool.proofs.Taking.{took, got_is}
+use Rattle.std.proofs.lemmas.Option.{get_or_from_slice_get}
+use Rattle.prio_pool.proofs.Taking.{took}
 use Rattle.prio_pool.proofs.takers.take_at.Goals as goal
 
 pub returns-clause-took : goal.returns-clause-took
 returns-clause-took g c =
-    let is = c.index_mut.ensures.value ∙ got_is c.args.takers.now.items c.args.number c.requires.taker c.index_mut.result.now c.requires.at in
+    let is = c.index_mut.ensures.value ∙ get_or_from_slice_get c.args.takers.now.items c.args.number c.requires.taker c.index_mut.result.now c.requires.at in
     took g.J.Headed.head c.args.takers.now.items c.args.number c.requires.taker c.take.new.taker c.take.result c.requires.at
     (subst (λ (t : TakerSeen). TakeTold (λ p. g.J.Headed.head p.job) t c.take.new.taker c.take.result) is c.take.ensures.told)
     c.take.ensures.ascend

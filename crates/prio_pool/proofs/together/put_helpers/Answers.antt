@@ -3,6 +3,7 @@ use Rattle.std.specs.List.{All}
 use Rattle.std.specs.declared.alloc.Global.{Global}
 use Rattle.std.proofs.lemmas.Grind.{flat_map-append}
 use Rattle.std.proofs.lemmas.List.{reverse-append, reverse-reverse}
+use Rattle.std.proofs.lemmas.List.Elements.{All-head, All-tail, All-nil, All-push}
 use Rattle.crossbeam_queue.specs.SegTies.{SegId}
 use Rattle.pool_model.specs.Endings.{RanWhatItTook, records_of}
 use Rattle.pool_model.specs.Records.{Record}
@@ -10,7 +11,6 @@ use Rattle.pool_model.specs.Seen.{EndSeen}
 use Rattle.task_queue.specs.Marks.{WatchSeen}
 use Rattle.prio_pool.specs.Gathering.{gathered_from, IsOf, FoundAs}
 use Rattle.pool_runs.proofs.Lists.{one_over}
-use Rattle.prio_pool.proofs.Lists.{All-head, All-tail, All-none, All-snoc}
 use Rattle.prio_pool.proofs.together.put_helpers.Goals as goal
 
 -- the last of the ends is the first of them turned round
@@ -47,9 +47,9 @@ loop-end-preserved g c =
       together = record { passes = i.together.passes; ends = i.together.ends ++ e ∷ []; is = put.gathered i.together.passes i.together.ends i.together.is };
       begun = put.begun ∙ i.begun;
       records = made ∙ (ap (λ (l : List Record). l ++ e.records) i.records ∙ (append_assoc c.args.records.now (records_of i.done) e.records ∙ ap (λ (l : List Record). c.args.records.now ++ l) (sym one)));
-      ran = All-snoc RanWhatItTook i.done e i.ran put.ran;
-      popped = All-snoc (λ (x : EndSeen). length x.popped ≡ length qs) i.done e i.popped put.popped;
-      found = All-snoc (FoundAs c.args.begun.now.found) i.done e i.found (subst (λ f. FoundAs f e) found put.found);
+      ran = All-push RanWhatItTook i.done e i.ran put.ran;
+      popped = All-push (λ (x : EndSeen). length x.popped ≡ length qs) i.done e i.popped put.popped;
+      found = All-push (FoundAs c.args.begun.now.found) i.done e i.found (subst (λ f. FoundAs f e) found put.found);
       room = omega (arith, i.room, ap length items, length-append more (e ∷ []), ap length c.append.ensures, length-append c.loop-end.records c.put_helper-more.result, put.short);
     }
 
@@ -67,8 +67,8 @@ loop-end-init g c =
       together = c.requires.together;
       begun = refl;
       records = sym (append-nil c.args.records.now);
-      ran = All-none RanWhatItTook;
-      popped = All-none (λ (x : EndSeen). length x.popped ≡ length qs);
-      found = All-none (FoundAs c.args.begun.now.found);
+      ran = All-nil RanWhatItTook;
+      popped = All-nil (λ (x : EndSeen). length x.popped ≡ length qs);
+      found = All-nil (FoundAs c.args.begun.now.found);
       room = omega (arith, c.reverse.ensures.len);
     }

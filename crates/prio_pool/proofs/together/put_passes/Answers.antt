@@ -3,12 +3,12 @@ use Rattle.std.specs.List.{All}
 use Rattle.std.specs.declared.alloc.Global.{Global}
 use Rattle.crossbeam_queue.specs.SegTies.{SegId}
 use Rattle.std.proofs.lemmas.List.Sums.{sum_by_push}
+use Rattle.std.proofs.lemmas.List.Elements.{All-head, All-tail, All-nil, All-push}
 use Rattle.pool_model.specs.Passes.{HasNoGap, adds_of}
 use Rattle.pool_model.specs.Seen.{PassSeen}
 use Rattle.task_queue.specs.Seen.{GatheredSeen}
 use Rattle.prio_pool.specs.Gathering.{gathered_from, OneAdderMore}
 use Rattle.pool_runs.proofs.Lists.{one_over}
-use Rattle.prio_pool.proofs.Lists.{All-head, All-tail, All-none, All-snoc}
 use Rattle.prio_pool.proofs.Merging.{queues_of}
 use Rattle.prio_pool.proofs.together.put_passes.Goals as goal
 
@@ -34,8 +34,8 @@ loop-adders-preserved g c =
       of_pool = All-tail (λ (p : PassSeen). (p.pool.queues ≡ qs) × (p.pool.passes ≡ whole)) a more of_pool;
       more = λ passes ends is. put (passes ++ i.done) ends (i.more passes ends is) ∙ ap (λ (l : List PassSeen). gathered_from whole l ends 0 qs) (append_assoc passes i.done (a ∷ []));
       total = omega (arith, i.total, c.count-total.ensures, sum_by_push (λ (p : PassSeen). length (adds_of p)) i.done a);
-      gaps = All-snoc HasNoGap i.done a i.gaps c.told.ensures.gap;
-      pushed = All-snoc (λ (p : PassSeen). length p.pushed ≡ length qs) i.done a i.pushed (c.told.ensures.as_many ∙ ap length own.0);
+      gaps = All-push HasNoGap i.done a i.gaps c.told.ensures.gap;
+      pushed = All-push (λ (p : PassSeen). length p.pushed ≡ length qs) i.done a i.pushed (c.told.ensures.as_many ∙ ap length own.0);
       few = omega (arith, i.few, ap length items, c.count-total.ensures, c.told.ensures.few);
       together = record { passes = i.together.passes ++ a ∷ []; ends = i.together.ends; is = put i.together.passes i.together.ends i.together.is };
     }
@@ -50,8 +50,8 @@ loop-adders-init g c =
       of_pool = c.requires.of;
       more = λ passes ends is. is ∙ ap (λ (l : List PassSeen). gathered_from whole l ends 0 qs) (sym (append-nil passes));
       total = refl;
-      gaps = All-none HasNoGap;
-      pushed = All-none (λ (p : PassSeen). length p.pushed ≡ length qs);
+      gaps = All-nil HasNoGap;
+      pushed = All-nil (λ (p : PassSeen). length p.pushed ≡ length qs);
       few = omega (arith, c.requires.few);
       together = c.requires.together;
     }

@@ -1,7 +1,7 @@
 use Rattle.std.proofs.Common.{◌≡◌, ◌+◌, List, [], ◌∷◌, ◌++◌, length, length-append, map, ap, sym, subst, ◌∙◌, arith}
 use Rattle.std.specs.List.{All}
 use Rattle.std.specs.declared.alloc.Global.{Global}
-use Rattle.std.proofs.lemmas.List.Elements.{All-append}
+use Rattle.std.proofs.lemmas.List.Elements.{All-append, All-cons, All-head, All-tail, All-weaker}
 use Rattle.crossbeam_queue.specs.SegTies.{SegId}
 use Rattle.pool_model.specs.Endings.{RanWhatItTook}
 use Rattle.pool_model.specs.Passes.{HasNoGap}
@@ -12,7 +12,6 @@ use Rattle.prio_pool.specs.Ended.{CameTo}
 use Rattle.prio_pool.specs.Gathering.{gathered_from, IsWhole, FoundAs, AllSettled}
 use Rattle.prio_pool.proofs.Accounting.{all_whole}
 use Rattle.prio_pool.proofs.Finishing.{few_rests}
-use Rattle.prio_pool.proofs.Lists.{All-cons, All-head, All-tail, All-into}
 use Rattle.prio_pool.proofs.Merging.{queues_of}
 use Rattle.prio_pool.proofs.pool.Pool.end.Goals as goal
 
@@ -24,8 +23,8 @@ put_passes-others-requires-clause-of g c =
     let first : PassSeen = c.in-Some.first in
     let others : List PassSeen = c.pop_front.new.self in
     let all = subst (All (λ (p : PassSeen). p.pool ≡ c.args.self.id)) c.in-Some.ensures.items c.requires.passes.of_pool in
-    All-into (λ (p : PassSeen). p.pool ≡ c.args.self.id) (λ (p : PassSeen). (p.pool.queues ≡ qs) × (p.pool.passes ≡ whole)) others
-    (λ p e. (ap (λ (x : PoolId). x.queues) (e ∙ sym id), ap (λ (x : PoolId). x.passes) (e ∙ sym id)))
+    All-weaker (λ (p : PassSeen). p.pool ≡ c.args.self.id) (λ (p : PassSeen). (p.pool.queues ≡ qs) × (p.pool.passes ≡ whole)) (λ p e. (ap (λ (x : PoolId). x.queues) (e ∙ sym id), ap (λ (x : PoolId). x.passes) (e ∙ sym id)))
+    others
     (All-tail (λ (p : PassSeen). p.pool ≡ c.args.self.id) first others all)
 
 pub settle_all-rests-requires-clause-queues : goal.settle_all-rests-requires-clause-queues

@@ -7,7 +7,7 @@ use Rattle.pool_model.specs.Seen.{PoolId, WorkerSeen}
 use Rattle.pool_model.specs.Steps.{Turn, ran, idle, steps_in, steps_of}
 use Rattle.prio_pool.specs.Takers.{TakersSeen}
 use Rattle.prio_pool.specs.Turned.{WorkedSoFar}
-use Rattle.pool_runs.proofs.Leading.{leads_more}
+use Rattle.job_trait.proofs.Histories.{leads_more}
 use Rattle.prio_pool.proofs.Recording.{so_far_more, worked_all}
 use Rattle.prio_pool.proofs.pool.Pool.work.Goals as goal
 

@@ -30,12 +30,12 @@ use denote.Triple.Spec.{Meets, triple_of}
 use denote.Triple.Table.{entered}
 use denote.Triple.Walked.{says, Stays, stay_dropped, walk_of, ends_at, walk_Meets, Goes-dropped}
 use Rattle.std.specs.contracts.marker.PhantomData as Mark
-use Rattle.task_queue.proofs.Walks.{none, one, one_made}
-use Rattle.task_queue.specs.contracts.trail.Trail as Log
-use Rattle.task_queue.specs.contracts.trail.Trail.and as F
-use Rattle.task_queue.specs.contracts.trail.Trail.and.Key.{name as #self}
-use Rattle.task_queue.proofs.trail.Trail.and.Statement as stated
-use Rattle.task_queue.proofs.trail.Trail.and.Code as code
+use Rattle.queue_looks.proofs.Walks.{none, one, one_made}
+use Rattle.queue_looks.specs.contracts.trail.Trail as Log
+use Rattle.queue_looks.specs.contracts.trail.Trail.and as F
+use Rattle.queue_looks.specs.contracts.trail.Trail.and.Key.{name as #self}
+use Rattle.queue_looks.proofs.trail.Trail.and.Statement as stated
+use Rattle.queue_looks.proofs.trail.Trail.and.Code as code
 
 module _ (A : RattleType) where
   abbrev args : Args

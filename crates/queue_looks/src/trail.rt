@@ -4,10 +4,10 @@ ghost use Rattle.std.specs.Borrow.{ftrue};
 
 use std::marker::{Model, PhantomData};
 
-/// What happened, oldest first. It has no bytes, and contracts see the list. Only its two calls say what stands in it, so it is
-/// kept private to the one type over it.
+/// What happened, oldest first. It has no bytes, and contracts see the list. Only its two calls say what stands in it, so a type
+/// that keeps one private says by it what was done.
 #[derive(Drop)]
-pub(crate) struct Trail<A> {
+pub struct Trail<A> {
     of: PhantomData<A>,
     pub ghost items: { List A },
 }
@@ -20,14 +20,14 @@ unsafe impl<A> Send for Trail<A> {}
 
 impl<A> Trail<A> {
     /// Nothing has happened.
-    pub(crate) fn new() -> Trail<A>
+    pub fn new() -> Trail<A>
         ensures { result.items ≡ [] }
     {
         Trail { of: PhantomData }
     }
 
     /// One thing more has happened.
-    pub(crate) fn and(&self, last: &A) -> Trail<A>
+    pub fn and(&self, last: &A) -> Trail<A>
         ensures { result.items ≡ self.now.items ++ last.now ∷ [] }
     {
         let _ = last;
