@@ -1,5 +1,5 @@
 -- Steps round a ring of `size` cells.
-use Rattle.std.proofs.Common.{◌≡◌, ◌≢◌, ◌⊎◌, ℕ, zero, suc, ◌+◌, ◌-◌, ◌*◌, ◌/◌, ◌%◌, ◌^◌, ◌<◌, ◌≤◌, inl, inr, ⊎_elim, zero-le, suc-le-suc, ap, subst, shr_lt, mod-lt, pow_pos, pow_mono, arith}
+use Rattle.std.proofs.Common.{◌≡◌, ◌≢◌, ◌⊎◌, ℕ, zero, suc, ◌+◌, ◌-◌, ◌*◌, ◌/◌, ◌%◌, ◌^◌, ◌<◌, ◌≤◌, inl, inr, ⊎_elim, zero-le, suc-le-suc, ap, subst, shr_lt, mod-lt, pow_pos, arith}
 use Rattle.std.proofs.lemmas.Bool.Decides.{nat_tests}
 use Rattle.std.proofs.Math.Nat.{pow-suc}
 use Rattle.id_table.specs.Ring.{home_of, next, distance}
@@ -137,32 +137,9 @@ last_of_all size at to ha ht apart =
     (λ q f. by_distance size (next size at) to hn (λ r g. omega arith) (λ r g. omega arith))
     (λ q f. by_distance size (next size at) to hn (λ r g. omega arith) (λ r g. omega arith)))
 
--- the fours among 2^bits cells
-pub four_below : (bits x : ℕ) → 2 < bits → bits ≤ 64 → x < 2 ^ 64 → x / 2 ^ (66 - bits) < 2 ^ (bits - 2)
-four_below bits x some within fits =
-    let e : 64 ≡ (bits - 2) + (66 - bits) = omega arith in
-    shr_lt (bits - 2) (66 - bits) (subst (λ k. x < 2 ^ k) e fits)
-
-pub four_cells : (bits : ℕ) → 2 < bits → 2 ^ bits ≡ 2 ^ (bits - 2) * 4
-four_cells bits some =
-    let e : bits ≡ suc (suc (bits - 2)) = omega arith in
-    let once = pow-suc 2 (bits - 2) in
-    let twice = pow-suc 2 (suc (bits - 2)) in
-    let same = ap (λ (n : ℕ). 2 ^ n) e in
-    omega (arith, same, once, twice)
-
 pub home_below : (bits id : ℕ) → 2 < bits → bits ≤ 64 → home_of bits id < 2 ^ bits
 unfolding home_of
 home_below bits id some within =
-    let four = four_below bits ((id / 4 * 0x9e37_79b9_7f4a_7c15) % 2 ^ 64) some within (mod-lt (id / 4 * 0x9e37_79b9_7f4a_7c15) (pow_pos 64)) in
-    let low : id % 4 < 4 = omega arith in
-    let size = four_cells bits some in
-    omega (arith, four, low, size)
-
--- the last cell of a four is a number of 64 bits
-pub four_fits : (bits x : ℕ) → 2 < bits → bits ≤ 64 → x < 2 ^ 64 → x / 2 ^ (66 - bits) * 4 + 3 < 2 ^ 64
-four_fits bits x some within fits =
-    let four = four_below bits x some within fits in
-    let size = four_cells bits some in
-    let most : 2 ^ bits ≤ 2 ^ 64 = pow_mono {j = 64} within in
-    omega (arith, four, size, most)
+    let e : 64 ≡ bits + (64 - bits) = omega arith in
+    let x : ℕ = (id * 0x9e37_79b9_7f4a_7c15) % 2 ^ 64 in
+    shr_lt bits (64 - bits) (subst (λ k. x < 2 ^ k) e (mod-lt (id * 0x9e37_79b9_7f4a_7c15) (pow_pos 64)))

@@ -5,16 +5,14 @@ ghost use Rattle.id_table.specs.Ring.{home_of, next, distance};
 // 2^64 divided by the golden ratio: the upper bits of its multiples are spread evenly, those of successive ones the more so.
 const FACTOR: u64 = 0x9e37_79b9_7f4a_7c15;
 
-// The cell at which the cells of an id begin, among 2^bits. Four ids that differ in their last two bits alone have four cells side by side,
-// and the fours are spread.
+// The cell at which the cells of an id begin, among 2^bits: the upper bits of a multiple.
 #[tactic(auto, unfolding(crate::specs::Ring::home_of))]
 pub(crate) fn home(bits: u32, id: u64) -> usize
     requires some { 2 < bits }
     requires within { bits < 64 }
     ensures { result ≡ home_of bits id }
 {
-    let four = (id / 4).wrapping_mul(FACTOR) >> (66 - bits);
-    (four * 4 + id % 4) as usize
+    (id.wrapping_mul(FACTOR) >> (64 - bits)) as usize
 }
 
 // The cell after this one, the first after the last.

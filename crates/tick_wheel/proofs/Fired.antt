@@ -6,6 +6,7 @@ use Rattle.std.specs.Ordering.{nat_cmp}
 use Rattle.std.proofs.lemmas.Grind.{common_steps}
 use Rattle.std.proofs.lemmas.List.{get_or_default, append_assoc, append-nil}
 use Rattle.std.proofs.lemmas.List.Elements.{Contains-get_or}
+use Rattle.std.proofs.lemmas.List.Sorted.{IsNonDecreasingBy-short}
 use Rattle.std.proofs.lemmas.Option.{none-some, same_Some}
 use Rattle.timer_lanes.specs.Lanes.{Held}
 use Rattle.tick_wheel.specs.declared.timer.Timer.{Timer}
@@ -32,6 +33,10 @@ module _ {A : Type 0} where
         let c = lists.all id h is at in
         (c.0, omega arith, c.1, get_or_default keys c.0 (0, 0) (h.order, id) c.1 ∙ c.2);
   }
+
+  -- one key alone
+  pub firing_one : (index : Index A) (slot : ℕ) (key : ℕ × ℕ) → ListsIds index slot (key ∷ []) → IsFiring slot (key ∷ []) 0 index
+  firing_one index slot key lists = firing_first index slot (key ∷ []) lists (IsNonDecreasingBy-short (λ (k : ℕ × ℕ). k.0) (key ∷ []) (omega arith))
 
   -- one key further, and its id is not held any more
   pub firing_next : (index index1 : Index A) (slot : ℕ) (keys : List (ℕ × ℕ)) (place : ℕ) → IsFiring slot keys place index

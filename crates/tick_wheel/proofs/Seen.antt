@@ -71,6 +71,12 @@ module _ {A : Type 0} where
       → seen_of tick index ≡ v → seen_of tick index' ≡ v
   seen_settled tick index index' v apart apart' same seen = (λ i. record { tick = tick; timers = timers_same index index' apart apart' same i }) ∙ seen
 
+  -- the same, where nothing changed since
+  pub seen_still : (tick : ℕ) (index mid index' : Index A) (v : TimerList A) → AreApart index → AreApart mid → ((q : ℕ) → ranked_at mid q ≡ ranked_at index q)
+      → seen_of tick index ≡ v → index' ≡ mid → seen_of tick index' ≡ v
+  seen_still tick index mid index' v apart apart' same seen still =
+      subst (λ (ix : Index A). seen_of tick ix ≡ v) (sym still) (seen_settled tick index mid v apart apart' same seen)
+
   -- a tick's steps
   pub seen_bound : (tick : ℕ) (index : Index A) (v : TimerList A) (n m : ℕ) → seen_of tick index ≡ v
       → n ≤ m + (count_due (tick + 1) (timers_of index) + turning_bound (tick + 1) (timers_of index)) → n ≤ m + tick_bound v

@@ -1,8 +1,10 @@
 -- The index while one slot fires: its entries leave in the order in which they were gathered.
-use Rattle.std.specs.Prelude.{◌≡◌, ℕ, ◌<◌, ◌≤◌, List, Some, length, slice_index_or}
+use Rattle.std.specs.Prelude.{◌≡◌, ℕ, ◌+◌, ◌<◌, ◌≤◌, List, Some, length, slice_index_or}
 use Rattle.std.specs.List.Sorted.{IsNonDecreasingBy}
 use Rattle.timer_lanes.specs.Lanes.{Held}
-use Rattle.tick_wheel.specs.Table.{Index, held_at}
+use Rattle.tick_wheel.specs.Kept.{timers_of}
+use Rattle.tick_wheel.specs.Table.{Index, AreApart, AreAhead, held_at}
+use Rattle.tick_wheel.specs.TimerList.{due_at, due_later, items_of}
 
 -- a number of scheduling and an id
 abbrev pub key_at : List (ℕ × ℕ) → ℕ → ℕ × ℕ
@@ -20,3 +22,12 @@ module _ {T : Type 0} where
   -- the index has no more than it had
   abbrev pub IsPartOf : Index T → Index T → Type 0
   IsPartOf new old = (id : ℕ) (held : Held T) → held_at new id ≡ Some held → held_at old id ≡ Some held
+
+  -- what was due at the next tick has left, in order of scheduling, and each was one step
+  pub record Fires (now : ℕ) (old new : Index T) (before after : ℕ) (fired : List T) : Type 0 where
+    pub apart : AreApart new
+    pub ahead : AreAhead (now + 1) new
+    pub part : IsPartOf new old
+    pub fired_is : fired ≡ items_of (due_at (now + 1) (timers_of old))
+    pub rest : timers_of new ≡ due_later (now + 1) (timers_of old)
+    pub counted : after ≡ before + length fired

@@ -48,6 +48,9 @@ impl<L: Ledger> Steps<L> {
     }
 }
 
+// So many ids have a table of some 2 MB.
+const MANY: usize = 65536;
+
 // Touches the ids of keys in a table, one behind the other.
 fn touch_all(table: &mut IdTable, keys: &[(u64, u64)])
     ensures { table.new ≡ table.old }
@@ -77,7 +80,7 @@ impl<T> Model for Book<T> {
 }
 
 impl<T> Book<T> {
-    ghost use Rattle.std.specs.Prelude.{◌≡◌, ◌≢◌, ℕ, ◌+◌, ◌<◌, ◌≤◌, ◌==◌, [], length, map, true, false, is_some, Some, None, IfSome, IfNone, IfOk, IfErr, OnOk, OnErr, if◌then◌else◌, option_to_list};
+    ghost use Rattle.std.specs.Prelude.{◌≡◌, ◌≢◌, ℕ, ◌+◌, ◌<◌, ◌≤◌, ◌==◌, [], ◌∷◌, length, map, true, false, is_some, Some, None, IfSome, IfNone, IfOk, IfErr, OnOk, OnErr, if◌then◌else◌, option_to_list};
     ghost use Rattle.std.specs.List.{flat_map};
     ghost use Rattle.std.specs.Map.{keys_of};
     ghost use Rattle.std.specs.List.Sorted.{IsNonDecreasingBy};
@@ -192,15 +195,28 @@ impl<T> Book<T> {
         touch_all(&mut self.table, keys);
     }
 
-    // Touches the ids of a slot in the table, where there is memory to list them. Nothing changes.
+    // Touches the ids of a slot in the table, where that is so large that it isn't near by itself, and where there is memory to list them. Nothing
+    // changes.
     pub(crate) fn touch_slot(&mut self, alloc: Global, slot: usize)
         requires { slot < 1024 }
         ensures { self.new ≡ self.old }
     {
+        if self.table.len() < MANY {
+            return;
+        }
         let Ok(keys) = self.lanes.gather(alloc, slot) else {
             return
         };
         touch_all(&mut self.table, &keys);
+    }
+
+    // The number of scheduling and the id of a slot's only entry, where it is told at once that there is no other.
+    pub(crate) fn only(&self, slot: usize) -> Option<(u64, u64)>
+        requires { slot < 1024 }
+        ensures { IfSome result (λ key. ListsIds self.now slot (key ∷ [])) }
+    {
+        let key = self.lanes.only(slot)?;
+        Some(key)
     }
 
     // The entries of a slot in the order of their scheduling: the number that each got, and its id. Most slots have none, which is told at once.

@@ -1,11 +1,13 @@
 //! The slot of the next tick fires: what stands in it leaves, in order of scheduling.
-ghost use Rattle.std.specs.Prelude.{◌≡◌, ℕ, ◌+◌, ◌<◌, ◌≤◌, ◌^◌, ◌%◌, ◌++◌, length, vec_len, vec_capacity};
-ghost use Rattle.tick_wheel.specs.Firing.{IsFiring, IsPartOf};
+ghost use Rattle.std.specs.Prelude.{◌≡◌, ℕ, ◌+◌, ◌<◌, ◌≤◌, ◌^◌, ◌%◌, ◌++◌, length, IfOk, OnErr, vec_len, vec_capacity};
+ghost use Rattle.tick_wheel.specs.Firing.{IsFiring, IsPartOf, Fires};
 ghost use Rattle.tick_wheel.specs.Kept.{timers_of};
 ghost use Rattle.tick_wheel.specs.Table.{AreApart, AreAhead, AreSettled};
 ghost use Rattle.tick_wheel.specs.TimerList.{due_at, due_later, items_of};
 
 use crate::book::{Book, Steps};
+use fan_base::Memory;
+use std::alloc::Global;
 use std::sync::ledger::Ledger;
 
 // The next of what is due leaves.
@@ -44,7 +46,7 @@ fn fire_first<T, L: Ledger>(
 }
 
 // What is due at the next tick leaves, in order of scheduling; there is room for it. The ids are touched before, as a cascade does.
-pub(crate) fn fire<T, L: Ledger>(
+fn fire<T, L: Ledger>(
     book: &mut Book<T>,
     keys: &[(u64, u64)],
     now: u64,
@@ -69,4 +71,49 @@ pub(crate) fn fire<T, L: Ledger>(
     for place in 0..keys.len() {
         fire_first(book, keys, place, now, fired, steps);
     }
+}
+
+// What these keys name leaves, in their order. Where there is no memory for the list, nothing has changed.
+fn fire_keys<T, L: Ledger>(
+    alloc: Global,
+    book: &mut Book<T>,
+    keys: &[(u64, u64)],
+    now: u64,
+    steps: &mut Steps<L>,
+) -> Result<Vec<T>, Memory>
+    requires now { now < 2 ^ 63 }
+    requires firing { IsFiring ((now + 1) % 256) keys.now 0 book.old }
+    requires apart { AreApart book.old }
+    requires ahead { AreAhead now book.old }
+    requires settled { AreSettled (now + 1) book.old }
+    ensures ok { IfOk result (λ fired. Fires now book.old book.new steps.old steps.new fired.items) }
+    ensures refused { OnErr result (book.new ≡ book.old) }
+    ensures still { OnErr result (steps.new ≡ steps.old) }
+{
+    let mut fired = Vec::with_capacity(alloc, keys.len())?;
+    fire(book, keys, now, &mut fired, steps);
+    Ok(fired)
+}
+
+// The slot of the next tick fires. A slot with one timer needs no list of keys. Where there is no memory, nothing has changed.
+pub(crate) fn fire_slot<T, L: Ledger>(
+    alloc: Global,
+    book: &mut Book<T>,
+    now: u64,
+    steps: &mut Steps<L>,
+) -> Result<Vec<T>, Memory>
+    requires now { now < 2 ^ 63 }
+    requires apart { AreApart book.old }
+    requires ahead { AreAhead now book.old }
+    requires settled { AreSettled (now + 1) book.old }
+    ensures ok { IfOk result (λ fired. Fires now book.old book.new steps.old steps.new fired.items) }
+    ensures refused { OnErr result (book.new ≡ book.old) }
+    ensures still { OnErr result (steps.new ≡ steps.old) }
+{
+    let slot = ((now + 1) % 256) as usize;
+    let Some(key) = book.only(slot) else {
+        let keys = book.gather(alloc, slot)?;
+        return fire_keys(alloc, book, &keys, now, steps);
+    };
+    fire_keys(alloc, book, &[key], now, steps)
 }

@@ -1,7 +1,7 @@
 //! Timers by their ids, in a hashed wheel.
 use crate::book::{Book, Steps};
 use crate::cascade::settle;
-use crate::fire::fire;
+use crate::fire::fire_slot;
 use crate::place::{MAX_DELAY, slot_of};
 use crate::rest::{TimersRest, rest_of};
 use crate::sweep::{list_ids, take_all};
@@ -136,10 +136,7 @@ impl<T> Timers<T> {
     {
         let tick = self.ticks + 1;
         settle(self.alloc, &mut self.book, self.ticks, steps)?;
-        let slot = (tick % 256) as usize;
-        let keys = self.book.gather(self.alloc, slot)?;
-        let mut fired = Vec::with_capacity(self.alloc, keys.len())?;
-        fire(&mut self.book, &keys, self.ticks, &mut fired, steps);
+        let fired = fire_slot(self.alloc, &mut self.book, self.ticks, steps)?;
         self.ticks = tick;
         Ok(fired)
     }

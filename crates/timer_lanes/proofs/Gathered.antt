@@ -9,7 +9,7 @@ use Rattle.std.proofs.lemmas.List.Elements.{Contains-append_left, Contains-appen
 use Rattle.std.proofs.lemmas.Option.{none-some, same_Some, slice_get-get_or}
 use Rattle.timer_lanes.specs.declared.entry.Entry.{Entry}
 use Rattle.timer_lanes.specs.declared.lanes.Found.{Found}
-use Rattle.timer_lanes.specs.Blocks.{Block, free_block, block_at}
+use Rattle.timer_lanes.specs.Blocks.{Block, IsOnly, free_block, block_at}
 use Rattle.timer_lanes.specs.Found.{Finds, FindsIn}
 use Rattle.timer_lanes.specs.Gathering.{ListsSlot, keys_of, ids_of, keys_in, keys_of_blocks}
 use Rattle.timer_lanes.specs.Lanes.{Held, IsFilled, lane_at, all_held, seen_entry, entry_seen, placed}
@@ -77,6 +77,11 @@ module _ {T : Type 0} where
   block_fits : (bs : List Block) (ls : List (Option (Entry T))) (b : ℕ) → IsFilled bs ls → b < length bs → (block_at bs b).top ≤ 16 → b * 16 + (block_at bs b).top ≤ length ls
   block_fits bs ls b filled low top = let size = filled.size in omega (arith, size, low, top)
 
+  -- the entry of a lane that is seen to hold something
+  placed_entry : (bs : List Block) (o : Option (Entry T)) (k : ℕ) (x : ℕ × Held T) → seen bs k o ≡ Some x → (e : Entry T) × (o ≡ Some e) × (seen_entry (block_at bs (k / 16)).slot e ≡ x)
+  placed_entry bs None k x is = absurd (none-some x is)
+  placed_entry bs (Some e) k x is = (e, refl, same_Some _ x is)
+
   -- what is gathered of the blocks of a slot
   pub gathered : (bs : List Block) (ls : List (Option (Entry T))) (v : List (Option (ℕ × Held T))) (slot : ℕ) (list : List ℕ) (items : List (ℕ × ℕ))
       → IsFilled bs ls → placed bs 0 ls ≡ v → slot < 1024 → ((b : ℕ) → (block_at bs b).top ≤ 16)
@@ -103,7 +108,7 @@ module _ {T : Type 0} where
               ),
             );
         all = λ k x at in_slot.
-            let r = lane_entry (get_or ls k None) k x (sym (first_at bs ls k) ∙ ap (λ (xs : List (Option (ℕ × Held T))). lane_at xs k) view ∙ at) in
+            let r = placed_entry bs (get_or ls k None) k x (sym (first_at bs ls k) ∙ ap (λ (xs : List (Option (ℕ × Held T))). lane_at xs k) view ∙ at) in
             let e : Entry T = r.0 in
             let own : (block_at bs (k / 16)).slot ≡ slot = ap (λ (y : ℕ × Held T). y.1.slot) r.2 ∙ in_slot in
             let c = all (k / 16) own in
@@ -121,9 +126,45 @@ module _ {T : Type 0} where
       split : (k : ℕ) → k / 16 * 16 + k % 16 ≡ k
       split k = omega arith
 
-      lane_entry : (o : Option (Entry T)) (k : ℕ) (x : ℕ × Held T) → seen bs k o ≡ Some x → (e : Entry T) × (o ≡ Some e) × (seen_entry (block_at bs (k / 16)).slot e ≡ x)
-      lane_entry None k x is = absurd (none-some x is)
-      lane_entry (Some e) k x is = (e, refl, same_Some _ x is)
+  -- the only timer of a slot
+  only_lane : (bs : List Block) (ls : List (Option (Entry T))) (v : List (Option (ℕ × Held T))) (slot block : ℕ) (e : Entry T)
+      → IsFilled bs ls → placed bs 0 ls ≡ v → IsOnly bs slot block → get_or ls (block * 16) None ≡ Some e → ListsSlot v slot ((e.order, e.id) ∷ [])
+  only_lane bs ls v slot block e filled view sole is =
+      let here : ℕ = block * 16 in
+      let block_is : here / 16 ≡ block = omega arith in
+      let at : lane_at v here ≡ Some (seen_entry (block_at bs (here / 16)).slot e) =
+      ap (λ (xs : List (Option (ℕ × Held T))). lane_at xs here) (sym view) ∙ first_at bs ls here ∙ ap (seen bs here) is in
+      record {
+        each = λ g c.
+            let key : (e.order, e.id) ≡ g = only (e.order, e.id) g c in
+            let h : Held T = record { due = e.due; order = e.order; slot = (block_at bs (here / 16)).slot; item = e.item } in (
+              here,
+              (
+                h,
+                at ∙ ap (λ n. Some (n, h)) (ap (λ (q : ℕ × ℕ). q.1) key),
+                ap (λ n. (block_at bs n).slot) block_is ∙ sole.slot_is,
+                ap (λ (q : ℕ × ℕ). q.0) key,
+              ),
+            );
+        all = λ k x there in_slot.
+            let r = placed_entry bs (get_or ls k None) k x (sym (first_at bs ls k) ∙ ap (λ (xs : List (Option (ℕ × Held T))). lane_at xs k) view ∙ there) in
+            let own : k / 16 ≡ block = sole.alone (k / 16) (ap (λ (y : ℕ × Held T). y.1.slot) r.2 ∙ in_slot) in
+            let low : k % 16 < 1 = subst (λ n. k % 16 < n) sole.top_is (subst (λ b. k % 16 < (block_at bs b).top) own (filled.in_use k r.0 r.1)) in
+            let same : k ≡ here = join k block own low in
+            let entry : r.0 ≡ e = same_Some r.0 e (sym r.1 ∙ ap (λ n. get_or ls n None) same ∙ is) in
+            let keys : (e.order, e.id) ≡ (x.1.order, x.0) = ap (λ (d : Entry T). (d.order, d.id)) (sym entry) ∙ ap (λ (y : ℕ × Held T). (y.1.order, y.0)) r.2 in
+            subst (λ (q : ℕ × ℕ). Contains ((e.order, e.id) ∷ []) q) keys (alone (e.order, e.id));
+      }
+    where
+      join : (k b : ℕ) → k / 16 ≡ b → k % 16 < 1 → k ≡ b * 16
+      join k b own low = omega (arith, own, low)
+
+  -- the same, as the code reads the lane
+  pub only_read : (bs : List Block) (ls : List (Option (Entry T))) (v : List (Option (ℕ × Held T))) (slot block : ℕ) (read : Option (Entry T)) (e : Entry T)
+      → IsFilled bs ls → placed bs 0 ls ≡ v → slot < 1024 → IsOnly bs slot block → read ≡ get_or ls (block * 16) read → read ≡ Some e → ListsSlot v slot ((e.order, e.id) ∷ [])
+  only_read bs ls v slot block read e filled view low sole is at =
+      let within = block_in_list bs block slot sole.slot_is low in
+      only_lane bs ls v slot block e filled view sole (get_or_default ls (block * 16) None read (let size = filled.size in omega (arith, size, within)) ∙ sym is ∙ at)
 
   -- a lane of a slot
   pub found_in : (bs : List Block) (ls : List (Option (Entry T))) (v : List (Option (ℕ × Held T))) (slot block : ℕ) (found : Found) → placed bs 0 ls ≡ v → (block_at bs block).slot ≡ slot

@@ -21,6 +21,12 @@ block_of h = record { slot = h.slot; held = h.held; top = h.top }
 abbrev pub blocks_seen : List Head → List Block
 blocks_seen heads = map block_of heads
 
+-- a block is the only one of a slot, and its first lane is the only one in use
+pub record IsOnly (blocks : List Block) (slot block : ℕ) : Type 0 where
+  pub slot_is : (block_at blocks block).slot ≡ slot
+  pub alone : (b : ℕ) → (block_at blocks b).slot ≡ slot → b ≡ block
+  pub top_is : (block_at blocks block).top ≡ 1
+
 -- what slots and heads keep
 pub record IsKept (slots : List (List ℕ)) (heads : List Head) : Type 0 where
   pub room : length slots ≡ 1024

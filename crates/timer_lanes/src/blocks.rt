@@ -171,7 +171,7 @@ fn close_lane(slots: &mut [Slot], heads: &mut [Head], free: &mut u32, lane: usiz
 impl Blocks {
     ghost use Rattle.std.specs.Prelude.{◌≡◌, ◌≢◌, ℕ, ◌*◌, ◌/◌, ◌<◌, ◌≤◌, [], IfNone, IfSome, IfOk, OnErr, slice_get};
     ghost use Rattle.std.specs.List.{Contains};
-    ghost use Rattle.timer_lanes.specs.Blocks.{block_at, Opens, Closes};
+    ghost use Rattle.timer_lanes.specs.Blocks.{block_at, IsOnly, Opens, Closes};
 
     // No blocks, and slots without any.
     pub(crate) fn new(alloc: Global) -> Result<Blocks, AllocError>
@@ -230,6 +230,22 @@ impl Blocks {
         ensures tops { (b : ℕ) → (block_at self.now b).top ≤ 16 }
     {
         self.slots[slot].as_slice()
+    }
+
+    // The block of a slot that has no other, where one of its lanes is in use: the first.
+    pub(crate) fn only(&self, slot: usize) -> Option<u32>
+        requires { slot < 1024 }
+        ensures { IfSome result (λ block. IsOnly self.now slot block) }
+    {
+        let blocks = self.list(slot);
+        if blocks.len() != 1 {
+            return None;
+        }
+        let block = blocks[0];
+        if self.top(block as usize) != 1 {
+            return None;
+        }
+        Some(block)
     }
 
     // The first lane of a block that is not in use.

@@ -154,7 +154,7 @@ pub fn destroy_lanes<T>(mut lanes: Vec<Option<Entry<T>>>)
 }
 
 impl<T> Lanes<T> {
-    ghost use Rattle.std.specs.Prelude.{◌≡◌, ◌≢◌, ℕ, ◌+◌, ◌<◌, ◌≤◌, [], length, map, Some, None, IsSome, IfSome, IfNone, IfOk, IfErr, OnOk, OnErr};
+    ghost use Rattle.std.specs.Prelude.{◌≡◌, ◌≢◌, ℕ, ◌+◌, ◌<◌, ◌≤◌, [], ◌∷◌, length, map, Some, None, IsSome, IfSome, IfNone, IfOk, IfErr, OnOk, OnErr};
     ghost use Rattle.std.specs.Prelude.{option_to_list};
     ghost use Rattle.std.specs.List.{flat_map};
     ghost use Rattle.timer_lanes.specs.Gathering.{ListsSlot};
@@ -226,6 +226,19 @@ impl<T> Lanes<T> {
         let block = self.blocks.last(slot)?;
         let found = last_in(&self.lanes, block, self.blocks.top(block))?;
         Some(found)
+    }
+
+    /// The number of scheduling and the id of a slot's only timer, where it lies in the first lane of the slot's only block. None tells nothing: the
+    /// timers may be several, none, or lie otherwise.
+    pub fn only(&self, slot: usize) -> Option<(u64, u64)>
+        requires { slot < 1024 }
+        ensures { IfSome result (λ key. ListsSlot self.now slot (key ∷ [])) }
+    {
+        let block = self.blocks.only(slot)? as usize;
+        let Some(entry) = &self.lanes[block * LANES] else {
+            return None
+        };
+        Some((entry.order, entry.id))
     }
 
     /// For each timer of a slot the number that its scheduling got, and its id.
