@@ -1,5 +1,6 @@
 -- What a draw of the code says of itself.
-use Rattle.std.specs.Prelude.{ℕ, ◌≡◌, ◌++◌, List, Result, IfOk}
+use Rattle.std.specs.Prelude.{ℕ, ◌≡◌, ◌<◌, ◌++◌, List, Result, IfOk, codes, get_or, length}
+use Rattle.std.specs.Fmt.{decimal}
 use Rattle.fan_base.specs.declared.word.Word.{Word}
 use Rattle.query_grammar.specs.Tree.{Tree}
 use Rattle.query_model.specs.declared.line.Ask.{Ask}
@@ -17,6 +18,11 @@ IsDrawn draws result old new = IfOk result (λ drawn. (drawn ≡ (draws old).0) 
 -- the same of draws that are put behind a list, which is handed back
 abbrev pub IsDrawnOnto : {A E : Type 0} → Drawn (List A) → Result (List A) E → List A → ℕ → ℕ → Type 0
 IsDrawnOnto draws result before old new = IfOk result (λ behind. (behind ≡ before ++ (draws old).0) × (new ≡ (draws old).1))
+
+-- all words that can be drawn, by their numbers
+pub record AreAllWords (words : List Word) : Type 0 where
+  pub many : length words ≡ 500
+  pub each : (number : ℕ) (other : Word) → number < 500 → get_or words number other ≡ codes "w" ++ decimal number
 
 -- two words
 abbrev pub draw_pair : Drawn (Word × Word)

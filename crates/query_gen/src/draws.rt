@@ -1,8 +1,8 @@
-ghost use Rattle.std.specs.Prelude.{◌≡◌, ◌<◌, ◌+◌, ◌++◌, codes};
+ghost use Rattle.std.specs.Prelude.{◌≡◌, ◌<◌, ◌+◌, ◌++◌, IfOk, codes};
 ghost use Rattle.std.specs.Fmt.{decimal};
 ghost use Rattle.fan_base.specs.Word.{IsWord};
 ghost use Rattle.query_model.specs.Generated.{draw, draw_word, draw_words};
-ghost use Rattle.query_gen.specs.Drawn.{IsDrawn, IsDrawnFrom};
+ghost use Rattle.query_gen.specs.Drawn.{AreAllWords, IsDrawn, IsDrawnFrom};
 
 use fan_base::{Word, Words};
 use std::alloc::{AllocError, Global};
@@ -61,18 +61,43 @@ impl Draws {
         word_of(self.number(WORDS))
     }
 
-    /// So many words.
-    pub(crate) fn words(&mut self, alloc: Global, count: u64) -> Result<Words, AllocError>
+    /// One of all words that can be drawn.
+    fn word_among(&mut self, all: &[Word]) -> Word
+        requires { AreAllWords all.now }
+        ensures { IsDrawnFrom draw_word result self.old self.new }
+    {
+        all[self.number(WORDS) as usize]
+    }
+
+    /// So many words, out of all that can be drawn.
+    pub(crate) fn words(
+        &mut self,
+        alloc: Global,
+        all: &[Word],
+        count: u64,
+    ) -> Result<Words, AllocError>
+        requires { AreAllWords all.now }
         ensures { IsDrawn (draw_words count) result self.old self.new }
     {
         let mut words = Vec::with_capacity(alloc, count as usize)?;
         let mut left = count;
         'words: while left > 0 {
-            words.push(self.word())?;
+            words.push(self.word_among(all))?;
             left -= 1;
         }
         Ok(Words::from_vec(words))
     }
+}
+
+/// All words that can be drawn, by their numbers.
+pub(crate) fn all_words(alloc: Global) -> Result<Vec<Word>, AllocError>
+    ensures { IfOk result (λ all. AreAllWords all.items) }
+{
+    let mut all = Vec::with_capacity(alloc, WORDS as usize)?;
+    for number in 0..WORDS {
+        all.push(word_of(number))?;
+    }
+    Ok(all)
 }
 
 /// `w` and the number.

@@ -12,7 +12,7 @@ use std::alloc::Global;
 pub fn hits_among(alloc: Global, parts: Vec<PartAnswer>) -> Result<Vec<Hits>, Memory>
     ensures { IfOk result (λ all. all.items ≡ filter_map hits_in parts.items) }
 {
-    let mut all = Vec::new(alloc);
+    let mut all = Vec::with_capacity(alloc, parts.len())?;
     for part in parts {
         if let Some(hits) = part.into_hits() {
             push(&mut all, hits)?;
@@ -25,7 +25,7 @@ pub fn hits_among(alloc: Global, parts: Vec<PartAnswer>) -> Result<Vec<Hits>, Me
 pub fn counts_among(alloc: Global, parts: Vec<PartAnswer>) -> Result<Vec<Counts>, Memory>
     ensures { IfOk result (λ all. all.items ≡ filter_map counts_in parts.items) }
 {
-    let mut all = Vec::new(alloc);
+    let mut all = Vec::with_capacity(alloc, parts.len())?;
     for part in parts {
         if let Some(counts) = part.into_counts() {
             push(&mut all, counts)?;

@@ -69,7 +69,7 @@ impl Ranking {
             ≡ by_shard (λ number. weighted_top self.now.k self.now.words self.now.weights (part_before docs (length shards.now) number before)) (length shards.now)) }
     {
         merged_scores_are_the_whole();
-        let mut parts = Vec::new(alloc);
+        let mut parts = Vec::with_capacity(alloc, shards.len())?;
         for shard in shards {
             push(
                 &mut parts,

@@ -3,6 +3,7 @@ mod Keeping
 mod WordLemmas
 mod PlaceLemmas
 mod JoinLemmas
+mod BothLemmas
 mod NarrowLemmas
 mod RunLemmas
 mod SelectionLemmas

@@ -43,7 +43,7 @@ module _ {A : Type 0} (g : A → A → Bool) (s : Sorts g) where
   take-twice n xs =
       ap (λ zs. take n zs) (sorted_already g s (take n (sorted_by g xs)) (in_order-take g n (sorted_by g xs) (in_order g s.order xs))) ∙ take-take n n (sorted_by g xs) (omega arith)
 
-  cut-front : (n : ℕ) (xs ys : List A) → take n (sorted_by g (take n (sorted_by g xs) ++ ys)) ≡ take n (sorted_by g (xs ++ ys))
+  pub cut-front : (n : ℕ) (xs ys : List A) → take n (sorted_by g (take n (sorted_by g xs) ++ ys)) ≡ take n (sorted_by g (xs ++ ys))
   cut-front n xs ys =
       ap (λ zs. take n zs) (turned (take n (sorted_by g xs)) ys)
       ∙ (take-behind n ys (take n (sorted_by g xs)) xs (take-twice n xs) ∙ ap (λ zs. take n zs) (turned ys xs))

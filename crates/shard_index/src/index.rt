@@ -1,7 +1,6 @@
 ghost use Rattle.std.specs.Prelude.{◌≡◌, ◌+◌, ◌*◌, ◌<◌, ◌≤◌, ◌^◌, ◌&&◌, ◌||◌, ℕ, All, Bool, List, IfOk, length, map, not, take, true, zip, if◌then◌else◌};
 ghost use Rattle.fan_base.specs.declared.doc.Doc.{Doc};
 ghost use Rattle.std.specs.List.{AllByRecursion};
-ghost use Rattle.std.specs.List.Sorted.{IsNonDecreasing};
 ghost use Rattle.query_model.specs.Answers.{having, hits_of, holding, times_in};
 ghost use Rattle.query_model.specs.Parts.{weighted_score, weighted_top};
 ghost use Rattle.word_table.specs.Numbered.{AreNumbers, doc_by};
@@ -14,6 +13,7 @@ ghost use Rattle.shard_index.specs.Scored.{AreScored, HasRoomIn};
 ghost use Rattle.shard_index.specs.Selections.{Selects};
 ghost use Rattle.shard_index.specs.Standing.{HasRoom, Indexes};
 
+use crate::best::ascend;
 use crate::counts::Counts;
 use crate::front::below;
 use crate::hits::hits;
@@ -358,11 +358,4 @@ fn ids_of(alloc: Global, docs: &[&NumberedDoc]) -> Result<Vec<u32>, AllocError>
         ids.push(doc.id)?;
     }
     Ok(ids)
-}
-
-/// Whether no id is smaller than one in front of it.
-fn ascend(ids: &[u32]) -> bool
-    ensures { result ≡ true → IsNonDecreasing ids.now }
-{
-    ids.is_sorted()
 }

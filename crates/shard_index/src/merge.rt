@@ -14,7 +14,7 @@ pub fn merge_hits(alloc: Global, parts: &[Hits]) -> Result<Hits, Memory>
     requires { sum (map (λ hits. hits.total) parts.now) < 2 ^ 64 }
     ensures { IfOk result (λ hits. hits ≡ merged_hits parts.now) }
 {
-    let mut kept = Vec::with_capacity(alloc, MOST_LISTED + 1)?;
+    let mut kept = Vec::new(alloc);
     let mut total = 0;
     for part in parts {
         keep_ids(&mut kept, MOST_LISTED, part.ids.as_slice())?;
