@@ -17,17 +17,22 @@ pub type ReplyFire<N> = Fire<PlacedReply<N>, ReplyCallback<N>>;
 /// The memory of an inner core, which the reply's core of a `top` is forwarded to.
 pub type InnerHome<N> = Home<PlacedReply<N>, ReplyCallback<N>, NoProxy>;
 
+/// The key of an inner core's home, with which the core is begun.
 pub type InnerKey<'i, N> = Key<'i, PlacedReply<N>, ReplyCallback<N>, NoProxy>;
 
+/// The half of an inner core that sets the reply once it is scored.
 pub type InnerProducer<'i, N> = Producer<'i, PlacedReply<N>, ReplyCallback<N>, NoProxy>;
 
+/// The half of an inner core that gets the reply's callback. It is what a reply's core is forwarded to.
 pub type InnerConsumer<'i, N> = Consumer<'i, PlacedReply<N>, ReplyCallback<N>, NoProxy>;
 
 /// The memory of a reply's core.
 pub type ReplyHome<'i, N> = Home<PlacedReply<N>, ReplyCallback<N>, InnerConsumer<'i, N>>;
 
+/// The key of the home of a reply's core, with which the core is begun.
 pub type ReplyKey<'r, 'i, N> = Key<'r, PlacedReply<N>, ReplyCallback<N>, InnerConsumer<'i, N>>;
 
+/// The half of a reply's core that sets the reply, or names the inner core.
 pub type ReplyProducer<'r, 'i, N> = Producer<
     'r,
     PlacedReply<N>,
@@ -35,6 +40,7 @@ pub type ReplyProducer<'r, 'i, N> = Producer<
     InnerConsumer<'i, N>,
 >;
 
+/// The half of a reply's core that sets the callback, by which the reply goes to the printer.
 pub type ReplyConsumer<'r, 'i, N> = Consumer<
     'r,
     PlacedReply<N>,
@@ -45,6 +51,7 @@ pub type ReplyConsumer<'r, 'i, N> = Consumer<
 /// The desk at which the parts of a query are gathered.
 pub type PartDesk<'r, 'i, N> = AllDesk<Part<N>, End<'r, 'i, N>>;
 
+/// The right to bring one part to a query's desk.
 pub type PartArrival<'d, 'r, 'i, N> = Arrival<'d, PartDesk<'r, 'i, N>>;
 
 /// A part with its callback, of a task's core.
@@ -53,10 +60,13 @@ pub type TaskFire<N> = Fire<Part<N>, PartCallback<N>>;
 /// The memory of a task's core.
 pub type TaskHome<N> = Home<Part<N>, PartCallback<N>, NoProxy>;
 
+/// The key of the home of a task's core, with which the core is begun.
 pub type TaskKey<'t, N> = Key<'t, Part<N>, PartCallback<N>, NoProxy>;
 
+/// The half of a task's core that sets the part. The task holds it.
 pub type TaskProducer<'t, N> = Producer<'t, Part<N>, PartCallback<N>, NoProxy>;
 
+/// The half of a task's core that sets the callback, by which the part goes to its gathering base. The front holds it.
 pub type TaskConsumer<'t, N> = Consumer<'t, Part<N>, PartCallback<N>, NoProxy>;
 
 /// What the last arrival at a query's desk gets: the producer of the reply's core, whose callback is set and whose consumer has left;

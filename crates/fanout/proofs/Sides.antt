@@ -1,23 +1,28 @@
 -- The front and the workers, from their start to their end.
-use Rattle.std.proofs.Common.{◌≡◌, ℕ, List, [], ◌∷◌, ◌++◌, false, map, refl, sym, ap, ◌∙◌, subst, All}
+use Rattle.std.proofs.Common.{◌≡◌, ℕ, List, [], ◌∷◌, ◌++◌, false, true, map, refl, sym, ap, ◌∙◌, subst, All}
 use Rattle.std.specs.Prelude.{Option, get_or}
 use Rattle.std.proofs.lemmas.List.Elements.{All-append, All-cons, All-nil}
+use Rattle.fan_model.specs.Answered.{answered_in, is_stopped}
 use Rattle.fan_model.specs.Report.{Asking, IsPoolReport}
+use Rattle.fan_model.specs.Tasks.{Run}
 use Rattle.job_trait.specs.Marks.{IsDone}
 use Rattle.pool_model.specs.Passes.{AreAllEnds, adds_of}
 use Rattle.pool_model.specs.Records.{Record}
-use Rattle.pool_model.specs.Seen.{EndSeen, PoolSeen}
+use Rattle.pool_model.specs.Seen.{EndSeen, PoolSeen, task_of}
 use Rattle.prio_pool.specs.Made.{new_end, new_pass}
+use Rattle.query_tasks.specs.Ends.{seen_of}
 use Rattle.query_tasks.specs.Starting.{HasHelped}
+use Rattle.run_ending.specs.Ends.{IsStopAccount as IsToldAccount}
 use Rattle.run_notes.specs.Accounts.{AllDone}
 use Rattle.run_notes.specs.Told.{told_of as told_by}
 use Rattle.run_phases.specs.declared.first.FrontStart.{FrontStart}
 use Rattle.run_phases.specs.declared.first.FrontMid.{FrontMid}
 use Rattle.run_phases.specs.declared.second.FrontLeft.{FrontLeft}
-use Rattle.run_phases.specs.Phases.{IsDoneBy}
+use Rattle.run_phases.specs.Phases.{IsDoneBy, IsStopAccount}
 use Rattle.run_setup.specs.Closing.{AreWorldEnds, IsPrinterEnd}
 use Rattle.run_setup.specs.Ids.{RunIds}
 use Rattle.run_tasks.specs.declared.world.TaskEnds.{TaskEnds}
+use Rattle.run_tasks.specs.Heads.{task_head}
 use Rattle.run_tasks.specs.Seen.{WorldSeen}
 use Rattle.run_tasks.specs.Worlds.{AreEndsFor, StaysPass, told_of}
 use Rattle.fan_parts.specs.declared.jobs.PrintJob.{PrintJob}
@@ -59,14 +64,29 @@ module _ {N : Type 0} where
   helped_done : (w : WorldSeen N) (old : EndSeen) (v : WorldSeen N) (new : EndSeen) → HasHelped w old v new → old.records ≡ [] → v.refused ≡ false → All (λ (r : Record). IsDone r.mark) new.records
   helped_done w old v new h none fine = subst (λ (l : List Record). All (λ (r : Record). IsDone r.mark) l) (sym (h.records ∙ ap (λ (l : List Record). l ++ h.more) none)) (h.done fine)
 
+  -- what is told of a pool that was stopped
+  stop_told : (asked : Asking) (stop : Option ℕ) (pool : PoolSeen) (start : FrontStart N) (mid : FrontMid N) (left : FrontLeft N) → IsFirstEnd asked stop pool start mid → IsStopAccount asked mid left → IsToldAccount asked left.note
+  stop_told asked stop pool start mid left e a = record {
+    passes = (seen_of mid.ending).passes;
+    accepted = a.accepted;
+    left = e.some.left;
+    first = ap (λ (runs : List Run). runs ++ e.some.left) e.some.are ∙ e.some.whole;
+    ran = a.all.tasks;
+    others = map (task_of (task_head asked)) a.back;
+    records = a.all.runs;
+    all = a.all.all;
+    few = a.few;
+  }
+
   pub side_end : (asked : Asking) (ids : RunIds) (stop : Option ℕ) (start : FrontStart N) (pool : PoolSeen) (slots : List (WorkerSlot TaskSeen (WorldSeen N))) (room : SideRoom N) (mid : FrontMid N) (ends : List EndSeen) (worlds : List (TaskEnds N)) (end : SideEnd N) → IsSideStart asked ids start pool slots room → IsFirstEnd asked stop pool start mid
       → end.worlds.items ≡ worlds → AreWorldEnds ids worlds → (NoneRefused worlds → AllDone ends)
+      → end.left.note.ran.stopped ≡ is_stopped asked.stop_at (answered_in asked.lines) → (end.left.note.ran.stopped ≡ true → IsStopAccount asked mid end.left)
       → (end.left.refused ≡ false → end.left.ends.tasks.refused ≡ false → AllDone (ends ++ mid.helper ∷ []) → IsPoolReport asked (told_by end.left.note))
       → (end.left.ends.tasks.refused ≡ false → mid.front.world.refused ≡ false)
       → AreEndsFor (map told_of mid.front.world.posters) end.left.ends.tasks.posters.items → StaysPass mid.front.world.pass end.left.ends.tasks.pass → IsDoneBy mid.front.printer end.left.ends.printer
       → IsPrinterEnd asked ids 0 end.left.ends.printer
       → IsSideEnd asked ids end
-  side_end asked ids stop start pool slots room mid ends worlds end s e is all done report refused posters pass printer poster = record {
+  side_end asked ids stop start pool slots room mid ends worlds end s e is all done stops account report refused posters pass printer poster = record {
     worlds = subst (λ (l : List (TaskEnds N)). AreWorldEnds ids l) (sym is) all;
     tasks = record {
       posters = subst (λ (l : List _). AreEndsFor l end.left.ends.tasks.posters.items) (e.helped.follows.posters ∙ s.world.posters) posters;
@@ -76,6 +96,7 @@ module _ {N : Type 0} where
       };
     };
     poster = poster;
+    stopped = record { stops = stops; account = λ on. stop_told asked stop pool start mid end.left e (account on) };
     report = λ fine tasks none. report fine tasks (All-append (λ (x : EndSeen). All (λ (r : Record). IsDone r.mark) x.records) ends (mid.helper ∷ []) (done (subst NoneRefused is none))
         (All-cons (λ (x : EndSeen). All (λ (r : Record). IsDone r.mark) x.records) mid.helper [] (helped_done start.front.world start.helper mid.front.world mid.helper e.helped (ap (λ (x : EndSeen). x.records) (helper_is asked ids start pool slots room s)) (refused tasks))
         (All-nil (λ (x : EndSeen). All (λ (r : Record). IsDone r.mark) x.records))));

@@ -1,5 +1,5 @@
 -- The first phase of the front, before and after it.
-use Rattle.std.specs.Prelude.{◌≡◌, false, length}
+use Rattle.std.specs.Prelude.{◌≡◌, [], false, length}
 use Rattle.fan_model.specs.Answered.{answered_in, is_stopped}
 use Rattle.fan_model.specs.Report.{Asking}
 use Rattle.fan_model.specs.Tasks.{early_runs, pool_exec}
@@ -7,7 +7,7 @@ use Rattle.pool_model.specs.Passes.{AreAllPasses}
 use Rattle.pool_model.specs.Seen.{PoolSeen}
 use Rattle.query_tasks.specs.Ends.{is_stop, seen_of}
 use Rattle.query_tasks.specs.Starting.{HasHelped}
-use Rattle.run_front.specs.Fronts.{IsFrontOf}
+use Rattle.run_front.specs.Fronts.{AreSomeOf, IsFrontOf}
 use Rattle.run_notes.specs.Accounts.{runs_added}
 use Rattle.run_phases.specs.declared.first.FrontStart.{FrontStart}
 use Rattle.run_phases.specs.declared.first.FrontMid.{FrontMid}
@@ -27,9 +27,10 @@ module _ {N : Type 0} where
     pub one : pool.adders ≡ 1
     pub helper : start.helper.pool ≡ pool.id
 
-  -- The pool's end has begun; where no memory was refused, the tasks of all early queries were added. The front helped with some tasks.
+  -- The pool's end has begun; the first of the early queries' tasks were added, and all of them where no memory was refused. The front helped with some tasks.
   pub record IsFirstEnd (asked : Asking) (stop : Option ℕ) (pool : PoolSeen) (start : FrontStart N) (mid : FrontMid N) : Type 0 where
     pub added : mid.refused ≡ false → runs_added (seen_of mid.ending).passes ≡ early_runs asked.lines asked.shards asked.stop_at
+    pub some : AreSomeOf [] (early_runs asked.lines asked.shards asked.stop_at) (runs_added (seen_of mid.ending).passes)
     pub pool_is : (seen_of mid.ending).pool ≡ pool.id
     pub passes : AreAllPasses pool.id pool.adders (seen_of mid.ending).passes
     pub stops : is_stop mid.ending ≡ is_stopped asked.stop_at (answered_in asked.lines)

@@ -4,6 +4,7 @@ use Rattle.fan_model.specs.Report.{Asking, IsPoolReport}
 use Rattle.fan_model.specs.Tasks.{pool_exec}
 use Rattle.pool_model.specs.Seen.{PoolSeen}
 use Rattle.prio_pool.specs.Made.{IsNewPool, new_workers}
+use Rattle.run_ending.specs.Ends.{IsStopTold}
 use Rattle.run_front.specs.Fronts.{IsFrontOf}
 use Rattle.run_notes.specs.Told.{told_of}
 use Rattle.run_phases.specs.declared.first.FrontStart.{FrontStart}
@@ -33,9 +34,10 @@ module _ {N : Type 0} where
   abbrev pub NoneRefused : List (TaskEnds N) → Type 0
   NoneRefused worlds = All (λ (w : TaskEnds N). w.refused ≡ false) worlds
 
-  -- What is left of all worlds, the end of the front's poster; and where nobody notes want of memory, the report of the pool.
+  -- What is left of all worlds, the end of the front's poster; what is told of a pool that was stopped; and where nobody notes want of memory, the report of the pool.
   pub record IsSideEnd (asked : Asking) (ids : RunIds) (end : SideEnd N) : Type 0 where
     pub worlds : AreWorldEnds ids end.worlds.items
     pub tasks : AreTaskEnds ids 0 end.left.ends.tasks
     pub poster : IsPrinterEnd asked ids 0 end.left.ends.printer
+    pub stopped : IsStopTold asked end.left.note
     pub report : end.left.refused ≡ false → end.left.ends.tasks.refused ≡ false → NoneRefused end.worlds.items → IsPoolReport asked (told_of end.left.note)

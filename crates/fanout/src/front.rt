@@ -1,4 +1,4 @@
-ghost use Rattle.std.specs.Prelude.{List};
+ghost use Rattle.std.specs.Prelude.{◌≡◌, List, Some, None, IsSome};
 ghost use Rattle.run_phases.specs.declared.first.FrontStart.{FrontStart};
 ghost use Rattle.run_setup.specs.Ids.{RunIds};
 ghost use Rattle.run_stages.specs.Stages.{AllRan};
@@ -43,6 +43,54 @@ pub(crate) struct FrontRun<'g, 'c, 't, 'i: 't, N: RunName> {
     pub(crate) turns: &'g [Turn],
     pub(crate) stop: Option<usize>,
     pub(crate) alloc: Global,
+}
+
+impl<'g, 'c, 't, 'i: 't, N: RunName> FrontRun<'g, 'c, 't, 'i, N> {
+    /// A front that has not begun.
+    pub(crate) fn new(
+        start: FrontStart<'c, 't, 'i, N>,
+        room: SideRoom<'t, 'i, N>,
+        turns: &'g [Turn],
+        stop: Option<usize>,
+        alloc: Global,
+    ) -> FrontRun<'g, 'c, 't, 'i, N>
+        ensures start { result.start ≡ Some start.entry }
+        ensures room { result.room ≡ Some room.entry }
+        ensures none { (result.mid ≡ None) × (result.end ≡ None) }
+        ensures turns { (result.turns.now ≡ turns.now) × (result.stop ≡ stop) }
+    {
+        FrontRun {
+            start: Some(start),
+            mid: None,
+            room: Some(room),
+            end: None,
+            turns,
+            stop,
+            alloc,
+        }
+    }
+
+    /// What a front leaves that has ended: all else is spent.
+    pub(crate) fn into_end(self) -> SideEnd<'t, N>
+        requires spent { (self.start ≡ None) × (self.mid ≡ None) × (self.room ≡ None) }
+        requires ended { IsSome self.end }
+        ensures { self.entry.end ≡ Some result }
+    {
+        let FrontRun {
+            start,
+            mid,
+            room,
+            end,
+            turns: _,
+            stop: _,
+            alloc: _,
+        } = self;
+        let None = start else { unreachable!() };
+        let None = mid else { unreachable!() };
+        let None = room else { unreachable!() };
+        let Some(end) = end else { unreachable!() };
+        end
+    }
 }
 
 impl<'g, 'c, 't, 'i: 't, N: RunName + 'static> PoolFront<

@@ -14,6 +14,7 @@ ghost use Rattle.run_gathering.specs.Awaited.{TableSeen};
 ghost use Rattle.run_gathering.specs.Dealt.{AreAllDealt};
 ghost use Rattle.fanout.specs.Beside.{CanEndFront, HasBegunFront, HasEndedFront, IsReadyFront};
 ghost use Rattle.run_ending.specs.Ends.{IsEndOf};
+ghost use Rattle.fanout.specs.Homes.{cells_of};
 ghost use Rattle.fanout.specs.Plans.{IsPlanned};
 
 use crate::ending::put_together;
@@ -38,7 +39,7 @@ use std::alloc::Global;
 use std::sync::Wait;
 use std::thread::Threads;
 
-/// Opens the bases, the worlds and the pool, runs all stages on their threads, and closes all.
+/// Opens the bases, the worlds and the pool over as many cells as the run has, runs all stages on their threads, and closes all.
 pub(crate) fn run_over_cells<
     'c,
     't,
@@ -62,6 +63,7 @@ pub(crate) fn run_over_cells<
     sink: &mut K,
 ) -> FanEnd
     requires plan { IsPlanned N.asked plan.now.lines.now plan.now.turns.now plan.now.counted.now plan.now.stop plan.now.knobs }
+    requires number { cells.now.size ≡ cells_of N.asked }
     requires passes { length passes.items ≡ plan.now.knobs.workers + 1 }
     requires all { AreAll cells.now passes.items }
     requires tables { AreTablesOf N.asked tables.items }
@@ -118,28 +120,21 @@ fn run_opened<
         helped,
         back,
     } = setup;
-    let front = Front {
-        world,
-        printer: poster,
-        lines: &*plan.lines,
-        shards: plan.shards.all().len() as u32,
-        bases: plan.knobs.bases,
+    let start = FrontStart {
+        front: Front {
+            world,
+            printer: poster,
+            lines: &*plan.lines,
+            shards: plan.shards.all().len() as u32,
+            bases: plan.knobs.bases,
+        },
+        owner,
+        keep,
+        adders,
+        helper,
     };
-    let front = FrontRun {
-        start: Some(FrontStart {
-            front,
-            owner,
-            keep,
-            adders,
-            helper,
-        }),
-        mid: None,
-        room: Some(SideRoom { ends, helped }),
-        end: None,
-        turns: plan.turns,
-        stop: plan.stop,
-        alloc,
-    };
+    let room = SideRoom { ends, helped };
+    let front = FrontRun::new(start, room, plan.turns, plan.stop, alloc);
     a_setup_is_ready::<N>();
     new_passes_are_unused();
     what_ran_can_be_closed::<N>();
@@ -150,19 +145,7 @@ fn run_opened<
     } = run_stages(
         rt, alloc, printer, sink, gatherers, pool, workers, plan.gate, front,
     );
-    let FrontRun {
-        start,
-        mid,
-        room,
-        end,
-        turns: _,
-        stop: _,
-        alloc: _,
-    } = front;
-    let None = start else { unreachable!() };
-    let None = mid else { unreachable!() };
-    let None = room else { unreachable!() };
-    let Some(end) = end else { unreachable!() };
+    let end = front.into_end();
     put_together(rt, alloc, plan, back, gatherers, printed, end, tally)
 }
 

@@ -297,6 +297,7 @@ fn make_cells<'t, N: RunName, R: Wait>(
     requires untaken { All (λ (home : SeenHome). home.taken ≡ false) tasks.old }
     requires tasks { (0 < length tasks.old) × (length tasks.old ≤ 65536) }
     requires passes { (0 < passes) × (passes ≤ 64) }
+    ensures number { IfOk result (λ made. made.cells.size ≡ length tasks.old) }
     ensures passes { IfOk result (λ made. length made.passes.items ≡ passes) }
     ensures all { IfOk result (λ made. AreAll made.cells made.passes.items) }
 {
@@ -325,6 +326,7 @@ fn over_cells<
     sink: &mut K,
 ) -> FanEnd
     requires plan { IsPlanned N.asked plan.now.lines.now plan.now.turns.now plan.now.counted.now plan.now.stop plan.now.knobs }
+    requires number { made.cells.size ≡ cells_of N.asked }
     requires passes { length made.passes.items ≡ plan.now.knobs.workers + 1 }
     requires all { AreAll made.cells made.passes.items }
     requires desks { AreTablesOf N.asked desks.tables.items }

@@ -21,6 +21,7 @@ impl Model for Args {
 }
 
 impl Args {
+    /// No words.
     pub fn new(alloc: Global) -> Args
         ensures { result ≡ [] }
     {

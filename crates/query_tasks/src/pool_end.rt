@@ -1,7 +1,7 @@
 //! How the pool is ended.
-ghost use Rattle.std.specs.Prelude.{◌≡◌, ◌+◌, ◌<◌, ◌++◌, [], true, false, length};
+ghost use Rattle.std.specs.Prelude.{◌≡◌, ◌+◌, ◌<◌, ◌≤◌, ◌++◌, [], true, false, length};
 ghost use Rattle.pool_model.specs.declared.task.Ending.TheVariants.{Joins as PoolJoins, Stops as PoolStops};
-ghost use Rattle.pool_model.specs.Passes.{AreAllEnds, AreAllPasses};
+ghost use Rattle.pool_model.specs.Passes.{AreAllEnds, AreAllPasses, adds_total};
 ghost use Rattle.prio_pool.specs.Begun.{HasBegun};
 ghost use Rattle.query_tasks.specs.Ends.{end_for, is_stop, seen_of};
 ghost use Rattle.run_notes.specs.Accounts.{AccountsFor, AllDone, HaveAllRun, SomeLed};
@@ -62,12 +62,14 @@ pub fn end_pool<'c, 't, 'i: 't, N: RunName + 'static, R: Wait>(
     requires ends { AreAllEnds pool.id pool.workers ends.items }
     requires helped { AreAllEnds pool.id pool.helpers helped.items }
     ensures follows { Follows world.old world.new }
+    ensures accepted { result.accepted ≡ adds_total (seen_of ending.entry).passes }
     ensures all { is_stop ending.entry ≡ true →
         HaveAllRun (task_head N.asked) TaskRan (seen_of ending.entry).passes result.ran.records world.old world.new }
     ensures account { world.new.refused ≡ false → AllDone (ends.entry.items ++ helped.entry.items) → result.missed ≡ false →
         AccountsFor (seen_of ending.entry).passes result }
     ensures stopped { result.ran.stopped ≡ is_stop ending.entry }
     ensures joined { is_stop ending.entry ≡ false → (result.returned ≡ []) × (result.missed ≡ false) }
+    ensures few { is_stop ending.entry ≡ true → length result.ran.records + length result.returned ≤ result.accepted }
     ensures missed { result.missed ≡ true → length result.ran.records + length result.returned < result.accepted }
 {
     match ending {
@@ -128,6 +130,7 @@ fn join_all<'c, 't, 'i: 't, N: RunName + 'static, R: Wait>(
     requires ends { AreAllEnds pool.id pool.workers ends.items }
     requires helped { AreAllEnds pool.id pool.helpers helped.items }
     ensures led { SomeLed TaskRan world.old world.new }
+    ensures accepted { result.accepted ≡ adds_total joining.entry.passes }
     ensures account { world.new.refused ≡ false → AllDone (ends.entry.items ++ helped.entry.items) → AccountsFor joining.entry.passes result }
     ensures joined { (result.ran.stopped ≡ false) × (result.returned ≡ []) × (result.missed ≡ false) }
 {
@@ -150,10 +153,12 @@ fn stop_all<'c, 't, 'i: 't, N: RunName + 'static, R: Wait>(
     requires stopping { AreAllPasses pool.id pool.adders stopping.passes }
     requires ends { AreAllEnds pool.id pool.workers ends.items }
     requires helped { AreAllEnds pool.id pool.helpers helped.items }
+    ensures accepted { result.accepted ≡ adds_total stopping.entry.passes }
     ensures all { HaveAllRun (task_head N.asked) TaskRan stopping.entry.passes result.ran.records world.old world.new }
     ensures account { world.new.refused ≡ false → AllDone (ends.entry.items ++ helped.entry.items) → result.missed ≡ false →
         AccountsFor stopping.entry.passes result }
     ensures stopped { result.ran.stopped ≡ true }
+    ensures few { length result.ran.records + length result.returned ≤ result.accepted }
     ensures missed { result.missed ≡ true → length result.ran.records + length result.returned < result.accepted }
 {
     end_stopped::<ShardTask<'t, 'i, N>, TaskWorld<'c, 't, 'i, N>, NoneRefused, R>(

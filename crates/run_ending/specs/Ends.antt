@@ -1,12 +1,20 @@
 -- How a run ends, and what it tells.
-use Rattle.std.specs.Prelude.{◌≡◌, List, [], map, Some, None}
+use Rattle.std.specs.Prelude.{◌≡◌, ◌+◌, ◌≤◌, List, [], ◌++◌, length, map, true, Some, None, IfSome}
 use Rattle.fan_base.specs.Outside.{FaultsRose, Shown}
 use Rattle.query_model.specs.Pieces.{Bytes}
 use Rattle.reply_printer.specs.Passing.{Gains, GainsFront}
 use Rattle.reply_printer.specs.Printing.{text_of}
+use Rattle.fan_model.specs.Answered.{answered_in, is_stopped}
 use Rattle.fan_model.specs.Report.{Asking, IsReport}
+use Rattle.fan_model.specs.Tasks.{Run, early_runs}
 use Rattle.fan_model.specs.Totals.{no_cores}
+use Rattle.pool_model.specs.Orders.{IsSameInAnyOrder}
+use Rattle.pool_model.specs.Passes.{adds_total, tasks_of}
+use Rattle.pool_model.specs.Records.{AreRunsOf}
+use Rattle.pool_model.specs.Seen.{PassSeen}
+use Rattle.pool_model.specs.Tasks.{Task}
 use Rattle.run_notes.specs.declared.notes.PoolNote.{PoolNote}
+use Rattle.run_notes.specs.Accounts.{runs_added}
 use Rattle.run_notes.specs.Counting.{totals_of}
 use Rattle.run_notes.specs.Told.{note_of, told_of}
 use Rattle.run_ending.specs.declared.end.FanEnd.{FanEnd}
@@ -39,8 +47,27 @@ pub record TellsNoRun (end : FanEnd) : Type 0 where
   pub queues : end.queues ≡ []
   pub cores : totals_of end.tally ≡ no_cores
 
+-- What is told of the tasks of a pool that was stopped: it accepted the first of the early ones, as many as are told; each record of what it ran is of one of these, no two of one;
+-- and with what was handed back and then ran there are no more records than that. The list of the other tasks is tied to nothing that is told.
+pub record IsStopAccount (asked : Asking) (note : PoolNote) : Type 0 where
+  pub passes : List PassSeen
+  pub accepted : note.accepted ≡ adds_total passes
+  pub left : List Run
+  pub first : runs_added passes ++ left ≡ early_runs asked.lines asked.shards asked.stop_at
+  pub ran : List Task
+  pub others : List Task
+  pub records : AreRunsOf ran note.ran.records
+  pub all : IsSameInAnyOrder (ran ++ others) (tasks_of passes)
+  pub few : length note.ran.records + length note.returned ≤ note.accepted
+
+-- The pool was stopped exactly where the run is to be stopped; whether memory was refused or not.
+pub record IsStopTold (asked : Asking) (note : PoolNote) : Type 0 where
+  pub stops : note.ran.stopped ≡ is_stopped asked.stop_at (answered_in asked.lines)
+  pub account : note.ran.stopped ≡ true → IsStopAccount asked note
+
 -- how a run ends whose sink showed `start` before and `now` afterwards
 pub record IsEndOf (asked : Asking) (start now : Shown) (end : FanEnd) : Type 0 where
   pub writes : WritesText (text_of asked.lines) start now end.outcome
   pub reports : Reports asked end
   pub unmade : end.pool ≡ None → TellsNoRun end
+  pub stopped : IfSome end.pool (IsStopTold asked)

@@ -7,6 +7,7 @@ use Rattle.fan_base.specs.declared.number.Mark.{Mark}
 use Rattle.job_trait.specs.declared.job.Head.{Head}
 use Rattle.job_trait.specs.Marks.{IsDone, IsMarkOf}
 use Rattle.job_trait.specs.Runs.{AreMarksOf, IsKnownBackwards, Leads, Ran, Through}
+use Rattle.job_trait.proofs.Histories.{leads_more, are_marks-append}
 use Rattle.pool_model.specs.Records.{AreRunsOf, IsRunOf, Record, ran_of}
 use Rattle.pool_model.specs.Seen.{Returned, task_of}
 use Rattle.pool_model.specs.Tasks.{Task}
@@ -14,13 +15,6 @@ use Rattle.run_notes.specs.Accounts.{AllRanBack, HaveRunSoFar, RanBack, RanBackS
 use Rattle.run_notes.proofs.Accounting.{WasDone, runs_append}
 
 module _ {W : Type 0} (runs : JobId → W → Mark → W → Type 0) where
-  through_more : (w m v : W) (list : List Ran) (id : JobId) (mark : Mark) → Through runs w list m → runs id m mark v → Through runs w (list ++ (id, mark) ∷ []) v
-  through_more w m v [] id mark same ran = (v, subst (λ (x : W). runs id x mark v) (sym same) ran, refl)
-  through_more w m v (r ∷ list) id mark t ran = (t.0, t.1, through_more t.0 m v list id mark t.2 ran)
-
-  pub leads_more : (w m v : W) (list : List Ran) (id : JobId) (mark : Mark) → Leads runs w list m → runs id m mark v → Leads runs w (list ++ (id, mark) ∷ []) v
-  leads_more w m v list id mark led ran = record { through = through_more w m v list id mark led.through ran }
-
   -- a fact that each run tells backwards, and by which it was done
   pub known : (Fact : W → Type 0) → IsKnownBackwards runs Fact (λ _ mark. IsDone mark) → (w v : W) (rs : List Record) → Through runs w (ran_of rs) v → Fact v → Fact w × All WasDone rs
   known Fact k w v [] same f = (subst Fact (sym same) f, All-nil WasDone)
@@ -35,13 +29,6 @@ module _ {W : Type 0} (runs : JobId → W → Mark → W → Type 0) where
 
   pub known_some : (Fact : W → Type 0) → IsKnownBackwards runs Fact (λ _ mark. IsDone mark) → (w v : W) → SomeLed runs w v → Fact v → Fact w
   known_some Fact k w v led f = known_list Fact k w v led.0 led.1.through f
-
--- one job more, with its mark
-marks_more : (hs : List Head) (list : List Ran) (h : Head) (id : JobId) (mark : Mark) → AreMarksOf hs list → id ≡ h.id → IsMarkOf h.number mark → AreMarksOf (hs ++ h ∷ []) (list ++ (id, mark) ∷ [])
-marks_more [] [] h id mark all is may = (is, may, tt)
-marks_more [] (r ∷ list) h id mark all is may = absurd all
-marks_more (x ∷ hs) [] h id mark all is may = absurd all
-marks_more (x ∷ hs) (r ∷ list) h id mark all is may = (all.0, all.1, marks_more hs list h id mark all.2 is may)
 
 module _ {J W : Type 0} (head : J → Head) (runs : JobId → W → Mark → W → Type 0) where
   pub back_none : (tasks : List (Returned J)) (w : W) → RanBackSoFar head runs tasks tasks [] w w
@@ -84,7 +71,7 @@ module _ {J W : Type 0} (head : J → Head) (runs : JobId → W → Mark → W �
         back = record {
           list = so_far.back.list ++ (r.job, r.mark) ∷ [];
           marks = subst (λ (hs : List Head). AreMarksOf hs (so_far.back.list ++ (r.job, r.mark) ∷ [])) (sym heads)
-              (marks_more (map (λ (x : Returned J). head x.job) so_far.done) so_far.back.list (head b.job) r.job r.mark so_far.back.marks is.job is.mark);
+              (are_marks-append (map (λ (x : Returned J). head x.job) so_far.done) (head b.job ∷ []) so_far.back.list ((r.job, r.mark) ∷ []) so_far.back.marks (is.job, is.mark, tt));
           leads = leads_more runs w m v so_far.back.list r.job r.mark so_far.back.leads ran;
         };
       }

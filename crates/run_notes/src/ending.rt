@@ -1,7 +1,7 @@
 ghost use Rattle.std.specs.Prelude.{◌≡◌, ◌+◌, ◌<◌, ◌≤◌, ◌↔◌, ◌++◌, ◌∷◌, [], false, true, suc, length, IsTrue};
 ghost use Rattle.job_trait.specs.Marks.{IsDone};
 ghost use Rattle.job_trait.specs.Runs.{IsKnownBackwards};
-ghost use Rattle.pool_model.specs.Passes.{AreAllPasses, AreAllEnds};
+ghost use Rattle.pool_model.specs.Passes.{AreAllPasses, AreAllEnds, adds_total};
 ghost use Rattle.run_notes.specs.Accounts.{AccountsFor, AllDone, AllRanBack, HaveAllRun, RanBack, SomeLed};
 
 use crate::notes::RunRecords;
@@ -41,6 +41,7 @@ pub fn end_joined<J: Job<W>, W, F: WorldFact<W>, R: Wait>(
     requires ends { AreAllEnds pool.id pool.workers ends.items }
     requires helped { AreAllEnds pool.id pool.helpers helped.items }
     requires known { IsKnownBackwards J.runs F.holds (λ _ mark. IsDone mark) }
+    ensures accepted { result.accepted ≡ adds_total joining.passes }
     ensures led { SomeLed J.runs world.old world.new }
     ensures fact { F.holds world.new → F.holds world.old }
     ensures account { F.holds world.new → AllDone (ends.items ++ helped.items) → AccountsFor joining.passes result }
@@ -74,10 +75,12 @@ pub fn end_stopped<J: Job<W>, W, F: WorldFact<W>, R: Wait>(
     requires ends { AreAllEnds pool.id pool.workers ends.items }
     requires helped { AreAllEnds pool.id pool.helpers helped.items }
     requires known { IsKnownBackwards J.runs F.holds (λ _ mark. IsDone mark) }
+    ensures accepted { result.accepted ≡ adds_total stopping.passes }
     ensures all { HaveAllRun J.head J.runs stopping.passes result.ran.records world.old world.new }
     ensures fact { F.holds world.new → F.holds world.old }
     ensures account { F.holds world.new → AllDone (ends.items ++ helped.items) → result.missed ≡ false → AccountsFor stopping.passes result }
     ensures stopped { result.ran.stopped ≡ true }
+    ensures few { length result.ran.records + length result.returned ≤ result.accepted }
     ensures missed { IsTrue result.missed ↔ (length result.ran.records + length result.returned < result.accepted) }
 {
     stop_accounts_for_each::<J>();

@@ -1,5 +1,5 @@
 -- The runs of a pool that has ended, and of what came behind its stop.
-use Rattle.std.proofs.Common.{◌≡◌, ℕ, List, [], ◌∷◌, ◌++◌, Bool, false, length, map, drop, append-nil, refl, sym, ap, ◌∙◌, subst, length-append, arith}
+use Rattle.std.proofs.Common.{◌≡◌, ℕ, ◌+◌, ◌≤◌, List, [], ◌∷◌, ◌++◌, Bool, false, length, map, drop, append-nil, refl, sym, ap, ◌∙◌, subst, length-append, arith}
 use Rattle.std.specs.Prelude.{Option, Some, None}
 use Rattle.std.specs.List.{sum_by}
 use Rattle.std.proofs.lemmas.List.{length-map}
@@ -18,7 +18,14 @@ use Rattle.run_notes.specs.Told.{run_of, run_of_add, run_of_direct, told_of}
 use Rattle.run_plan.specs.declared.turn.Turn.{Turn}
 use Rattle.run_plan.specs.Turns.{begun_in}
 use Rattle.run_front.specs.Fronts.{AreSomeOf}
-use Rattle.run_phases.specs.Phases.{StopsAt}
+use Rattle.run_notes.specs.Accounts.{HaveAllRun}
+use Rattle.query_tasks.specs.Ends.{seen_of}
+use Rattle.run_phases.specs.declared.first.FrontMid.{FrontMid}
+use Rattle.run_phases.specs.declared.second.FrontLeft.{FrontLeft}
+use Rattle.run_phases.specs.Phases.{IsStopAccount, StopsAt}
+use Rattle.run_tasks.specs.Heads.{task_head}
+use Rattle.run_tasks.specs.Seen.{WorldSeen}
+use Rattle.run_tasks.specs.Worlds.{TaskRan}
 
 pub early_are : (asked : Asking) (queries : List Asked) → queries ≡ early_of asked.stop_at (answered_in asked.lines) → task_runs asked.lines asked.shards pool_exec queries ≡ early_runs asked.lines asked.shards asked.stop_at
 unfolding early_runs
@@ -88,3 +95,8 @@ late_front asked turns stop place old new stops is none some =
       are = some.are ∙ ap (λ (l : List DirectSeen). map run_of_direct l ++ some.done) none;
       whole = some.whole ∙ late;
     }
+
+pub stop_account : {N : Type 0} (asked : Asking) (mid : FrontMid N) (left : FrontLeft N) → left.note.accepted ≡ adds_total (seen_of mid.ending).passes
+    → length left.note.ran.records + length left.note.returned ≤ left.note.accepted → (behind : WorldSeen N)
+    → HaveAllRun (task_head asked) TaskRan (seen_of mid.ending).passes left.note.ran.records mid.front.world behind → IsStopAccount asked mid left
+stop_account asked mid left accepted few behind have = record { accepted = accepted; few = few; back = have.returned; all = have.all }

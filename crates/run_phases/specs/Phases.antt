@@ -1,15 +1,20 @@
 -- The phases of a run's front.
-use Rattle.std.specs.Prelude.{◌≡◌, ℕ, ◌≤◌, Bool, List, [], ◌∷◌, Option, Some, None, length}
+use Rattle.std.specs.Prelude.{◌≡◌, ℕ, ◌+◌, ◌≤◌, Bool, List, [], ◌∷◌, Option, Some, None, length}
 use Rattle.fan_model.specs.Report.{Asking}
 use Rattle.fan_parts.specs.declared.jobs.PrintJob.{PrintJob}
 use Rattle.fan_parts.specs.Seen.{PosterSeen}
 use Rattle.notify_queue.specs.Ends.{Sending}
-use Rattle.pool_model.specs.Passes.{adds_of}
-use Rattle.pool_model.specs.Seen.{PassSeen, PoolId}
+use Rattle.pool_model.specs.Accounts.{AllRunOrReturned}
+use Rattle.pool_model.specs.Passes.{adds_of, adds_total}
+use Rattle.pool_model.specs.Seen.{PassSeen, PoolId, Returned}
+use Rattle.query_tasks.specs.Ends.{seen_of}
 use Rattle.run_front.specs.declared.front.FrontEnds.{FrontEnds}
 use Rattle.run_phases.specs.declared.first.FrontMid.{FrontMid}
+use Rattle.run_phases.specs.declared.second.FrontLeft.{FrontLeft}
 use Rattle.run_plan.specs.declared.turn.Turn.{Turn}
 use Rattle.run_plan.specs.Stopping.{IsStopPlace, IsUnstopped}
+use Rattle.run_tasks.specs.Heads.{task_head}
+use Rattle.run_tasks.specs.Seen.{TaskSeen}
 
 -- where the pool is stopped: behind so many of the turns, or nowhere
 abbrev pub StopsAt : Asking → List Turn → Option ℕ → Type 0
@@ -39,3 +44,11 @@ module _ {N : Type 0} where
   pub record IsLeftAsItWas (mid : FrontMid N) (refused : Bool) (ends : FrontEnds N) : Type 0 where
     pub refused_is : refused ≡ mid.refused
     pub printer : ends.printer ≡ mid.front.printer.sender
+
+  -- What is told of a pool that was stopped, whether memory was refused or not: as many tasks as accepted as were added; each record of what it ran is of one of these, no two
+  -- of one, and the others were handed back; and there are no more records in all. That those ran then isn't said here: a task may leave its world as it was.
+  pub record IsStopAccount (asked : Asking) (mid : FrontMid N) (left : FrontLeft N) : Type 0 where
+    pub accepted : left.note.accepted ≡ adds_total (seen_of mid.ending).passes
+    pub few : length left.note.ran.records + length left.note.returned ≤ left.note.accepted
+    pub back : List (Returned TaskSeen)
+    pub all : AllRunOrReturned (task_head asked) (seen_of mid.ending).passes left.note.ran.records back

@@ -1,4 +1,4 @@
-ghost use Rattle.std.specs.Prelude.{◌≡◌, ◌≤◌, ◌++◌, ◌∷◌, [], ℕ, List, None, Some, false, not, length, map, take, vec_capacity};
+ghost use Rattle.std.specs.Prelude.{◌≡◌, ◌≤◌, ◌++◌, ◌∷◌, [], ℕ, List, None, Some, false, true, not, length, map, take, vec_capacity};
 ghost use Rattle.std.specs.Bool.{OnTrue};
 ghost use Rattle.fan_model.specs.Answered.{answered_in, is_stopped};
 ghost use Rattle.fan_model.specs.Comings.{comings_of};
@@ -14,7 +14,7 @@ ghost use Rattle.run_notes.specs.Accounts.{AllDone, runs_added};
 ghost use Rattle.run_notes.specs.Told.{run_of_direct, told_of as told_by};
 ghost use Rattle.run_plan.specs.Turns.{AreTurnsOf};
 ghost use Rattle.run_tasks.specs.Worlds.{AreEndsFor, Follows, StaysPass, told_of};
-ghost use Rattle.run_phases.specs.Phases.{IsDoneBy, IsLeftAsItWas, StopsAt};
+ghost use Rattle.run_phases.specs.Phases.{IsDoneBy, IsLeftAsItWas, IsStopAccount, StopsAt};
 
 use crate::first::FrontMid;
 use fan_base::Memory;
@@ -59,6 +59,8 @@ pub fn second_phase<'c, 't, 'i: 't, N: RunName + 'static, R: Wait>(
     requires added { mid.refused ≡ false → runs_added (seen_of mid.ending).passes ≡ early_runs N.asked.lines N.asked.shards N.asked.stop_at }
     requires stops { is_stop mid.ending ≡ is_stopped N.asked.stop_at (answered_in N.asked.lines) }
     ensures report { result.refused ≡ false → result.ends.tasks.refused ≡ false → AllDone (ends.entry.items ++ mid.entry.helper ∷ []) → IsPoolReport N.asked (told_by result.note) }
+    ensures stopped { result.note.ran.stopped ≡ is_stopped N.asked.stop_at (answered_in N.asked.lines) }
+    ensures account { result.note.ran.stopped ≡ true → IsStopAccount N.asked mid.entry result }
     ensures late { result.ends.tasks.refused ≡ false →
         AreSomeOf [] (late_runs N.asked.lines N.asked.shards N.asked.bases N.asked.stop_at) (map run_of_direct result.note.direct) }
     ensures refused { result.ends.tasks.refused ≡ false → mid.entry.front.world.refused ≡ false }

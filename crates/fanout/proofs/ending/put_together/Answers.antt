@@ -13,7 +13,7 @@ returns g c = λ start now printed.
     let result = c.close_run-notes.result in
     let many = c.each_query_has_a_reply.ensures.replies asked.lines in
     let queries : length c.args.plan.now.turns.now ≡ length (replies_of asked.lines) = c.turns_are_few.ensures.as_many asked.lines c.args.plan.now.turns.now c.requires.plan.turns_are ∙ sym many in
-    c.of_run.ensures.ends asked start now (closed.wrote start now printed queries)
+    c.of_run.ensures.ends asked start now (closed.wrote start now printed queries) ready.side.stopped
     (λ fine done.
     let all = held_true _ _ fine c.is_fine-fine.ensures in
     let agree = c.agree-agrees.ensures.0 all.0 in

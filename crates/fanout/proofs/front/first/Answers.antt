@@ -3,6 +3,7 @@ use Rattle.fanout.proofs.front.first.Goals as goal
 pub returns : goal.returns
 returns g c = record {
   added = c.first_phase.ensures.added;
+  some = c.first_phase.ensures.some;
   pool_is = c.first_phase.ensures.pool;
   passes = c.first_phase.ensures.passes;
   stops = c.first_phase.ensures.stops;

@@ -1,8 +1,11 @@
-use Rattle.std.proofs.Common.{◌≡◌, [], ◌∷◌, refl, All}
+use Rattle.std.proofs.Common.{◌≡◌, ℕ, List, [], ◌∷◌, sym, subst, All}
+use Rattle.std.specs.Prelude.{Option}
 use Rattle.std.proofs.lemmas.List.Elements.{All-head}
 use Rattle.pool_model.specs.Passes.{adds_of}
 use Rattle.pool_model.specs.Seen.{PassSeen}
 use Rattle.prio_pool.specs.Made.{new_pass}
+use Rattle.run_plan.specs.declared.turn.Turn.{Turn}
+use Rattle.fanout.specs.Plans.{IsTimed}
 use Rattle.fanout.proofs.Running.{may_run, side_of_run}
 use Rattle.fanout.proofs.Starts.{side_start}
 use Rattle.fanout.proofs.inside.run_opened.Goals as goal
@@ -25,7 +28,10 @@ run_stages-printed-requires-clause-front g c κs within =
     let pool = c.args.setup.pool.id in
     let unused : All (λ (p : PassSeen). (p.pool ≡ pool) × (adds_of p ≡ [])) (new_pass pool 0 ∷ []) = c.new_passes_are_unused.ensures.passes pool 0 1 in
     let first : (pool ≡ pool) × (adds_of (new_pass pool 0) ≡ []) = All-head (λ (p : PassSeen). (p.pool ≡ pool) × (adds_of p ≡ [])) (new_pass pool 0) [] unused in
-    may_run asked ids _ _ c.args.setup.pool c.args.setup.workers.items _ refl refl refl refl record { limits = plan.limits; turns_are = plan.turns_are; stops = plan.stops }
+    let new = c.new-front.ensures in
+    let timed : IsTimed asked c.args.plan.now.turns.now c.args.plan.now.stop = record { limits = plan.limits; turns_are = plan.turns_are; stops = plan.stops } in
+    may_run asked ids _ _ c.args.setup.pool c.args.setup.workers.items _ new.start new.none.0 new.room new.none.1
+    (subst (λ (turns : List Turn). IsTimed asked turns c.new-front.result.stop) (sym new.turns.0) (subst (λ (stop : Option ℕ). IsTimed asked c.args.plan.now.turns.now stop) (sym new.turns.1) timed))
     (side_start asked ids _ c.args.setup.pool c.args.setup.workers.items _ plan.lines_are c.all.ensures.are.as_many plan.bases_are plan.countable
     setup.world setup.poster setup.pool setup.workers setup.ends setup.no_helped setup.for_helped) first.1
 
@@ -37,7 +43,7 @@ put_together-requires-clause-ready g c =
     let plan = c.requires.plan in
     let stages = c.run_stages-printed.ensures in
     let result = c.run_stages-printed.result in
-    let side = side_of_run asked ids _ result.front _ c.args.setup.pool c.args.setup.workers.items _ _ stages.front c.in-Some.is refl refl
+    let side = side_of_run asked ids _ result.front _ c.args.setup.pool c.args.setup.workers.items _ _ stages.front c.into_end-end.ensures c.new-front.ensures.start c.new-front.ensures.room
     (side_start asked ids _ c.args.setup.pool c.args.setup.workers.items _ plan.lines_are c.all.ensures.are.as_many plan.bases_are plan.countable
     setup.world setup.poster setup.pool setup.workers setup.ends setup.no_helped setup.for_helped) in (
       ids,

@@ -1,4 +1,4 @@
-use Rattle.std.proofs.Common.{◌++◌, List, sym, subst, map, All, arith}
+use Rattle.std.proofs.Common.{◌≡◌, ℕ, ◌<◌, ◌≤◌, ◌++◌, Bool, true, false, List, refl, sym, subst, map, All, arith}
 use Rattle.std.proofs.lemmas.List.{map-append}
 use Rattle.std.proofs.lemmas.Bool.{true_from_ne_false}
 use Rattle.fan_model.specs.Report.{IsEachOnce}
@@ -33,6 +33,18 @@ returns-clause-account g c =
           (each_once c.args.stopping.passes (a.tasks ++ map (task_of g.J.Headed.head) c.stop-accepted.result.returned) (c.stop-accepted.result.ran.records ++ back) a.all
           (runs_append a.tasks _ c.stop-accepted.result.ran.records back a.runs b.ran) each);
     }
+
+at_most : (missed : Bool) (some all : ℕ) → (missed ≡ true → some < all) → (missed ≡ false → some ≡ all) → some ≤ all
+at_most true some all fewer whole = omega (arith, fewer refl)
+at_most false some all fewer whole = omega (arith, whole refl)
+
+pub returns-clause-few : goal.returns-clause-few
+returns-clause-few g c =
+    let s = c.stop-accepted.ensures in
+    let many = (c.stop_accounts_for_each.ensures _ _ _ _ _ c.requires.stopping s.all).many in
+    let back = c.run_back-records.ensures in
+    let most = at_most c.run_back-records.result.1 _ _ back.missed back.whole in
+    omega (arith, most, many, s.accepted)
 
 pub returns-clause-missed : goal.returns-clause-missed
 returns-clause-missed g c =

@@ -2,7 +2,7 @@ use Rattle.std.proofs.Common.{◌≡◌, Bool, true, false, not, List, ◌++◌,
 use Rattle.std.specs.Bool.{OnTrue}
 use Rattle.pool_model.specs.Seen.{EndSeen}
 use Rattle.run_notes.specs.Accounts.{AllDone}
-use Rattle.run_phases.proofs.Runs.{is_unstopped, report_is}
+use Rattle.run_phases.proofs.Runs.{stop_account, is_unstopped, report_is}
 use Rattle.run_phases.proofs.second.second_phase.Goals.{then-missed, else-missed}
 use Rattle.run_phases.proofs.second.second_phase.Goals as goal
 
@@ -27,6 +27,15 @@ returns-clause-report g c fine tasks done = elim c.if-missed.branch [
       let accounts = c.end_pool-accepted.ensures.account world all w.if-missed.false in
       report_is g.N.RunName.asked _ c.end_pool-accepted.result _ _ accounts (c.requires.added unrefused) late c.end_pool-accepted.ensures.stopped c.requires.stops (λ none. (c.end_pool-accepted.ensures.joined none).0)
 ]
+
+pub returns-clause-stopped : goal.returns-clause-stopped
+returns-clause-stopped g c = c.end_pool-accepted.ensures.stopped ∙ c.requires.stops
+
+pub returns-clause-account : goal.returns-clause-account
+returns-clause-account g c stopped =
+    let ended = c.end_pool-accepted.ensures in
+    let on = sym ended.stopped ∙ stopped in
+    stop_account g.N.RunName.asked _ _ ended.accepted (ended.few on) _ (ended.all on)
 
 pub returns-clause-late : goal.returns-clause-late
 returns-clause-late g c tasks = c.turns_behind-done.ensures.some (sym c.end-2.ensures.refused ∙ tasks)
