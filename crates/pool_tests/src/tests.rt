@@ -3,7 +3,7 @@ ghost use Rattle.std.specs.Prelude.{◌≡◌, ◌⊎◌, ◌+◌, ◌<◌, ◌�
 ghost use Rattle.pool_model.specs.Passes.{AreAllPasses, AreAllEnds, adds_of};
 ghost use Rattle.prio_pool.specs.Made.{new_ends, new_passes, new_workers};
 
-use fan_base::{ExecId, JobId, Mark, OpenGate, Parcel};
+use fan_base::{ExecId, JobId, Mark, OpenGate, Parcel, Refused};
 use job_trait::{Head, Headed, Job};
 use keep_alive::{KeepAlive, KeepOwner};
 use prio_pool::{
@@ -46,14 +46,28 @@ impl Job<Vec<u64>> for Note {
     }
 }
 
-fn make_note(id: u64) -> Note
-    ensures { result.0.exec.0 ≡ 7 }
-{
-    Note(Head {
-        id: JobId(id),
-        exec: ExecId(7),
-        number: id / 2,
-    })
+// A job that is made from an id, for the executor 7, and is run or taken apart. What a test does it does for any such job, so that it
+// is proved without what one job is.
+trait Numbered: Job<Vec<u64>> {
+    fn of(id: u64) -> Self
+        ensures { (Self.head result).exec.0 ≡ 7 };
+
+    // Its id.
+    fn taken_apart(self) -> u64;
+}
+
+impl Numbered for Note {
+    fn of(id: u64) -> Note {
+        Note(Head {
+            id: JobId(id),
+            exec: ExecId(7),
+            number: id / 2,
+        })
+    }
+
+    fn taken_apart(self) -> u64 {
+        self.0.id.0
+    }
 }
 
 #[test]
@@ -75,12 +89,12 @@ fn each_priority_has_its_queue(rt: HostRuntime) {
     }
 }
 
-// Adds a note, for which there has to be memory.
-fn add<R: Abort + Wait>(
+// Adds a task, for which there has to be memory. One that is refused comes back, and is taken apart.
+fn add<J: Numbered, R: Abort + Wait>(
     rt: &R,
-    pool: &Pool<Note>,
+    pool: &Pool<J>,
     keep: &KeepAlive,
-    pass: &mut PoolPass<Note>,
+    pass: &mut PoolPass<J>,
     priority: i8,
     id: u64,
 ) -> (u32, u64)
@@ -91,18 +105,21 @@ fn add<R: Abort + Wait>(
     ensures pass { (pass.new.pool ≡ pass.old.pool) × (pass.new.number ≡ pass.old.number) }
     ensures one { length (adds_of pass.new) ≡ length (adds_of pass.old) + 1 }
 {
-    match pool.add(rt, keep, pass, priority, make_note(id)) {
+    match pool.add(rt, keep, pass, priority, J::of(id)) {
         Ok(ticket) => (ticket.adder, ticket.index),
-        Err(_) => rt.panic("memory"),
+        Err(Refused::Memory(job)) => {
+            assert_eq!(rt; job.taken_apart(), id);
+            rt.panic("memory")
+        }
     }
 }
 
-// Adds the first notes of a pass, each with its priority and id. (A loop, since each add in a row of calls makes the next one dearer to prove.)
-fn add_rows<R: Abort + Wait>(
+// Adds the first tasks of a pass, each with its priority and id. (A loop, since each add in a row of calls makes the next one dearer to prove.)
+fn add_rows<J: Numbered, R: Abort + Wait>(
     rt: &R,
-    pool: &Pool<Note>,
+    pool: &Pool<J>,
     keep: &KeepAlive,
-    pass: &mut PoolPass<Note>,
+    pass: &mut PoolPass<J>,
     rows: &[(i8, u64)],
 )
     requires keep { keep.now.count ≡ pool.now.count }
@@ -325,15 +342,15 @@ fn next_worker<J: Headed, R: Abort>(
 }
 
 // A pool of three queues, one adder and one worker.
-struct Opened {
-    pool: Pool<Note>,
+struct Opened<J: Headed> {
+    pool: Pool<J>,
     owner: KeepOwner,
     keep: KeepAlive,
-    pass: PoolPass<Note>,
-    worker: WorkerPass<Note>,
+    pass: PoolPass<J>,
+    worker: WorkerPass<J>,
 }
 
-fn open_pool<R: Abort>(rt: &R, alloc: Global) -> Opened
+fn open_pool<J: Headed, R: Abort>(rt: &R, alloc: Global) -> Opened<J>
     ensures pool { (result.pool.adders ≡ 1) × (result.pool.workers ≡ 1) × (result.pool.helpers ≡ 0) × (result.pool.exec.0 ≡ 7) }
     ensures keeps { (result.owner.count ≡ result.pool.count) × (result.keep.count ≡ result.pool.count) }
     ensures pass { (result.pass.pool ≡ result.pool.id) × (adds_of result.pass ≡ []) }
@@ -361,71 +378,88 @@ fn open_pool<R: Abort>(rt: &R, alloc: Global) -> Opened
     }
 }
 
-#[test]
-fn the_highest_queue_runs_first(rt: HostRuntime) {
-    let alloc = rt.alloc();
+// The id of the next task that was handed back, which is taken apart.
+fn next_back<J: Numbered>(returned: &mut Returned<J>) -> Option<u64> {
+    let (_, job) = returned.pop()?;
+    Some(job.taken_apart())
+}
+
+fn run_four<J: Numbered, R: Abort + Wait>(rt: &R, alloc: Global) {
     let Opened {
         pool,
         owner,
         keep,
         mut pass,
         worker,
-    } = open_pool(&rt, alloc);
+    } = open_pool::<J, R>(rt, alloc);
     let rows = [(0, 10), (-128, 11), (127, 12), (0, 13)];
-    add_rows(&rt, &pool, &keep, &mut pass, &rows);
-    let joining = begin_to_join(&rt, alloc, &pool, owner, keep, pass);
+    add_rows(rt, &pool, &keep, &mut pass, &rows);
+    let joining = begin_to_join(rt, alloc, &pool, owner, keep, pass);
     let mut world = Vec::new(alloc);
-    let ends = work_at(&rt, alloc, &pool, worker, &mut world);
+    let ends = work_at(rt, alloc, &pool, worker, &mut world);
     let PoolEnd {
         accepted,
         ran,
         mut returned,
-    } = end_join(&rt, alloc, pool, joining, ends, &mut world);
+    } = end_join(rt, alloc, pool, joining, ends, &mut world);
     assert_eq!(rt;
         (accepted, ran.len(), ran.stopped(), returned.len()),
         (4, 4, false, 0)
     );
-    assert!(rt; returned.pop().is_none());
-    assert_eq!(rt;
-        ids(&rt, alloc, ran).as_slice(),
-        [12, 10, 13, 11].as_slice()
-    );
+    assert!(rt; next_back(&mut returned).is_none());
+    assert_eq!(rt; ids(rt, alloc, ran).as_slice(), [12, 10, 13, 11].as_slice());
     assert_eq!(rt; world.as_slice(), [12, 10, 13, 11].as_slice());
 }
 
 #[test]
-fn a_stopped_pool_hands_its_tasks_back(rt: HostRuntime) {
-    let alloc = rt.alloc();
+fn the_highest_queue_runs_first(rt: HostRuntime) {
+    run_four::<Note, HostRuntime>(&rt, rt.alloc());
+}
+
+// Stops a pool with two tasks, and hands out what comes back.
+fn stop_two<J: Numbered, R: Abort + Wait>(rt: &R, alloc: Global) -> Returned<J> {
     let Opened {
         pool,
         owner,
         keep,
         mut pass,
         worker,
-    } = open_pool(&rt, alloc);
-    add_rows(&rt, &pool, &keep, &mut pass, &[(0, 20), (0, 21)]);
-    let stopping = begin_to_stop(&rt, alloc, &pool, owner, keep, pass);
+    } = open_pool::<J, R>(rt, alloc);
+    add_rows(rt, &pool, &keep, &mut pass, &[(0, 20), (0, 21)]);
+    let stopping = begin_to_stop(rt, alloc, &pool, owner, keep, pass);
     let mut world = Vec::new(alloc);
-    let ends = work_at(&rt, alloc, &pool, worker, &mut world);
+    let ends = work_at(rt, alloc, &pool, worker, &mut world);
     let PoolEnd {
         accepted,
         ran,
-        mut returned,
-    } = end_stop(&rt, alloc, pool, stopping, ends);
+        returned,
+    } = end_stop(rt, alloc, pool, stopping, ends);
     assert_eq!(rt;
-        (accepted, ran.len(), ran.stopped(), returned.len()),
-        (2, 0, true, 2)
+        (
+            accepted,
+            ran.len(),
+            ran.stopped(),
+            returned.len(),
+            world.len()
+        ),
+        (2, 0, true, 2, 0)
     );
-    let (ticket, note) = returned.pop().expect(&rt, "a task");
-    assert_eq!(rt; (ticket.adder, ticket.index, note.0.id.0), (0, 0, 20));
-    let record = returned.run_next(&rt, &mut world).expect(&rt, "a task");
+    returned
+}
+
+fn run_what_comes_back<J: Numbered, R: Abort + Wait>(rt: &R, alloc: Global) {
+    let mut returned = stop_two::<J, R>(rt, alloc);
+    let mut world = Vec::new(alloc);
+    let (ticket, job) = returned.pop().expect(rt, "a task");
+    assert_eq!(rt; (ticket.adder, ticket.index, job.id().0), (0, 0, 20));
+    let record = returned.run_next(rt, &mut world).expect(rt, "a task");
     assert_eq!(rt;
         (record.ticket().index, record.queue(), record.job().0),
         (1, 1, 21)
     );
     assert_eq!(rt; (record.exec(), record.mark()), (ExecId(7), Mark::Done(10)));
-    assert!(rt; returned.run_next(&rt, &mut world).is_none());
-    let direct = run_direct(&rt, 2, note, &mut world);
+    assert!(rt; returned.run_next(rt, &mut world).is_none());
+    let direct = run_direct(rt, 2, job, &mut world);
     assert_eq!(rt;
         (direct.queue(), direct.job().0, direct.mark()),
         (2, 20, Mark::Done(10))
@@ -434,38 +468,46 @@ fn a_stopped_pool_hands_its_tasks_back(rt: HostRuntime) {
 }
 
 #[test]
-fn an_empty_pool_ends(rt: HostRuntime) {
-    let alloc = rt.alloc();
+fn a_stopped_pool_hands_its_tasks_back(rt: HostRuntime) {
+    run_what_comes_back::<Note, HostRuntime>(&rt, rt.alloc());
+}
+
+fn end_empty<J: Numbered, R: Abort + Wait>(rt: &R, alloc: Global) {
     let Opened {
         pool,
         owner,
         keep,
         pass,
         worker,
-    } = open_pool(&rt, alloc);
+    } = open_pool::<J, R>(rt, alloc);
     let mut world = Vec::new(alloc);
-    let joining = begin_to_join(&rt, alloc, &pool, owner, keep, pass);
-    let ends = work_at(&rt, alloc, &pool, worker, &mut world);
+    let joining = begin_to_join(rt, alloc, &pool, owner, keep, pass);
+    let ends = work_at(rt, alloc, &pool, worker, &mut world);
     let PoolEnd {
         accepted,
         ran,
         returned,
-    } = end_join(&rt, alloc, pool, joining, ends, &mut world);
+    } = end_join(rt, alloc, pool, joining, ends, &mut world);
     assert_eq!(rt;
         (accepted, ran.len(), returned.len(), world.len()),
         (0, 0, 0, 0)
     );
 }
 
+#[test]
+fn an_empty_pool_ends(rt: HostRuntime) {
+    end_empty::<Note, HostRuntime>(&rt, rt.alloc());
+}
+
 // Adds so many tasks, half of them to the middle queue and half to the highest, lets the keep-alive go, and begins to join.
-fn add_and_begin_join<R: Abort + Wait>(
+fn add_and_begin_join<J: Numbered, R: Abort + Wait>(
     rt: &R,
     alloc: Global,
-    pool: &Pool<Note>,
+    pool: &Pool<J>,
     owner: KeepOwner,
     keep: KeepAlive,
-    mut pass: PoolPass<Note>,
-) -> Joining<Note>
+    mut pass: PoolPass<J>,
+) -> Joining<J>
     requires owner { owner.count ≡ pool.now.count }
     requires keep { keep.count ≡ pool.now.count }
     requires pass { (pass.pool ≡ pool.now.id) × (adds_of pass ≡ []) }
@@ -502,13 +544,13 @@ fn each_once<R: Abort>(rt: &R, alloc: Global, ids: &[u64]) -> bool {
 }
 
 // All ends of a pool with four workers.
-fn four_ends<R: Abort>(
+fn four_ends<J: Headed, R: Abort>(
     rt: &R,
     alloc: Global,
-    pool: &Pool<Note>,
-    front: (WorkerEnd<Note>, WorkerEnd<Note>),
-    back: (WorkerEnd<Note>, WorkerEnd<Note>),
-) -> Vec<WorkerEnd<Note>>
+    pool: &Pool<J>,
+    front: (WorkerEnd<J>, WorkerEnd<J>),
+    back: (WorkerEnd<J>, WorkerEnd<J>),
+) -> Vec<WorkerEnd<J>>
     requires front { (front.0.pool ≡ pool.now.id) × (front.1.pool ≡ pool.now.id) }
     requires back { (back.0.pool ≡ pool.now.id) × (back.1.pool ≡ pool.now.id) }
     requires four { pool.now.workers ≡ 4 }
@@ -523,15 +565,15 @@ fn four_ends<R: Abort>(
 }
 
 // A pool of three queues, one adder, and four workers.
-struct Large {
-    pool: Pool<Note>,
+struct Large<J: Headed> {
+    pool: Pool<J>,
     owner: KeepOwner,
     keep: KeepAlive,
-    pass: PoolPass<Note>,
-    workers: Vec<WorkerPass<Note>>,
+    pass: PoolPass<J>,
+    workers: Vec<WorkerPass<J>>,
 }
 
-fn large_pool<R: Abort>(rt: &R, alloc: Global) -> Large
+fn large_pool<J: Headed, R: Abort>(rt: &R, alloc: Global) -> Large<J>
     ensures pool { (result.pool.adders ≡ 1) × (result.pool.workers ≡ 4) × (result.pool.helpers ≡ 0) × (result.pool.exec.0 ≡ 7) }
     ensures keeps { (result.owner.count ≡ result.pool.count) × (result.keep.count ≡ result.pool.count) }
     ensures pass { (result.pass.pool ≡ result.pool.id) × (adds_of result.pass ≡ []) }
@@ -559,9 +601,9 @@ fn large_pool<R: Abort>(rt: &R, alloc: Global) -> Large
 }
 
 // The ids of the tasks that were handed back, behind those that are there.
-fn put_back_ids<R: Abort>(rt: &R, ids: &mut Vec<u64>, mut returned: Returned<Note>) {
+fn put_back_ids<J: Numbered, R: Abort>(rt: &R, ids: &mut Vec<u64>, mut returned: Returned<J>) {
     for _ in 0..returned.len() {
-        let (_, note) = returned.pop().expect(rt, "a task");
-        ids.push(note.0.id.0).expect(rt, "memory");
+        let id = next_back(&mut returned).expect(rt, "a task");
+        ids.push(id).expect(rt, "memory");
     }
 }

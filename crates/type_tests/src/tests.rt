@@ -1,3 +1,5 @@
+ghost use Rattle.std.specs.Prelude.{◌<◌, length};
+
 use fan_base::{
     Failed, Fault, Gate, HoldGate, Ids, JobId, LineGate, LineSink, MemSink, MemSource, Memory,
     NullSink, Sink, Source, StdSink, StdSource, Try, Word, WordFault,
@@ -5,6 +7,7 @@ use fan_base::{
 use std::alloc::{AllocError, Global};
 use std::collections::HashMap;
 use std::io::Cursor;
+use std::process::Abort;
 use std::test::Fail;
 use std::thread::join;
 
@@ -78,17 +81,41 @@ fn list_keeps_its_items(rt: HostRuntime) -> Result<(), Fail> {
     Ok(())
 }
 
+// Reads once into this room: finds these bytes there, or the failure.
+fn expect_read<S: Source>(
+    rt: &impl Abort,
+    source: &mut S,
+    room: &mut [u8],
+    expected: Result<&[u8], Failed>,
+)
+    requires { 0 < length room.old }
+{
+    match source.read(room) {
+        Ok(size) => assert_eq!(rt; room.get(..size), expected.ok()),
+        Err(Failed) => assert_eq!(rt; Err(Failed), expected),
+    }
+}
+
+// Writes once: so many bytes are taken, or the failure comes.
+fn expect_write<S: Sink>(
+    rt: &impl Abort,
+    sink: &mut S,
+    bytes: &[u8],
+    expected: Result<usize, Failed>,
+)
+    requires { 0 < length bytes.now }
+{
+    assert_eq!(rt; sink.write(bytes), expected);
+}
+
 #[test]
 fn source_in_memory_gives_pieces(rt: HostRuntime) -> Result<(), Fail> {
     let fails = vec![in rt.alloc(); 1]?;
     let mut source = MemSource::new(bytes_of(rt.alloc(), "abcdefg")?, 5, fails);
-    let mut buf = [0; 8];
-    assert_eq!(rt; source.read(&mut buf), Ok(5));
-    assert_eq!(rt; &buf[..5], b"abcde".as_slice());
-    assert_eq!(rt; source.read(&mut buf), Err(Failed));
-    assert_eq!(rt; source.read(&mut buf), Ok(2));
-    assert_eq!(rt; &buf[..2], b"fg".as_slice());
-    assert_eq!(rt; source.read(&mut buf), Ok(0));
+    let mut room = [0; 8];
+    for expected in [Ok(b"abcde".as_slice()), Err(Failed), Ok(b"fg"), Ok(b"")] {
+        expect_read(&rt, &mut source, &mut room, expected);
+    }
     Ok(())
 }
 
@@ -96,10 +123,10 @@ fn source_in_memory_gives_pieces(rt: HostRuntime) -> Result<(), Fail> {
 fn sink_in_memory_takes_pieces(rt: HostRuntime) -> Result<(), Fail> {
     let fails = vec![in rt.alloc(); 1]?;
     let mut sink = MemSink::new(rt.alloc(), 7, 5, fails)?;
-    assert_eq!(rt; sink.write(b"abcdefg"), Ok(5));
-    assert_eq!(rt; sink.write(b"fg"), Err(Failed));
-    assert_eq!(rt; sink.write(b"fgh"), Ok(2));
-    assert_eq!(rt; sink.write(b"h"), Err(Failed));
+    expect_write(&rt, &mut sink, b"abcdefg", Ok(5));
+    expect_write(&rt, &mut sink, b"fg", Err(Failed));
+    expect_write(&rt, &mut sink, b"fgh", Ok(2));
+    expect_write(&rt, &mut sink, b"h", Err(Failed));
     assert_eq!(rt; sink.bytes(), b"abcdefg".as_slice());
     Ok(())
 }
@@ -107,19 +134,18 @@ fn sink_in_memory_takes_pieces(rt: HostRuntime) -> Result<(), Fail> {
 #[test]
 fn std_reader_is_a_source(rt: HostRuntime) {
     let mut source = StdSource::new(Cursor::new(b"abc".as_slice()));
-    let mut buf = [0; 2];
-    assert_eq!(rt; source.read(&mut buf), Ok(2));
-    assert_eq!(rt; &buf, b"ab");
-    assert_eq!(rt; source.read(&mut buf), Ok(1));
-    assert_eq!(rt; source.read(&mut buf), Ok(0));
+    let mut room = [0; 2];
+    for expected in [b"ab".as_slice(), b"c", b""] {
+        expect_read(&rt, &mut source, &mut room, Ok(expected));
+    }
 }
 
 #[test]
 fn std_writer_is_a_sink(rt: HostRuntime) {
     let mut room = [0; 2];
     let mut sink = StdSink::new(room.as_mut_slice());
-    assert_eq!(rt; sink.write(b"abc"), Ok(2));
-    assert_eq!(rt; sink.write(b"c"), Err(Failed));
+    expect_write(&rt, &mut sink, b"abc", Ok(2));
+    expect_write(&rt, &mut sink, b"c", Err(Failed));
 }
 
 #[test]

@@ -3,7 +3,6 @@ ghost use Rattle.std.specs.Prelude.{◌≡◌, ◌⊎◌, ◌+◌, ◌<◌, ◌�
 ghost use Rattle.pool_model.specs.Passes.{AreAllPasses, AreAllEnds, adds_of};
 
 use super::*;
-use fan_base::Refused;
 
 // It notes its id in the world, and must be run or taken apart.
 struct Kept(Head);
@@ -32,33 +31,32 @@ impl Job<Vec<u64>> for Kept {
     }
 }
 
-fn make_kept(id: u64) -> Kept
-    ensures { result.0.exec.0 ≡ 7 }
-{
-    Kept(Head {
-        id: JobId(id),
-        exec: ExecId(7),
-        number: id,
-    })
-}
+impl Numbered for Kept {
+    fn of(id: u64) -> Kept {
+        Kept(Head {
+            id: JobId(id),
+            exec: ExecId(7),
+            number: id,
+        })
+    }
 
-// Takes a job apart that was handed back, and says its id.
-fn taken_apart(kept: Kept) -> u64 {
-    let Kept(head) = kept;
-    head.id.0
+    fn taken_apart(self) -> u64 {
+        let Kept(head) = self;
+        head.id.0
+    }
 }
 
 // A pool of three queues, with one adder, one worker and one helper.
-struct Trio {
-    pool: Pool<Kept>,
+struct Trio<J: Headed> {
+    pool: Pool<J>,
     owner: KeepOwner,
     keep: KeepAlive,
-    pass: PoolPass<Kept>,
-    worker: WorkerPass<Kept>,
-    helper: HelperPass<Kept>,
+    pass: PoolPass<J>,
+    worker: WorkerPass<J>,
+    helper: HelperPass<J>,
 }
 
-fn open_trio<R: Abort>(rt: &R, alloc: Global) -> Trio
+fn open_trio<J: Headed, R: Abort>(rt: &R, alloc: Global) -> Trio<J>
     ensures pool { (result.pool.adders ≡ 1) × (result.pool.workers ≡ 1) × (result.pool.helpers ≡ 1) × (result.pool.exec.0 ≡ 7) }
     ensures keeps { (result.owner.count ≡ result.pool.count) × (result.keep.count ≡ result.pool.count) }
     ensures pass { (result.pass.pool ≡ result.pool.id) × (adds_of result.pass ≡ []) }
@@ -88,12 +86,12 @@ fn open_trio<R: Abort>(rt: &R, alloc: Global) -> Trio
     }
 }
 
-// Adds a job. One that is refused comes back, and is taken apart.
-fn add_kept<R: Abort + Wait>(
+// Adds a job to the middle queue.
+fn add_kept<J: Numbered, R: Abort + Wait>(
     rt: &R,
-    pool: &Pool<Kept>,
+    pool: &Pool<J>,
     keep: &KeepAlive,
-    pass: &mut PoolPass<Kept>,
+    pass: &mut PoolPass<J>,
     id: u64,
 )
     requires keep { keep.now.count ≡ pool.now.count }
@@ -103,21 +101,15 @@ fn add_kept<R: Abort + Wait>(
     ensures pass { (pass.new.pool ≡ pass.old.pool) × (pass.new.number ≡ pass.old.number) }
     ensures one { length (adds_of pass.new) ≡ length (adds_of pass.old) + 1 }
 {
-    match pool.add(rt, keep, pass, 0, make_kept(id)) {
-        Ok(ticket) => assert_eq!(rt; (ticket.adder, ticket.index), (0, id)),
-        Err(Refused::Memory(kept)) => {
-            assert_eq!(rt; taken_apart(kept), id);
-            rt.panic("memory")
-        }
-    }
+    assert_eq!(rt; add(rt, pool, keep, pass, 0, id), (0, id));
 }
 
-fn only_helped<R: Abort>(
+fn only_helped<J: Headed, R: Abort>(
     rt: &R,
     alloc: Global,
-    pool: &Pool<Kept>,
-    end: HelperEnd<Kept>,
-) -> Vec<HelperEnd<Kept>>
+    pool: &Pool<J>,
+    end: HelperEnd<J>,
+) -> Vec<HelperEnd<J>>
     requires end { end.pool ≡ pool.now.id }
     requires one { pool.now.helpers ≡ 1 }
     ensures { AreAllEnds pool.now.id pool.now.helpers result.items }
@@ -125,12 +117,12 @@ fn only_helped<R: Abort>(
     list_of(rt, alloc, end)
 }
 
-fn work_kept<R: Abort + Wait>(
+fn work_kept<J: Job<Vec<u64>>, R: Abort + Wait>(
     rt: &R,
     alloc: Global,
-    pool: &Pool<Kept>,
-    pass: WorkerPass<Kept>,
-) -> WorkerEnd<Kept>
+    pool: &Pool<J>,
+    pass: WorkerPass<J>,
+) -> WorkerEnd<J>
     requires { pass.pool ≡ pool.now.id }
     ensures { result.pool ≡ pool.now.id }
 {
@@ -139,10 +131,10 @@ fn work_kept<R: Abort + Wait>(
 }
 
 // Helps once, and says whether a job ran. Its world grows by that.
-fn help_once<R: Abort + Wait>(
+fn help_once<J: Job<Vec<u64>>, R: Abort + Wait>(
     rt: &R,
-    pool: &Pool<Kept>,
-    helper: &mut HelperPass<Kept>,
+    pool: &Pool<J>,
+    helper: &mut HelperPass<J>,
     world: &mut Vec<u64>,
 ) -> bool
     requires { helper.old.pool ≡ pool.now.id }
@@ -155,15 +147,15 @@ fn help_once<R: Abort + Wait>(
 }
 
 // Adds a thousand jobs and helps after each, lets the keep-alive go, and begins to join.
-fn add_and_help<R: Abort + Wait>(
+fn add_and_help<J: Numbered, R: Abort + Wait>(
     rt: &R,
     alloc: Global,
-    pool: &Pool<Kept>,
+    pool: &Pool<J>,
     owner: KeepOwner,
     keep: KeepAlive,
-    mut pass: PoolPass<Kept>,
-    mut helper: HelperPass<Kept>,
-) -> (Joining<Kept>, HelperEnd<Kept>)
+    mut pass: PoolPass<J>,
+    mut helper: HelperPass<J>,
+) -> (Joining<J>, HelperEnd<J>)
     requires owner { owner.count ≡ pool.now.count }
     requires keep { keep.count ≡ pool.now.count }
     requires pass { (pass.pool ≡ pool.now.id) × (adds_of pass ≡ []) }
@@ -192,7 +184,7 @@ fn a_helper_beside_a_worker(rt: HostRuntime) {
         pass,
         worker,
         helper,
-    } = open_trio(&rt, alloc);
+    } = open_trio::<Kept, HostRuntime>(&rt, alloc);
     let worker = wrapped(&rt, alloc, worker);
     let helper = wrapped(&rt, alloc, helper);
     let owner = wrapped(&rt, alloc, owner);
@@ -236,16 +228,21 @@ fn a_helper_beside_a_worker(rt: HostRuntime) {
 }
 
 // The ids of the jobs that were handed back, which are taken apart.
-fn back_ids<R: Abort>(rt: &R, alloc: Global, mut returned: Returned<Kept>) -> Vec<u64> {
+fn back_ids<J: Numbered, R: Abort>(rt: &R, alloc: Global, mut returned: Returned<J>) -> Vec<u64> {
     let mut back = Vec::new(alloc);
     while let Some((_, kept)) = returned.pop() {
-        back.push(taken_apart(kept)).expect(rt, "memory");
+        back.push(kept.taken_apart()).expect(rt, "memory");
     }
     back
 }
 
 // Adds four jobs.
-fn add_four<R: Abort + Wait>(rt: &R, pool: &Pool<Kept>, keep: &KeepAlive, pass: &mut PoolPass<Kept>)
+fn add_four<J: Numbered, R: Abort + Wait>(
+    rt: &R,
+    pool: &Pool<J>,
+    keep: &KeepAlive,
+    pass: &mut PoolPass<J>,
+)
     requires keep { keep.now.count ≡ pool.now.count }
     requires pass { (pass.old.pool ≡ pool.now.id) × (adds_of pass.old ≡ []) }
     requires exec { pool.now.exec.0 ≡ 7 }
@@ -257,14 +254,14 @@ fn add_four<R: Abort + Wait>(rt: &R, pool: &Pool<Kept>, keep: &KeepAlive, pass: 
 }
 
 // Stops a pool with a worker and a helper. Of four jobs one ran, and three come back.
-fn end_stopped<R: Abort + Wait>(
+fn end_stopped<J: Headed, R: Abort + Wait>(
     rt: &R,
     alloc: Global,
-    pool: Pool<Kept>,
-    stopping: Stopping<Kept>,
-    end: WorkerEnd<Kept>,
-    helped: HelperEnd<Kept>,
-) -> Returned<Kept>
+    pool: Pool<J>,
+    stopping: Stopping<J>,
+    end: WorkerEnd<J>,
+    helped: HelperEnd<J>,
+) -> Returned<J>
     requires pool { stopping.pool ≡ pool.id }
     requires passes { AreAllPasses pool.id pool.adders stopping.passes }
     requires end { end.pool ≡ pool.id }
@@ -285,19 +282,7 @@ fn end_stopped<R: Abort + Wait>(
     returned
 }
 
-// Runs the next job that was handed back, and says which it was.
-fn run_back<R: Abort + Wait>(
-    rt: &R,
-    returned: &mut Returned<Kept>,
-    world: &mut Vec<u64>,
-) -> (JobId, Mark) {
-    let record = returned.run_next(rt, world).expect(rt, "a task");
-    (record.job(), record.mark())
-}
-
-#[test]
-fn jobs_that_may_not_be_dropped_come_back(rt: HostRuntime) {
-    let alloc = rt.alloc();
+fn stop_three<J: Numbered, R: Abort + Wait>(rt: &R, alloc: Global) {
     let Trio {
         pool,
         owner,
@@ -305,21 +290,21 @@ fn jobs_that_may_not_be_dropped_come_back(rt: HostRuntime) {
         mut pass,
         worker,
         mut helper,
-    } = open_trio(&rt, alloc);
+    } = open_trio::<J, R>(rt, alloc);
     let mut world = Vec::new(alloc);
-    assert!(rt; !help_once(&rt, &pool, &mut helper, &mut world));
-    add_four(&rt, &pool, &keep, &mut pass);
-    assert!(rt; help_once(&rt, &pool, &mut helper, &mut world));
-    let stopping = begin_to_stop(&rt, alloc, &pool, owner, keep, pass);
-    let end = work_kept(&rt, alloc, &pool, worker);
-    let mut returned = end_stopped(&rt, alloc, pool, stopping, end, helper.end());
-    assert_eq!(rt;
-        run_back(&rt, &mut returned, &mut world),
-        (JobId(1), Mark::Done(1))
-    );
-    assert_eq!(rt;
-        back_ids(&rt, alloc, returned).as_slice(),
-        [2, 3].as_slice()
-    );
+    assert!(rt; !help_once(rt, &pool, &mut helper, &mut world));
+    add_four(rt, &pool, &keep, &mut pass);
+    assert!(rt; help_once(rt, &pool, &mut helper, &mut world));
+    let stopping = begin_to_stop(rt, alloc, &pool, owner, keep, pass);
+    let end = work_kept(rt, alloc, &pool, worker);
+    let mut returned = end_stopped(rt, alloc, pool, stopping, end, helper.end());
+    let record = returned.run_next(rt, &mut world).expect(rt, "a task");
+    assert_eq!(rt; (record.job(), record.mark()), (JobId(1), Mark::Done(1)));
+    assert_eq!(rt; back_ids(rt, alloc, returned).as_slice(), [2, 3].as_slice());
     assert_eq!(rt; world.as_slice(), [0, 1].as_slice());
+}
+
+#[test]
+fn jobs_that_may_not_be_dropped_come_back(rt: HostRuntime) {
+    stop_three::<Kept, HostRuntime>(&rt, rt.alloc());
 }

@@ -2,95 +2,85 @@
 ghost use Rattle.std.specs.Prelude.{◌≡◌, ◌<◌, [], Some};
 ghost use Rattle.pool_model.specs.declared.task.Ending.TheVariants.{Stops};
 
-use fan_base::{ExecId, JobId};
-use job_trait::{Head, Headed};
+use super::{Note, Numbered};
+use fan_base::Refused;
+use job_trait::Headed;
 use keep_alive::{KeepAlive, KeepOwner};
 use pool_model::{Ending, Ticket};
+use std::alloc::Global;
+use std::process::Abort;
 use std::sync::Wait;
-use std::test::Fail;
 use task_queue::{
     Adder, EndMark, KeptMark, Looks, OpenSeat, Packets, Queued, Taker, TaskQueue, Watch,
 };
 
-#[derive(Clone, Copy, Debug, PartialEq, Eq, Drop)]
-struct Note(Head);
-
-impl Headed for Note {
-    ghost head = { λ note. note.0 };
-
-    fn id(&self) -> JobId {
-        self.0.id
-    }
-
-    fn exec(&self) -> ExecId {
-        self.0.exec
-    }
-}
-
-fn make_note(adder: u32, index: u64, id: u64) -> Queued<Note>
+fn make_task<J: Numbered>(adder: u32, index: u64, id: u64) -> Queued<J>
     ensures { result.ticket ≡ record { adder = adder; index = index } }
 {
     Queued {
         ticket: Ticket { adder, index },
-        job: Note(Head {
-            id: JobId(id),
-            exec: ExecId(7),
-            number: id,
-        }),
+        job: J::of(id),
     }
 }
 
-// The id of the job that was found, or 0.
-fn found(task: Option<Queued<Note>>) -> u64 {
-    match task {
-        Some(task) => task.job.0.id.0,
-        None => 0,
-    }
+fn id_of<J: Numbered>(task: Queued<J>) -> u64 {
+    let Queued { ticket: _, job } = task;
+    job.taken_apart()
 }
 
-fn next(left: &mut Packets<Queued<Note>>) -> u64 {
+// The id of the job that is left next, or 0.
+fn next<J: Numbered>(left: &mut Packets<Queued<J>>) -> u64 {
     match left.pop_front() {
-        Some(task) => task.job.0.id.0,
+        Some(task) => id_of(task),
         None => 0,
     }
 }
 
 // The id of the task that is taken, or 0. The taker stays one of this queue.
-fn take_next<R: Wait>(
+fn take_next<J: Numbered, R: Wait>(
     rt: &R,
-    queue: &TaskQueue<Note>,
-    taker: &mut Taker<Note>,
-    looks: &mut Looks<Note>,
+    queue: &TaskQueue<J>,
+    taker: &mut Taker<J>,
+    looks: &mut Looks<J>,
 ) -> u64
     requires { taker.old.queue ≡ queue.now }
     ensures { taker.new.queue ≡ taker.old.queue }
 {
-    found(queue.take(rt, taker, 0, looks))
+    match queue.take(rt, taker, 0, looks) {
+        Some(task) => id_of(task),
+        None => 0,
+    }
 }
 
 // Whether an adder's first task was accepted.
-fn push_first<R: Wait>(
+fn push_first<J: Numbered, R: Wait>(
     rt: &R,
-    queue: &TaskQueue<Note>,
-    adder: &mut Adder<Note>,
-    task: Queued<Note>,
+    queue: &TaskQueue<J>,
+    adder: &mut Adder<J>,
+    task: Queued<J>,
 ) -> bool
     requires queue { adder.old.queue ≡ queue.now }
     requires number { task.ticket.adder ≡ adder.old.number }
     requires first { adder.old.pushed ≡ [] }
     ensures { (adder.new.queue ≡ adder.old.queue) × (adder.new.passes ≡ adder.old.passes) }
 {
-    queue.push(rt, adder, task).is_ok()
+    match queue.push(rt, adder, task) {
+        Ok(()) => true,
+        Err(Refused::Memory(task)) => {
+            let _ = id_of(task);
+            false
+        }
+    }
 }
 
 // Ends a queue of three passes, and hands out what is left.
-fn end_queue<R: Wait>(
+fn end_queue<J: Headed, R: Wait>(
     rt: &R,
-    queue: TaskQueue<Note>,
-    first: Adder<Note>,
-    second: Adder<Note>,
-    taker: Taker<Note>,
-) -> Packets<Queued<Note>>
+    queue: TaskQueue<J>,
+    first: Adder<J>,
+    second: Adder<J>,
+    taker: Taker<J>,
+) -> Packets<Queued<J>>
     requires first { (first.queue ≡ queue) × (first.passes ≡ 3) }
     requires second { second.queue ≡ queue }
     requires taker { taker.queue ≡ queue }
@@ -101,25 +91,28 @@ fn end_queue<R: Wait>(
     queue.settle(rt, all)
 }
 
-#[test]
-fn tasks_leave_in_order_and_the_rest_is_handed_out(rt: HostRuntime) -> Result<(), Fail> {
-    let (queue, mut maker) = TaskQueue::new(rt.alloc(), 3)?;
+fn pass_two<J: Numbered, R: Abort + Wait>(rt: &R, alloc: Global) {
+    let (queue, mut maker) = TaskQueue::<J>::new(alloc, 3).expect(rt, "memory");
     let mut first = queue.next_adder(&mut maker);
     let mut second = queue.next_adder(&mut maker);
     let mut taker = queue.next_taker(&mut maker);
     let mut looks = Looks::new();
-    assert_eq!(rt; take_next(&rt, &queue, &mut taker, &mut looks), 0);
-    let a = push_first(&rt, &queue, &mut first, make_note(0, 0, 10));
-    let b = push_first(&rt, &queue, &mut second, make_note(1, 0, 11));
+    assert_eq!(rt; take_next(rt, &queue, &mut taker, &mut looks), 0);
+    let a = push_first(rt, &queue, &mut first, make_task(0, 0, 10));
+    let b = push_first(rt, &queue, &mut second, make_task(1, 0, 11));
     assert_eq!(rt; (a, b), (true, true));
-    assert_eq!(rt; take_next(&rt, &queue, &mut taker, &mut looks), 10);
-    let mut left = end_queue(&rt, queue, first, second, taker);
+    assert_eq!(rt; take_next(rt, &queue, &mut taker, &mut looks), 10);
+    let mut left = end_queue(rt, queue, first, second, taker);
     assert_eq!(rt; (next(&mut left), next(&mut left)), (11, 0));
-    Ok(())
+}
+
+#[test]
+fn tasks_leave_in_order_and_the_rest_is_handed_out(rt: HostRuntime) {
+    pass_two::<Note, HostRuntime>(&rt, rt.alloc());
 }
 
 // What a look finds. The watch stays one of this mark.
-fn look_at(mark: &EndMark, watch: &mut Watch, looks: &mut Looks<Note>) -> Option<Ending>
+fn look_at<J>(mark: &EndMark, watch: &mut Watch, looks: &mut Looks<J>) -> Option<Ending>
     requires { watch.old.mark ≡ mark.now.mark }
     ensures { watch.new.mark ≡ watch.old.mark }
 {
@@ -146,20 +139,23 @@ fn begin_to_stop<R: Wait>(
     kept.begin(&joined, all, Ending::Stops)
 }
 
-#[test]
-fn a_mark_is_found_once_it_is_set(rt: HostRuntime) -> Result<(), Fail> {
-    let (open, mut all) = EndMark::new(rt.alloc(), 2)?;
-    let (owner, keep) = KeepOwner::new(rt.alloc(), 0)?;
+fn set_once<J, R: Abort + Wait>(rt: &R, alloc: Global) {
+    let (open, mut all) = EndMark::new(alloc, 2).expect(rt, "memory");
+    let (owner, keep) = KeepOwner::new(alloc, 0).expect(rt, "memory");
     let kept = open.kept_by(&keep);
     let mark = kept.mark();
     let mut worker = mark.watch(&mut all);
-    let mut looks: Looks<Note> = Looks::new();
+    let mut looks: Looks<J> = Looks::new();
     let other = mark.one_part(&mut all);
     assert_eq!(rt; look_at(mark, &mut worker, &mut looks), None);
     mark.put_parts(&mut all, other);
-    let mut begun = begin_to_stop(&rt, &kept, owner, keep, all);
+    let mut begun = begin_to_stop(rt, &kept, owner, keep, all);
     assert_eq!(rt; look_at(mark, &mut worker, &mut looks), Some(Ending::Stops));
     mark.agree(&mut begun, worker);
     assert_eq!(rt; look_at(mark, &mut begun, &mut looks), Some(Ending::Stops));
-    Ok(())
+}
+
+#[test]
+fn a_mark_is_found_once_it_is_set(rt: HostRuntime) {
+    set_once::<Note, HostRuntime>(&rt, rt.alloc());
 }

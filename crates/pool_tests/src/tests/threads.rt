@@ -212,17 +212,17 @@ fn four_work_at<R: Abort + Wait + Threads + Sync>(
 
 // Adds tasks, and waits after each so many until all of them have ended, so that the workers go to sleep and are woken in between.
 // Then it begins to join.
-fn add_in_groups<R: Abort + Wait>(
+fn add_in_groups<J: Numbered, R: Abort + Wait>(
     rt: &R,
     alloc: Global,
-    pool: &Pool<Note>,
+    pool: &Pool<J>,
     gate: &CountGate,
     groups: u64,
     size: u64,
     owner: KeepOwner,
     keep: KeepAlive,
-    mut pass: PoolPass<Note>,
-) -> Joining<Note>
+    mut pass: PoolPass<J>,
+) -> Joining<J>
     requires owner { owner.count ≡ pool.now.count }
     requires keep { keep.count ≡ pool.now.count }
     requires pass { (pass.pool ≡ pool.now.id) × (adds_of pass ≡ []) }
@@ -244,15 +244,15 @@ fn add_in_groups<R: Abort + Wait>(
 }
 
 // Adds a thousand tasks, waits until so many have begun where the gate holds any, begins to stop, and then opens the gate.
-fn add_and_stop<R: Abort + Wait>(
+fn add_and_stop<J: Numbered, R: Abort + Wait>(
     rt: &R,
     alloc: Global,
-    pool: &Pool<Note>,
+    pool: &Pool<J>,
     gate: &CountGate,
     owner: KeepOwner,
     keep: KeepAlive,
-    mut pass: PoolPass<Note>,
-) -> Stopping<Note>
+    mut pass: PoolPass<J>,
+) -> Stopping<J>
     requires owner { owner.count ≡ pool.now.count }
     requires keep { keep.count ≡ pool.now.count }
     requires pass { (pass.pool ≡ pool.now.id) × (adds_of pass ≡ []) }
@@ -273,12 +273,12 @@ fn add_and_stop<R: Abort + Wait>(
 }
 
 // Joins the pool. Each of so many tasks has to have a record, and both calls of the gate.
-fn end_joined<R: Abort + Wait>(
+fn end_joined<J: Numbered, R: Abort + Wait>(
     rt: &R,
     alloc: Global,
-    pool: Pool<Note>,
-    joining: Joining<Note>,
-    ends: Vec<WorkerEnd<Note>>,
+    pool: Pool<J>,
+    joining: Joining<J>,
+    ends: Vec<WorkerEnd<J>>,
     counts: &CountGate,
     tasks: u64,
 )
@@ -300,6 +300,32 @@ fn end_joined<R: Abort + Wait>(
     assert_eq!(rt; counts.passed(), (tasks, 0));
 }
 
+// Joins the pool. Each of a thousand tasks has to have a record, by its id, and both calls of the gate.
+fn end_thousand<J: Numbered, R: Abort + Wait>(
+    rt: &R,
+    alloc: Global,
+    pool: Pool<J>,
+    joining: Joining<J>,
+    ends: Vec<WorkerEnd<J>>,
+    counts: &CountGate,
+)
+    requires pool { joining.pool ≡ pool.id }
+    requires passes { AreAllPasses pool.id pool.adders joining.passes }
+    requires ends { AreAllEnds pool.id pool.workers ends.items }
+    requires helpers { pool.helpers ≡ 0 }
+{
+    let mut world = Vec::new(alloc);
+    let PoolEnd {
+        accepted,
+        ran,
+        returned,
+    } = end_join(rt, alloc, pool, joining, ends, &mut world);
+    assert_eq!(rt; (accepted, ran.len(), returned.len()), (1000, 1000, 0));
+    assert_eq!(rt; counts.passed(), (1000, 0));
+    let ids = ids(rt, alloc, ran);
+    assert!(rt; each_once(rt, alloc, ids.as_slice()));
+}
+
 #[test]
 fn four_workers_run_a_thousand_tasks(rt: HostRuntime) {
     let alloc = rt.alloc();
@@ -309,20 +335,11 @@ fn four_workers_run_a_thousand_tasks(rt: HostRuntime) {
         keep,
         pass,
         workers,
-    } = large_pool(&rt, alloc);
+    } = large_pool::<Note, HostRuntime>(&rt, alloc);
     let counts = CountGate::new(&rt, alloc, u64::MAX, 1000);
     let joining = add_and_begin_join(&rt, alloc, &pool, owner, keep, pass);
     let ends = four_work_at(&rt, alloc, &pool, &counts, workers);
-    let mut world = Vec::new(alloc);
-    let PoolEnd {
-        accepted,
-        ran,
-        returned,
-    } = end_join(&rt, alloc, pool, joining, ends, &mut world);
-    assert_eq!(rt; (accepted, ran.len(), returned.len()), (1000, 1000, 0));
-    assert_eq!(rt; counts.passed(), (1000, 0));
-    let ids = ids(&rt, alloc, ran);
-    assert!(rt; each_once(&rt, alloc, ids.as_slice()));
+    end_thousand(&rt, alloc, pool, joining, ends, &counts);
 }
 
 // One by one, and as a stream: groups of tasks, and how many each has.
@@ -336,7 +353,7 @@ fn no_task_is_slept_through(rt: HostRuntime) {
             keep,
             pass,
             workers,
-        } = large_pool(&rt, alloc);
+        } = large_pool::<Note, HostRuntime>(&rt, alloc);
         let passes = wrapped(&rt, alloc, workers);
         let owner = wrapped(&rt, alloc, owner);
         let keep = wrapped(&rt, alloc, keep);
@@ -374,6 +391,44 @@ fn no_task_is_slept_through(rt: HostRuntime) {
     }
 }
 
+// Stops the pool. Each of a thousand tasks has to have a record, with both calls of the gate, or to be handed back; where the gate held the four,
+// none was taken since.
+fn end_halted<J: Numbered, R: Abort + Wait>(
+    rt: &R,
+    alloc: Global,
+    pool: Pool<J>,
+    stopping: Stopping<J>,
+    ends: Vec<WorkerEnd<J>>,
+    counts: &CountGate,
+)
+    requires pool { stopping.pool ≡ pool.id }
+    requires passes { AreAllPasses pool.id pool.adders stopping.passes }
+    requires ends { AreAllEnds pool.id pool.workers ends.items }
+    requires helpers { pool.helpers ≡ 0 }
+{
+    let PoolEnd {
+        accepted,
+        ran,
+        returned,
+    } = end_stop(rt, alloc, pool, stopping, ends);
+    let records = ran.len();
+    assert_eq!(rt;
+        (
+            accepted,
+            ran.stopped(),
+            records.saturating_add(returned.len())
+        ),
+        (1000, true, 1000)
+    );
+    if counts.most == 400 {
+        assert_eq!(rt; records, 404);
+    }
+    assert_eq!(rt; counts.passed(), (records as u64, 0));
+    let mut all = ids(rt, alloc, ran);
+    put_back_ids(rt, &mut all, returned);
+    assert!(rt; each_once(rt, alloc, all.as_slice()));
+}
+
 // The gate lets 400 tasks begin, and holds each of the four workers at its next one until the stop has begun; or it holds none.
 #[test]
 fn a_stop_among_a_thousand_tasks_loses_none(rt: HostRuntime) {
@@ -385,7 +440,7 @@ fn a_stop_among_a_thousand_tasks_loses_none(rt: HostRuntime) {
             keep,
             pass,
             workers,
-        } = large_pool(&rt, alloc);
+        } = large_pool::<Note, HostRuntime>(&rt, alloc);
         let passes = wrapped(&rt, alloc, workers);
         let owner = wrapped(&rt, alloc, owner);
         let keep = wrapped(&rt, alloc, keep);
@@ -416,26 +471,6 @@ fn a_stop_among_a_thousand_tasks_loses_none(rt: HostRuntime) {
                 )
             },
         );
-        let PoolEnd {
-            accepted,
-            ran,
-            returned,
-        } = end_stop(&rt, alloc, pool, stopping, ends);
-        let records = ran.len();
-        assert_eq!(rt;
-            (
-                accepted,
-                ran.stopped(),
-                records.saturating_add(returned.len())
-            ),
-            (1000, true, 1000)
-        );
-        if most == 400 {
-            assert_eq!(rt; records, 404);
-        }
-        assert_eq!(rt; counts.passed(), (records as u64, 0));
-        let mut all = ids(&rt, alloc, ran);
-        put_back_ids(&rt, &mut all, returned);
-        assert!(rt; each_once(&rt, alloc, all.as_slice()));
+        end_halted(&rt, alloc, pool, stopping, ends, &counts);
     }
 }
