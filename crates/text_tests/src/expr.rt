@@ -55,88 +55,95 @@ fn shown(alloc: Global, e: &Expr) -> Result<Vec<u8>, AllocError> {
 
 // One word, behind so many of a mark.
 fn marks_before_a_word(alloc: Global, mark: Token, count: usize) -> Result<Vec<Token>, Fail> {
-    let mut tokens = Vec::new(alloc);
-    for _ in 0..count {
-        tokens.push(mark)?;
-    }
+    let mut tokens = vec![in alloc; mark; count]?;
     tokens.push(token_of(b'a')?)?;
     Ok(tokens)
 }
 
+fn fault_of(alloc: Global, tokens: &[Token]) -> Option<ExprFault> {
+    parse(alloc, tokens).err()
+}
+
+// Lists of tokens, each with its tree.
+const TREES: &[(&[u8], &[u8])] = &[
+    (b"a", b"a"),
+    (b"ab", b"&ab"),
+    (b"abc", b"&&abc"),
+    (b"a|b|c", b"||abc"),
+    (b"ab|c", b"|&abc"),
+    (b"a|bc", b"|a&bc"),
+    (b"!ab", b"&!ab"),
+    (b"!!a", b"!!a"),
+    (b"!(ab)", b"!&ab"),
+    (b"a(b|c)", b"&a|bc"),
+    (b"((a))", b"a"),
+    (b"a|(b|c)", b"|a|bc"),
+    (b"a(bc)", b"&a&bc"),
+    (b"!(a|!b)c|d", b"|&!|a!bcd"),
+];
+
 #[test]
 fn trees_by_precedence(rt: HostRuntime) -> Result<(), Fail> {
-    for (text, tree) in [
-        (b"a".as_slice(), b"a".as_slice()),
-        (b"ab", b"&ab"),
-        (b"abc", b"&&abc"),
-        (b"a|b|c", b"||abc"),
-        (b"ab|c", b"|&abc"),
-        (b"a|bc", b"|a&bc"),
-        (b"!ab", b"&!ab"),
-        (b"!!a", b"!!a"),
-        (b"!(ab)", b"!&ab"),
-        (b"a(b|c)", b"&a|bc"),
-        (b"((a))", b"a"),
-        (b"a|(b|c)", b"|a|bc"),
-        (b"a(bc)", b"&a&bc"),
-        (b"!(a|!b)c|d", b"|&!|a!bcd"),
-    ] {
+    for (text, tree) in TREES {
         let tokens = tokens_of(rt.alloc(), text)?;
         let e = parse(rt.alloc(), &tokens)?;
-        assert_eq!(rt; shown(rt.alloc(), &e)?.as_slice(), tree);
+        assert_eq!(rt; shown(rt.alloc(), &e)?.as_slice(), *tree);
     }
     Ok(())
 }
 
+// Lists of tokens, each with its fault.
+const FAULTS: &[(&[u8], ExprFault)] = &[
+    (b"", ExprFault::Empty),
+    (b"a|", ExprFault::Unclosed),
+    (b")", ExprFault::Unexpected(0)),
+    (b"|a", ExprFault::Unexpected(0)),
+    (b"a)", ExprFault::Unexpected(1)),
+    (b"()", ExprFault::Unexpected(1)),
+    (b"!|a", ExprFault::Unexpected(1)),
+    (b"a||b", ExprFault::Unexpected(2)),
+    (b"(a|)", ExprFault::Unexpected(3)),
+    (b"(a))(", ExprFault::Unexpected(3)),
+    (b"(a", ExprFault::Unclosed),
+    (b"a!", ExprFault::Unclosed),
+    (b"a(", ExprFault::Unclosed),
+];
+
 #[test]
 fn faults_at_their_places(rt: HostRuntime) -> Result<(), Fail> {
-    for (text, fault) in [
-        (b"".as_slice(), ExprFault::Empty),
-        (b"a|", ExprFault::Unclosed),
-        (b")", ExprFault::Unexpected(0)),
-        (b"|a", ExprFault::Unexpected(0)),
-        (b"a)", ExprFault::Unexpected(1)),
-        (b"()", ExprFault::Unexpected(1)),
-        (b"!|a", ExprFault::Unexpected(1)),
-        (b"a||b", ExprFault::Unexpected(2)),
-        (b"(a|)", ExprFault::Unexpected(3)),
-        (b"(a))(", ExprFault::Unexpected(3)),
-        (b"(a", ExprFault::Unclosed),
-        (b"a!", ExprFault::Unclosed),
-        (b"a(", ExprFault::Unclosed),
-    ] {
+    for (text, fault) in FAULTS {
         let tokens = tokens_of(rt.alloc(), text)?;
-        match parse(rt.alloc(), &tokens) {
-            Ok(_) => assert!(rt; false, "{fault:?}"),
-            Err(found) => assert_eq!(rt; found, fault),
-        }
+        assert_eq!(rt; fault_of(rt.alloc(), &tokens), Some(*fault));
     }
     Ok(())
 }
 
 #[test]
 fn limits_of_depth_and_length(rt: HostRuntime) -> Result<(), Fail> {
-    let deep = marks_before_a_word(rt.alloc(), Token::Bang, 64)?;
-    assert!(rt; parse(rt.alloc(), &deep).is_ok());
-    let too_deep = marks_before_a_word(rt.alloc(), Token::Bang, 65)?;
-    match parse(rt.alloc(), &too_deep) {
-        Ok(_) => assert!(rt; false),
-        Err(fault) => assert_eq!(rt; fault, ExprFault::TooDeep(64)),
-    }
-    let brackets = marks_before_a_word(rt.alloc(), Token::Left, 65)?;
-    match parse(rt.alloc(), &brackets) {
-        Ok(_) => assert!(rt; false),
-        Err(fault) => assert_eq!(rt; fault, ExprFault::TooDeep(64)),
+    for (mark, count, fault) in [
+        (Token::Bang, 64, None),
+        (Token::Bang, 65, Some(ExprFault::TooDeep(64))),
+        (Token::Left, 65, Some(ExprFault::TooDeep(64))),
+    ] {
+        let tokens = marks_before_a_word(rt.alloc(), mark, count)?;
+        assert_eq!(rt; fault_of(rt.alloc(), &tokens), fault);
     }
     let mut words = vec![in rt.alloc(); token_of(b'a')?; 1_024]?;
-    assert!(rt; parse(rt.alloc(), &words).is_ok());
+    assert_eq!(rt; fault_of(rt.alloc(), &words), None);
     words.push(Token::Right)?;
-    match parse(rt.alloc(), &words) {
-        Ok(_) => assert!(rt; false),
-        Err(fault) => assert_eq!(rt; fault, ExprFault::TooLong),
-    }
+    assert_eq!(rt; fault_of(rt.alloc(), &words), Some(ExprFault::TooLong));
     Ok(())
 }
+
+// Lists of tokens, and whether they hold over the words a and c.
+const TRUTHS: &[(&[u8], bool)] = &[
+    (b"ab", false),
+    (b"ac", true),
+    (b"b|c", true),
+    (b"!b", true),
+    (b"!(ac)", false),
+    (b"a!b", true),
+];
 
 #[test]
 fn truth_over_the_words_of_a_document(rt: HostRuntime) -> Result<(), Fail> {
@@ -144,17 +151,10 @@ fn truth_over_the_words_of_a_document(rt: HostRuntime) -> Result<(), Fail> {
     words.push(Word::new(b"a")?)?;
     words.push(Word::new(b"c")?)?;
     let doc = Doc { id: 1, words };
-    for (text, truth) in [
-        (b"ab".as_slice(), false),
-        (b"ac", true),
-        (b"b|c", true),
-        (b"!b", true),
-        (b"!(ac)", false),
-        (b"a!b", true),
-    ] {
+    for (text, truth) in TRUTHS {
         let tokens = tokens_of(rt.alloc(), text)?;
         let e = parse(rt.alloc(), &tokens)?;
-        assert_eq!(rt; holds(&e, &doc), truth);
+        assert_eq!(rt; holds(&e, &doc), *truth);
     }
     Ok(())
 }

@@ -1,9 +1,10 @@
-use fan_base::Memory;
+use fan_base::{Ids, Memory, Scores};
 use query_text::{
     BadInput, BadKind, Hits, InputFault, Limit, Line, Prio, Reply, error_line, read_input,
     reply_line, write_input,
 };
 use std::alloc::{AllocError, Global};
+use std::process::Abort;
 use std::test::Fail;
 
 /// The error line of a text, or nothing where it is accepted.
@@ -24,62 +25,65 @@ fn repeated(alloc: Global, head: &[u8], piece: &[u8], times: usize) -> Result<Ve
     Ok(text)
 }
 
+// Single lines, each with its fault.
+const FAULTY_LINES: &[(&[u8], &str)] = &[
+    (b"find a\x80", "bad byte"),
+    (b"find a\x00", "bad byte"),
+    (b"find a\t", "bad byte"),
+    (b"top\x7f 1 a", "bad byte"),
+    (b"find a\r\r", "bad byte"),
+    (b"findx a", "unknown command"),
+    (b"find(a)", "unknown command"),
+    (b"after 1 tick 1", "unknown command"),
+    (b"hi lo find a", "unknown command"),
+    (b"lo after 1 find a", "unknown command"),
+    (b"lo tick", "unknown command"),
+    (b"after 1 after 1 find a", "unknown command"),
+    (b"seek", "unknown command"),
+    (b"doc x", "bad number"),
+    (b"doc 4294967296", "bad number"),
+    (b"doc +1 $", "bad number"),
+    (b"tick 0", "bad number"),
+    (b"tick 10000001", "bad number"),
+    (b"tick x 1", "bad number"),
+    (b"cancel 0", "bad number"),
+    (b"cancel 50001", "bad number"),
+    (b"after 0 find a", "bad number"),
+    (b"after 4294967296 find a", "bad number"),
+    (b"top 0 a", "bad number"),
+    (b"top 101 a", "bad number"),
+    (b"lo top x", "bad number"),
+    (b"doc 1 a-b", "bad word"),
+    (b"find a-b", "bad word"),
+    (b"find ) a $", "bad word"),
+    (b"top 1 a!", "bad word"),
+    (b"top 1 |", "bad word"),
+    (b"find aaaaaaaaaaaaaaaaaaaaaaaaaaaaaaaaa", "bad word"),
+    (b"doc", "missing field"),
+    (b"tick", "missing field"),
+    (b"cancel", "missing field"),
+    (b"after", "missing field"),
+    (b"after 1", "missing field"),
+    (b"hi", "missing field"),
+    (b"after 1 hi", "missing field"),
+    (b"top", "missing field"),
+    (b"top 1", "missing field"),
+    (b"LO TOP 100", "missing field"),
+    (b"tick 1 2", "extra field"),
+    (b"cancel 1 x", "extra field"),
+    (b"find", "bad expression"),
+    (b"count", "bad expression"),
+    (b"exists", "bad expression"),
+    (b"find )", "bad expression"),
+    (b"find a |", "bad expression"),
+    (b"find (a", "bad expression"),
+    (b"find (a | b", "bad expression"),
+    (b"find ()", "bad expression"),
+];
+
 #[test]
 fn each_line_has_its_fault(rt: HostRuntime) -> Result<(), Fail> {
-    for (line, text) in [
-        (b"find a\x80".as_slice(), "bad byte"),
-        (b"find a\x00", "bad byte"),
-        (b"find a\t", "bad byte"),
-        (b"top\x7f 1 a", "bad byte"),
-        (b"find a\r\r", "bad byte"),
-        (b"findx a", "unknown command"),
-        (b"find(a)", "unknown command"),
-        (b"after 1 tick 1", "unknown command"),
-        (b"hi lo find a", "unknown command"),
-        (b"lo after 1 find a", "unknown command"),
-        (b"lo tick", "unknown command"),
-        (b"after 1 after 1 find a", "unknown command"),
-        (b"seek", "unknown command"),
-        (b"doc x", "bad number"),
-        (b"doc 4294967296", "bad number"),
-        (b"doc +1 $", "bad number"),
-        (b"tick 0", "bad number"),
-        (b"tick 10000001", "bad number"),
-        (b"tick x 1", "bad number"),
-        (b"cancel 0", "bad number"),
-        (b"cancel 50001", "bad number"),
-        (b"after 0 find a", "bad number"),
-        (b"after 4294967296 find a", "bad number"),
-        (b"top 0 a", "bad number"),
-        (b"top 101 a", "bad number"),
-        (b"lo top x", "bad number"),
-        (b"doc 1 a-b", "bad word"),
-        (b"find a-b", "bad word"),
-        (b"find ) a $", "bad word"),
-        (b"top 1 a!", "bad word"),
-        (b"top 1 |", "bad word"),
-        (b"find aaaaaaaaaaaaaaaaaaaaaaaaaaaaaaaaa", "bad word"),
-        (b"doc", "missing field"),
-        (b"tick", "missing field"),
-        (b"cancel", "missing field"),
-        (b"after", "missing field"),
-        (b"after 1", "missing field"),
-        (b"hi", "missing field"),
-        (b"after 1 hi", "missing field"),
-        (b"top", "missing field"),
-        (b"top 1", "missing field"),
-        (b"LO TOP 100", "missing field"),
-        (b"tick 1 2", "extra field"),
-        (b"cancel 1 x", "extra field"),
-        (b"find", "bad expression"),
-        (b"count", "bad expression"),
-        (b"exists", "bad expression"),
-        (b"find )", "bad expression"),
-        (b"find a |", "bad expression"),
-        (b"find (a", "bad expression"),
-        (b"find (a | b", "bad expression"),
-        (b"find ()", "bad expression"),
-    ] {
+    for (line, text) in FAULTY_LINES {
         let wanted = format!(in rt.alloc(); "error line 1: {text}\n")?;
         let found = error_of(rt.alloc(), line)?;
         assert_eq!(rt; found.as_slice(), wanted.as_bytes(), "{text}");
@@ -87,33 +91,31 @@ fn each_line_has_its_fault(rt: HostRuntime) -> Result<(), Fail> {
     Ok(())
 }
 
+// Lines of a head and so many of a piece, each with its fault, if it has one.
+const LONG_LINES: &[(&[u8], &[u8], usize, &str)] = &[
+    (b"doc 1", b" a", 1_001, "error line 1: too many words\n"),
+    (b"doc 1", b" a", 1_000, ""),
+    (b"doc 1 $", b" a", 1_000, "error line 1: bad word\n"),
+    (b"top 1", b" a", 1_001, "error line 1: too many words\n"),
+    (b"top 1", b" a", 1_000, ""),
+    (b"find", b" a", 1_025, "error line 1: expression too long\n"),
+    (b"find", b" a", 1_026, "error line 1: expression too long\n"),
+    (b"find", b" )", 1_025, "error line 1: expression too long\n"),
+    (b"find", b" a", 1_024, ""),
+    (
+        b"find a\nfind a",
+        b"!",
+        64,
+        "error line 2: bad expression\n",
+    ),
+    (b"find ", b"!", 65, "error line 1: expression too deep\n"),
+    (b"find ", b"(", 64, "error line 1: bad expression\n"),
+];
+
 #[test]
 fn limits_of_a_line(rt: HostRuntime) -> Result<(), Fail> {
-    for (head, piece, times, text) in [
-        (
-            b"doc 1".as_slice(),
-            b" a".as_slice(),
-            1_001,
-            "error line 1: too many words\n",
-        ),
-        (b"doc 1", b" a", 1_000, ""),
-        (b"doc 1 $", b" a", 1_000, "error line 1: bad word\n"),
-        (b"top 1", b" a", 1_001, "error line 1: too many words\n"),
-        (b"top 1", b" a", 1_000, ""),
-        (b"find", b" a", 1_025, "error line 1: expression too long\n"),
-        (b"find", b" a", 1_026, "error line 1: expression too long\n"),
-        (b"find", b" )", 1_025, "error line 1: expression too long\n"),
-        (b"find", b" a", 1_024, ""),
-        (
-            b"find a\nfind a",
-            b"!",
-            64,
-            "error line 2: bad expression\n",
-        ),
-        (b"find ", b"!", 65, "error line 1: expression too deep\n"),
-        (b"find ", b"(", 64, "error line 1: bad expression\n"),
-    ] {
-        let line = repeated(rt.alloc(), head, piece, times)?;
+    for (head, piece, times, text) in LONG_LINES {
+        let line = repeated(rt.alloc(), head, piece, *times)?;
         let found = error_of(rt.alloc(), line.as_slice())?;
         assert_eq!(rt; found.as_slice(), text.as_bytes(), "{text}");
     }
@@ -126,32 +128,35 @@ fn limits_of_a_line(rt: HostRuntime) -> Result<(), Fail> {
     Ok(())
 }
 
+// Files, each with its first fault, if it has one.
+const FILES: &[(&[u8], &str)] = &[
+    (b"", ""),
+    (b"\n\r\n   \n# \xff\n  #\nfind a\n\r", ""),
+    (b"doc 4 x\ndoc 04 y\n", "error line 2: duplicate document\n"),
+    (b"count a\ndoc 1 a\n", ""),
+    (
+        b"doc 1 a\nfind a\ndoc 01 b\n",
+        "error line 3: duplicate document\n",
+    ),
+    (b"find a\n\ndoc\n", "error line 3: missing field\n"),
+    (b"find A\ndoc x\nfind )\n", "error line 2: bad number\n"),
+    (b"tick 10000000\ntick 1\n", "error line 2: too many ticks\n"),
+    // What comes first of two faults in a line.
+    (b"doc 1 a\ndoc 1 a-b\n", "error line 2: bad word\n"),
+    (b"tick 10000000\ntick 0\n", "error line 2: bad number\n"),
+    (b"tick 10000000\ntick 1 1\n", "error line 2: extra field\n"),
+    (b"tick 9999999\ncancel 7\ntick 1\n", ""),
+    (b"find red\nfind (re", "error line 2: bad expression\n"),
+    (b"doc 5 a\nhi exists a\nlo exists b\n", ""),
+    (
+        b"doc 4294967295 a\nafter 4294967295 top 100 a\ncancel 50000\ntick 10000000\nfind aaaaaaaaaaaaaaaaaaaaaaaaaaaaaaaa\n",
+        "",
+    ),
+];
+
 #[test]
 fn first_fault_of_a_file(rt: HostRuntime) -> Result<(), Fail> {
-    for (text, wanted) in [
-        (b"".as_slice(), ""),
-        (b"\n\r\n   \n# \xff\n  #\nfind a\n\r", ""),
-        (b"doc 4 x\ndoc 04 y\n", "error line 2: duplicate document\n"),
-        (b"count a\ndoc 1 a\n", ""),
-        (
-            b"doc 1 a\nfind a\ndoc 01 b\n",
-            "error line 3: duplicate document\n",
-        ),
-        (b"find a\n\ndoc\n", "error line 3: missing field\n"),
-        (b"find A\ndoc x\nfind )\n", "error line 2: bad number\n"),
-        (b"tick 10000000\ntick 1\n", "error line 2: too many ticks\n"),
-        // What comes first of two faults in a line.
-        (b"doc 1 a\ndoc 1 a-b\n", "error line 2: bad word\n"),
-        (b"tick 10000000\ntick 0\n", "error line 2: bad number\n"),
-        (b"tick 10000000\ntick 1 1\n", "error line 2: extra field\n"),
-        (b"tick 9999999\ncancel 7\ntick 1\n", ""),
-        (b"find red\nfind (re", "error line 2: bad expression\n"),
-        (b"doc 5 a\nhi exists a\nlo exists b\n", ""),
-        (
-            b"doc 4294967295 a\nafter 4294967295 top 100 a\ncancel 50000\ntick 10000000\nfind aaaaaaaaaaaaaaaaaaaaaaaaaaaaaaaa\n",
-            "",
-        ),
-    ] {
+    for (text, wanted) in FILES {
         let found = error_of(rt.alloc(), text)?;
         assert_eq!(rt; found.as_slice(), wanted.as_bytes(), "{wanted}");
     }
@@ -240,22 +245,25 @@ fn as_many_documents_as_there_may_be(rt: HostRuntime) -> Result<(), Fail> {
     Ok(())
 }
 
+// Texts, each with its canonical one.
+const TEXTS: &[(&[u8], &str)] = &[
+    (
+        b"DOC 04 B  a\nafter 7 mid find ((a|b) c)\nLO top 03 a\n",
+        "doc 4 b a\nafter 7 find (a | b) c\nlo top 3 a\n",
+    ),
+    (
+        b"# note\n\ndoc 7\r\nTICK 0001\ncancel 02\nhi  count !(!a)|b\n",
+        "doc 7\ntick 1\ncancel 2\nhi count !!a | b\n",
+    ),
+    (
+        b"exists (a (b c)) !(d|(e|f))\nfind (((a|b)))|((c d) e)",
+        "exists a (b c) !(d | (e | f))\nfind a | b | c d e\n",
+    ),
+];
+
 #[test]
 fn canonical_texts(rt: HostRuntime) -> Result<(), Fail> {
-    for (text, wanted) in [
-        (
-            b"DOC 04 B  a\nafter 7 mid find ((a|b) c)\nLO top 03 a\n".as_slice(),
-            "doc 4 b a\nafter 7 find (a | b) c\nlo top 3 a\n",
-        ),
-        (
-            b"# note\n\ndoc 7\r\nTICK 0001\ncancel 02\nhi  count !(!a)|b\n",
-            "doc 7\ntick 1\ncancel 2\nhi count !!a | b\n",
-        ),
-        (
-            b"exists (a (b c)) !(d|(e|f))\nfind (((a|b)))|((c d) e)",
-            "exists a (b c) !(d | (e | f))\nfind a | b | c d e\n",
-        ),
-    ] {
+    for (text, wanted) in TEXTS {
         match read_input(rt.alloc(), text, 4) {
             Ok(input) => {
                 let written = write_input(rt.alloc(), &input)?;
@@ -267,38 +275,49 @@ fn canonical_texts(rt: HostRuntime) -> Result<(), Fail> {
     Ok(())
 }
 
-#[test]
-fn lines_of_replies(rt: HostRuntime) -> Result<(), Fail> {
-    let alloc = rt.alloc();
-    let mut ids = fan_base::Ids::new(alloc);
-    ids.push(4)?;
-    ids.push(7)?;
-    let mut scores = fan_base::Scores::new(alloc);
-    scores.push((103, 2))?;
-    scores.push((101, 1))?;
-    for (number, reply, wanted) in [
-        (1, Reply::Find(Hits { ids, total: 2 }), "1 find 2: 4 7\n"),
-        (
-            2,
-            Reply::Find(Hits {
-                ids: fan_base::Ids::new(alloc),
-                total: 0,
-            }),
-            "2 find 0:\n",
-        ),
-        (
-            3,
-            Reply::Count(18_446_744_073_709_551_615),
-            "3 count 18446744073709551615\n",
-        ),
-        (4, Reply::Present(true), "4 exists yes\n"),
-        (5, Reply::Present(false), "5 exists no\n"),
-        (6, Reply::Top(scores), "6 top 2: 103=2 101=1\n"),
-        (7, Reply::Top(fan_base::Scores::new(alloc)), "7 top 0:\n"),
-        (50_000, Reply::Cancelled, "50000 cancelled\n"),
-    ] {
-        let line = reply_line(alloc, number, &reply)?;
-        assert_eq!(rt; line.as_slice(), wanted.as_bytes());
+// These ids are all that was found.
+fn found(rt: &impl Abort, alloc: Global, ids: &[u32]) -> Reply {
+    let mut list = Ids::new(alloc);
+    for id in ids {
+        list.push(*id).expect(rt, "memory");
     }
-    Ok(())
+    Reply::Find(Hits {
+        ids: list,
+        total: ids.len() as u64,
+    })
+}
+
+fn ranked(rt: &impl Abort, alloc: Global, scores: &[(u32, u64)]) -> Reply {
+    let mut list = Scores::new(alloc);
+    for score in scores {
+        list.push(*score).expect(rt, "memory");
+    }
+    Reply::Top(list)
+}
+
+fn expect_line(rt: &impl Abort, alloc: Global, number: u64, reply: Reply, wanted: &str) {
+    let line = reply_line(alloc, number, &reply).expect(rt, "memory");
+    assert_eq!(rt; line.as_slice(), wanted.as_bytes());
+}
+
+#[test]
+fn lines_of_replies(rt: HostRuntime) {
+    let alloc = rt.alloc();
+    for (number, ids, wanted) in [
+        (1, [4, 7].as_slice(), "1 find 2: 4 7\n"),
+        (2, &[], "2 find 0:\n"),
+    ] {
+        expect_line(&rt, alloc, number, found(&rt, alloc, ids), wanted);
+    }
+    let most = Reply::Count(18_446_744_073_709_551_615);
+    expect_line(&rt, alloc, 3, most, "3 count 18446744073709551615\n");
+    expect_line(&rt, alloc, 4, Reply::Present(true), "4 exists yes\n");
+    expect_line(&rt, alloc, 5, Reply::Present(false), "5 exists no\n");
+    for (number, scores, wanted) in [
+        (6, [(103, 2), (101, 1)].as_slice(), "6 top 2: 103=2 101=1\n"),
+        (7, &[], "7 top 0:\n"),
+    ] {
+        expect_line(&rt, alloc, number, ranked(&rt, alloc, scores), wanted);
+    }
+    expect_line(&rt, alloc, 50_000, Reply::Cancelled, "50000 cancelled\n");
 }

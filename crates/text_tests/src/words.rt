@@ -16,7 +16,11 @@ fn read(alloc: Global, line: &str) -> Result<Option<Command>, Fail> {
     Ok(read_command(words.as_slice()))
 }
 
-fn settings(workers: u32, bases: u32, shards: u32, stop_at: Option<u64>) -> Settings {
+// Workers, bases and shards.
+type Numbers = (u32, u32, u32);
+
+fn settings(numbers: Numbers, stop_at: Option<u64>) -> Settings {
+    let (workers, bases, shards) = numbers;
     Settings {
         workers,
         bases,
@@ -25,89 +29,75 @@ fn settings(workers: u32, bases: u32, shards: u32, stop_at: Option<u64>) -> Sett
     }
 }
 
-fn run(workers: u32, bases: u32, shards: u32, stop_at: Option<u64>) -> Command {
-    Command::Run(settings(workers, bases, shards, stop_at))
-}
+// `run`, each with its settings.
+const RUNS: &[(&str, Numbers, Option<u64>)] = &[
+    ("run", (4, 2, 4), None),
+    ("run --workers=2", (2, 2, 4), None),
+    ("run --shards 64", (4, 2, 64), None),
+    ("run --shards 8 --workers 1 --stop-at 1", (1, 2, 8), Some(1)),
+    (
+        "run --workers 32 --bases 8 --shards 64 --stop-at 4294967295",
+        (32, 8, 64),
+        Some(4_294_967_295),
+    ),
+    (
+        "run --stop-at=0 --shards=1 --bases=1 --workers=1",
+        (1, 1, 1),
+        Some(0),
+    ),
+    ("run --workers=0032", (32, 2, 4), None),
+    (
+        "run --bases 0000000000000000000000000000000000000003",
+        (4, 3, 4),
+        None,
+    ),
+    ("run --", (4, 2, 4), None),
+    ("run --workers 2 --", (2, 2, 4), None),
+];
 
-fn generate(seed: u64, docs: u32, queries: u32, settings: Settings) -> Command {
-    Command::Generate(
-        Generation {
-            seed,
-            docs,
-            queries,
-        },
-        settings,
-    )
-}
+const DEFAULTS: Numbers = (4, 2, 4);
 
-const DEFAULTS: Settings = Settings {
-    workers: 4,
-    bases: 2,
-    shards: 4,
-    stop_at: None,
-};
+// `gen`, each with its seed, documents and queries, and its settings.
+const GENERATIONS: &[(&str, (u64, u32, u32), Numbers, Option<u64>)] = &[
+    ("gen -- 5 0 0", (5, 0, 0), DEFAULTS, None),
+    ("gen 5 0 0", (5, 0, 0), DEFAULTS, None),
+    ("gen 5 -- 0 0", (5, 0, 0), DEFAULTS, None),
+    ("gen 5 0 0 --", (5, 0, 0), DEFAULTS, None),
+    ("gen 1 2 3", (1, 2, 3), DEFAULTS, None),
+    (
+        "gen --workers 2 1 2 3 --bases=3",
+        (1, 2, 3),
+        (2, 3, 4),
+        None,
+    ),
+    (
+        "gen 1 --workers 2 2 --stop-at=7 3",
+        (1, 2, 3),
+        (2, 2, 4),
+        Some(7),
+    ),
+    ("gen --shards 5 1 -- 2 3", (1, 2, 3), (4, 2, 5), None),
+    (
+        "gen 42 2000 500 --shards 16 --workers 8 --bases 4",
+        (42, 2_000, 500),
+        (8, 4, 16),
+        None,
+    ),
+    (
+        "gen 18446744073709551615 20000 4096",
+        (18_446_744_073_709_551_615, 20_000, 4_096),
+        DEFAULTS,
+        None,
+    ),
+    (
+        "gen 00000000000018446744073709551615 020000 0004096",
+        (18_446_744_073_709_551_615, 20_000, 4_096),
+        DEFAULTS,
+        None,
+    ),
+];
 
-const GREATEST: &str = "gen 18446744073709551615 20000 4096";
-
-const GREATEST_WITH_ZEROS: &str = "gen 00000000000018446744073709551615 020000 0004096";
-
-fn commands() -> [(&'static str, Command); 21] {
-    [
-        ("run", run(4, 2, 4, None)),
-        ("run --workers=2", run(2, 2, 4, None)),
-        ("run --shards 64", run(4, 2, 64, None)),
-        (
-            "run --shards 8 --workers 1 --stop-at 1",
-            run(1, 2, 8, Some(1)),
-        ),
-        (
-            "run --workers 32 --bases 8 --shards 64 --stop-at 4294967295",
-            run(32, 8, 64, Some(4_294_967_295)),
-        ),
-        (
-            "run --stop-at=0 --shards=1 --bases=1 --workers=1",
-            run(1, 1, 1, Some(0)),
-        ),
-        ("run --workers=0032", run(32, 2, 4, None)),
-        (
-            "run --bases 0000000000000000000000000000000000000003",
-            run(4, 3, 4, None),
-        ),
-        ("run --", run(4, 2, 4, None)),
-        ("run --workers 2 --", run(2, 2, 4, None)),
-        ("gen -- 5 0 0", generate(5, 0, 0, DEFAULTS)),
-        ("gen 5 0 0", generate(5, 0, 0, DEFAULTS)),
-        ("gen 5 -- 0 0", generate(5, 0, 0, DEFAULTS)),
-        ("gen 5 0 0 --", generate(5, 0, 0, DEFAULTS)),
-        ("gen 1 2 3", generate(1, 2, 3, DEFAULTS)),
-        (
-            "gen --workers 2 1 2 3 --bases=3",
-            generate(1, 2, 3, settings(2, 3, 4, None)),
-        ),
-        (
-            "gen 1 --workers 2 2 --stop-at=7 3",
-            generate(1, 2, 3, settings(2, 2, 4, Some(7))),
-        ),
-        (
-            "gen --shards 5 1 -- 2 3",
-            generate(1, 2, 3, settings(4, 2, 5, None)),
-        ),
-        (
-            "gen 42 2000 500 --shards 16 --workers 8 --bases 4",
-            generate(42, 2000, 500, settings(8, 4, 16, None)),
-        ),
-        (
-            GREATEST,
-            generate(18_446_744_073_709_551_615, 20_000, 4_096, DEFAULTS),
-        ),
-        (
-            GREATEST_WITH_ZEROS,
-            generate(18_446_744_073_709_551_615, 20_000, 4_096, DEFAULTS),
-        ),
-    ]
-}
-
-const REFUSED: [&str; 64] = [
+const REFUSED: &[&str] = &[
     "",
     "run x",
     "run --workers 0",
@@ -183,7 +173,17 @@ const REFUSED: [&str; 64] = [
 
 #[test]
 fn commands_are_read(rt: HostRuntime) -> Result<(), Fail> {
-    for (line, command) in commands() {
+    for (line, numbers, stop_at) in RUNS {
+        let command = Command::Run(settings(*numbers, *stop_at));
+        assert_eq!(rt; read(rt.alloc(), line)?, Some(command), "at {line}");
+    }
+    for (line, (seed, docs, queries), numbers, stop_at) in GENERATIONS {
+        let generation = Generation {
+            seed: *seed,
+            docs: *docs,
+            queries: *queries,
+        };
+        let command = Command::Generate(generation, settings(*numbers, *stop_at));
         assert_eq!(rt; read(rt.alloc(), line)?, Some(command), "at {line}");
     }
     Ok(())
