@@ -77,7 +77,31 @@ fn fulfilled<R: Wait>(
     seen.landed(rt, alloc, landed);
 }
 
-// Gives the first core the callback 7, or gives it up, if that wasn't done before.
+// Gives a core the callback 7, or gives it up.
+fn consumed<R: Wait, P: Proxy<u64, u64>>(
+    seen: &mut Seen,
+    rt: &R,
+    alloc: Global,
+    consumer: Consumer<'_, u64, u64, P>,
+    way: Way,
+) {
+    match way {
+        Way::Give => {
+            let landed = consumer.give(7, &mut seen.tally);
+            seen.landed(rt, alloc, landed);
+        }
+        Way::GiveInline => {
+            let landed = consumer.give_inline(7, &mut seen.tally);
+            seen.landed(rt, alloc, landed);
+        }
+        Way::GiveUp => {
+            let left_over = Taker::give_up(consumer, &mut seen.tally);
+            seen.left_over(left_over);
+        }
+    }
+}
+
+// The same with the first core, if that wasn't done before.
 fn taken<R: Wait>(
     seen: &mut Seen,
     rt: &R,
@@ -87,22 +111,8 @@ fn taken<R: Wait>(
 )
     ensures { first.new ≡ None }
 {
-    let Some(first) = first.take() else {
-        return;
-    };
-    match way {
-        Way::Give => {
-            let landed = first.give(7, &mut seen.tally);
-            seen.landed(rt, alloc, landed);
-        }
-        Way::GiveInline => {
-            let landed = first.give_inline(7, &mut seen.tally);
-            seen.landed(rt, alloc, landed);
-        }
-        Way::GiveUp => {
-            let left_over = Taker::give_up(first, &mut seen.tally);
-            seen.left_over(left_over);
-        }
+    if let Some(first) = first.take() {
+        consumed(seen, rt, alloc, first, way);
     }
 }
 

@@ -313,8 +313,7 @@ fn named<'a, 'b, 'i, R: Wait>(
         Ok(inner) => {
             let (next, after) = future.then(second, 2, Name(inner), &mut seen.tally);
             seen.after(rt, alloc, after);
-            let after = next.on(7, &mut seen.tally);
-            seen.after(rt, alloc, after);
+            seen.set_callback(rt, alloc, next);
         }
     }
     let after = to.fulfil(Try::Value(1));
@@ -366,10 +365,8 @@ fn passed_on<'o, 'i, R: Wait>(
 ) -> u64 {
     let (to, future) = promise(outer, 1, ExecId(3), &mut seen.tally);
     let (later, inner) = promise(inner, 2, ExecId(3), &mut seen.tally);
-    let after = future.on_inline(7, &mut seen.tally);
-    seen.after(rt, alloc, after);
-    let after = to.proxy(inner.into_consumer(), &mut seen.tally);
-    seen.after(rt, alloc, after);
+    seen.set_callback_inline(rt, alloc, future);
+    seen.set_proxy(rt, alloc, to, inner.into_consumer());
     let fires = seen.fires;
     let after = later.fulfil(Try::Value(8));
     seen.after(rt, alloc, after);

@@ -6,7 +6,7 @@ use core_word::{Fire, Home, Landed, Left, Leftover, Tally, Unspent};
 use fan_base::{ExecId, Refused, Try};
 use job_steps::Cont;
 use job_trait::{Executor, ManualExecutor};
-use promise_api::{After, Chain, ChainJob, Landing};
+use promise_api::{After, Chain, ChainJob, Future, Landing, Promise};
 use std::alloc::Global;
 use std::mem;
 use std::sync::Wait;
@@ -55,17 +55,34 @@ impl Seen {
     }
 
     pub(crate) fn add(&mut self, other: Seen) {
-        self.fires = self.fires.saturating_add(other.fires);
-        self.left_over = self.left_over.saturating_add(other.left_over);
-        self.refused = self.refused.saturating_add(other.refused);
-        if other.end.is_some() {
-            self.end = other.end;
-            self.exec = other.exec;
+        let Seen {
+            fires,
+            end,
+            exec,
+            unclaimed,
+            left_over,
+            refused,
+            tally,
+        } = other;
+        self.fires = self.fires.saturating_add(fires);
+        self.left_over = self.left_over.saturating_add(left_over);
+        self.refused = self.refused.saturating_add(refused);
+        self.ended(end, exec);
+        self.unclaimed(unclaimed);
+        self.counted(tally);
+    }
+
+    fn ended(&mut self, end: Option<End>, exec: ExecId) {
+        if end.is_some() {
+            self.end = end;
+            self.exec = exec;
         }
-        if other.unclaimed.is_some() {
-            self.unclaimed = other.unclaimed;
+    }
+
+    fn unclaimed(&mut self, outcome: Option<Try<u64>>) {
+        if outcome.is_some() {
+            self.unclaimed = outcome;
         }
-        self.counted(other.tally);
     }
 
     pub(crate) fn refuse(&mut self) {
@@ -87,6 +104,41 @@ impl Seen {
     pub(crate) fn left<C, P: Proxy<u64, C>>(&mut self, left: Left<'_, u64, C, P>) {
         let left_over = settle(left, &mut self.tally);
         self.left_over(left_over);
+    }
+
+    // Sets the callback 7 by a future, and follows what that comes to. (This, and the next two, for any proxy: a call is dear to
+    // prove where the proxy is another core's consumer.)
+    pub(crate) fn set_callback<R: Wait, P: Proxy<u64, u64>>(
+        &mut self,
+        rt: &R,
+        alloc: Global,
+        future: Future<'_, u64, u64, P>,
+    ) {
+        let after = future.on(7, &mut self.tally);
+        self.after(rt, alloc, after);
+    }
+
+    // The same with the allowance to run inline.
+    pub(crate) fn set_callback_inline<R: Wait, P: Proxy<u64, u64>>(
+        &mut self,
+        rt: &R,
+        alloc: Global,
+        future: Future<'_, u64, u64, P>,
+    ) {
+        let after = future.on_inline(7, &mut self.tally);
+        self.after(rt, alloc, after);
+    }
+
+    // Keeps a promise by a proxy, and follows what that comes to.
+    pub(crate) fn set_proxy<R: Wait, P: Proxy<u64, u64>>(
+        &mut self,
+        rt: &R,
+        alloc: Global,
+        to: Promise<'_, u64, u64, P>,
+        proxy: P,
+    ) {
+        let after = to.proxy(proxy, &mut self.tally);
+        self.after(rt, alloc, after);
     }
 
     // Follows what an act came to.
