@@ -20,7 +20,7 @@ mod queue;
 mod threads;
 
 // It notes its id in the world, and is done with its number.
-#[derive(Clone, Copy, Debug, PartialEq, Eq)]
+#[derive(Clone, Copy)]
 struct Note(Head);
 
 impl Headed for Note {
@@ -81,15 +81,15 @@ fn each_priority_has_its_queue(rt: HostRuntime) {
     ];
     for (queues, expected) in rows {
         if 0 < queues && queues <= 256 {
-            assert_eq!(rt;
-                priorities.map(|priority| queue_for(queues, priority)),
-                expected
-            );
+            for index in 0..5 {
+                assert_eq!(rt; queue_for(queues, priorities[index]), expected[index]);
+            }
         }
     }
 }
 
-// Adds a task, for which there has to be memory. One that is refused comes back, and is taken apart.
+// Adds a task, for which there has to be memory, and which gets the ticket of the one adder with this index. One that is refused comes
+// back, and is taken apart.
 fn add<J: Numbered, R: Abort + Wait>(
     rt: &R,
     pool: &Pool<J>,
@@ -97,7 +97,8 @@ fn add<J: Numbered, R: Abort + Wait>(
     pass: &mut PoolPass<J>,
     priority: i8,
     id: u64,
-) -> (u32, u64)
+    index: u64,
+)
     requires keep { keep.now.count ≡ pool.now.count }
     requires pass { pass.old.pool ≡ pool.now.id }
     requires exec { pool.now.exec.0 ≡ 7 }
@@ -106,7 +107,7 @@ fn add<J: Numbered, R: Abort + Wait>(
     ensures one { length (adds_of pass.new) ≡ length (adds_of pass.old) + 1 }
 {
     match pool.add(rt, keep, pass, priority, J::of(id)) {
-        Ok(ticket) => (ticket.adder, ticket.index),
+        Ok(ticket) => assert_eq!(rt; (ticket.adder, ticket.index), (0, index)),
         Err(Refused::Memory(job)) => {
             assert_eq!(rt; job.taken_apart(), id);
             rt.panic("memory")
@@ -130,7 +131,25 @@ fn add_rows<J: Numbered, R: Abort + Wait>(
 {
     for index in 0..rows.len() {
         let (priority, id) = rows[index];
-        assert_eq!(rt; add(rt, pool, keep, pass, priority, id), (0, index as u64));
+        add(rt, pool, keep, pass, priority, id, index as u64);
+    }
+}
+
+// Adds a thousand tasks, half of them to the middle queue and half to the highest.
+fn add_thousand<J: Numbered, R: Abort + Wait>(
+    rt: &R,
+    pool: &Pool<J>,
+    keep: &KeepAlive,
+    pass: &mut PoolPass<J>,
+)
+    requires keep { keep.now.count ≡ pool.now.count }
+    requires pass { (pass.old.pool ≡ pool.now.id) × (adds_of pass.old ≡ []) }
+    requires exec { pool.now.exec.0 ≡ 7 }
+    ensures { pass.new.pool ≡ pass.old.pool }
+{
+    for id in 0..1000 {
+        let priority = if id % 2 == 0 { 0 } else { 127 };
+        add(rt, pool, keep, pass, priority, id, id);
     }
 }
 
@@ -216,48 +235,87 @@ fn work_at<J: Job<Vec<u64>>, R: Abort + Wait>(
     rt: &R,
     alloc: Global,
     pool: &Pool<J>,
-    pass: WorkerPass<J>,
+    workers: Vec<WorkerPass<J>>,
     world: &mut Vec<u64>,
 ) -> Vec<WorkerEnd<J>>
-    requires pass { pass.pool ≡ pool.now.id }
-    requires one { pool.now.workers ≡ 1 }
+    requires workers { All (λ w. w.pool ≡ pool.now.id) workers.items }
+    requires one { (length workers.items ≡ 1) × (pool.now.workers ≡ 1) }
     ensures { AreAllEnds pool.now.id pool.now.workers result.items }
 {
-    let end = pool.work(rt, pass, world, &OpenGate);
+    let end = pool.work(rt, only_worker(rt, pool, workers), world, &OpenGate);
     all_ends(rt, alloc, pool, end)
 }
 
-// Joins a pool that has no helpers.
-fn end_join<J: Job<Vec<u64>>, R: Wait>(
+// What is left of a pool that is joined: the records of all of its tasks, which are so many, and nothing that is handed back.
+fn all_ran<J: Numbered, R: Abort>(rt: &R, end: PoolEnd<J>, tasks: u64) -> Runs {
+    let PoolEnd {
+        accepted,
+        ran,
+        mut returned,
+    } = end;
+    assert_eq!(rt;
+        (accepted, ran.len() as u64, ran.stopped(), returned.len()),
+        (tasks, tasks, false, 0)
+    );
+    assert!(rt; next_back(&mut returned).is_none());
+    ran
+}
+
+// Joins a pool that has no helpers, and has accepted so many tasks.
+fn end_join<J: Numbered, R: Abort + Wait>(
     rt: &R,
     alloc: Global,
     pool: Pool<J>,
     joining: Joining<J>,
     ends: Vec<WorkerEnd<J>>,
     world: &mut Vec<u64>,
-) -> PoolEnd<J>
+    tasks: u64,
+) -> Runs
     requires pool { joining.pool ≡ pool.id }
     requires passes { AreAllPasses pool.id pool.adders joining.passes }
     requires ends { AreAllEnds pool.id pool.workers ends.items }
     requires helpers { pool.helpers ≡ 0 }
 {
-    pool.join(rt, joining, ends, Vec::new(alloc), world)
+    all_ran(
+        rt,
+        pool.join(rt, joining, ends, Vec::new(alloc), world),
+        tasks,
+    )
 }
 
-// Stops a pool that has no helpers.
-fn end_stop<J: Headed, R: Wait>(
+// What is left of a pool that is stopped: so many records, and the other tasks, which are handed back.
+fn some_ran<J: Headed, R: Abort>(rt: &R, end: PoolEnd<J>, tasks: usize) -> (Runs, Returned<J>) {
+    let PoolEnd {
+        accepted,
+        ran,
+        returned,
+    } = end;
+    assert_eq!(rt;
+        (
+            accepted,
+            ran.stopped(),
+            ran.len().saturating_add(returned.len())
+        ),
+        (tasks as u64, true, tasks)
+    );
+    (ran, returned)
+}
+
+// Stops a pool that has no helpers, and has accepted so many tasks.
+fn end_stop<J: Headed, R: Abort + Wait>(
     rt: &R,
     alloc: Global,
     pool: Pool<J>,
     stopping: Stopping<J>,
     ends: Vec<WorkerEnd<J>>,
-) -> PoolEnd<J>
+    tasks: usize,
+) -> (Runs, Returned<J>)
     requires pool { stopping.pool ≡ pool.id }
     requires passes { AreAllPasses pool.id pool.adders stopping.passes }
     requires ends { AreAllEnds pool.id pool.workers ends.items }
     requires helpers { pool.helpers ≡ 0 }
 {
-    pool.stop(rt, stopping, ends, Vec::new(alloc))
+    some_ran(rt, pool.stop(rt, stopping, ends, Vec::new(alloc)), tasks)
 }
 
 // The ids of the records, in order, and how many there are.
@@ -292,34 +350,40 @@ fn only_pass<J: Headed, R: Abort>(rt: &R, pool: &Pool<J>, adders: Vec<PoolPass<J
     only_of(rt, adders)
 }
 
-// The one helper's pass of a new pool with one worker and one helper.
-fn only_helper<J: Headed, R: Abort>(
+// The workers' passes of a new pool, which are so many.
+fn workers_of<J: Headed, R: Abort>(
     rt: &R,
-    pool: &Pool<J>,
-    helpers: Vec<HelperPass<J>>,
-) -> HelperPass<J>
-    requires { helpers.items ≡ new_ends pool.now.id 1 1 }
-    ensures { result.pool ≡ pool.now.id }
-{
-    let _ = pool;
-    new_passes_are_unused();
-    only_of(rt, helpers)
-}
-
-// The workers' passes of a new pool.
-fn workers_of<J: Headed>(
     pool: &Pool<J>,
     workers: Vec<WorkerPass<J>>,
     count: u32,
 ) -> Vec<WorkerPass<J>>
     requires { workers.items ≡ new_workers pool.now.id 0 count }
-    ensures all { All (λ w. w.pool ≡ pool.now.id) workers.items }
-    ensures same { result ≡ workers }
+    ensures all { All (λ w. w.pool ≡ pool.now.id) result.items }
+    ensures count { length result.items ≡ count }
 {
     let _ = pool;
-    let _ = count;
     new_passes_are_unused();
+    assert!(rt; workers.len() == count as usize);
     workers
+}
+
+// The helpers' passes of a new pool with so many workers, which are so many.
+fn helpers_of<J: Headed, R: Abort>(
+    rt: &R,
+    pool: &Pool<J>,
+    helpers: Vec<HelperPass<J>>,
+    workers: u32,
+    count: u32,
+) -> Vec<HelperPass<J>>
+    requires { helpers.items ≡ new_ends pool.now.id workers count }
+    ensures all { All (λ h. h.pool ≡ pool.now.id) result.items }
+    ensures count { length result.items ≡ count }
+{
+    let _ = pool;
+    let _ = workers;
+    new_passes_are_unused();
+    assert!(rt; helpers.len() == count as usize);
+    helpers
 }
 
 // The last of the workers' passes.
@@ -341,40 +405,77 @@ fn next_worker<J: Headed, R: Abort>(
     rt.panic("a pass")
 }
 
-// A pool of three queues, one adder and one worker.
-struct Opened<J: Headed> {
-    pool: Pool<J>,
+// The one worker's pass.
+fn only_worker<J: Headed, R: Abort>(
+    rt: &R,
+    pool: &Pool<J>,
+    mut workers: Vec<WorkerPass<J>>,
+) -> WorkerPass<J>
+    requires all { All (λ w. w.pool ≡ pool.now.id) workers.items }
+    requires one { length workers.items ≡ 1 }
+    ensures { result.pool ≡ pool.now.id }
+{
+    let worker = next_worker(rt, pool, &mut workers);
+    workers.destroy_empty();
+    worker
+}
+
+// The one helper's pass.
+fn only_helper<J: Headed, R: Abort>(
+    rt: &R,
+    pool: &Pool<J>,
+    helpers: Vec<HelperPass<J>>,
+) -> HelperPass<J>
+    requires all { All (λ h. h.pool ≡ pool.now.id) helpers.items }
+    requires one { length helpers.items ≡ 1 }
+    ensures { result.pool ≡ pool.now.id }
+{
+    let _ = pool;
+    only_of(rt, helpers)
+}
+
+// What adds to a pool with one adder: the keep-alive, its owner, and the pass.
+struct Adding<J> {
     owner: KeepOwner,
     keep: KeepAlive,
     pass: PoolPass<J>,
-    worker: WorkerPass<J>,
 }
 
-fn open_pool<J: Headed, R: Abort>(rt: &R, alloc: Global) -> Opened<J>
-    ensures pool { (result.pool.adders ≡ 1) × (result.pool.workers ≡ 1) × (result.pool.helpers ≡ 0) × (result.pool.exec.0 ≡ 7) }
-    ensures keeps { (result.owner.count ≡ result.pool.count) × (result.keep.count ≡ result.pool.count) }
-    ensures pass { (result.pass.pool ≡ result.pool.id) × (adds_of result.pass ≡ []) }
-    ensures worker { result.worker.pool ≡ result.pool.id }
+// A pool of three queues, one adder, and so many workers and helpers.
+struct Opened<J: Headed> {
+    pool: Pool<J>,
+    adding: Adding<J>,
+    workers: Vec<WorkerPass<J>>,
+    helpers: Vec<HelperPass<J>>,
+}
+
+fn open_pool<J: Headed, R: Abort>(rt: &R, alloc: Global, workers: u32, helpers: u32) -> Opened<J>
+    requires some { 0 < workers }
+    requires few { (workers ≤ 64) × (helpers ≤ 64) }
+    ensures pool { (result.pool.adders ≡ 1) × (result.pool.workers ≡ workers) × (result.pool.helpers ≡ helpers) × (result.pool.exec.0 ≡ 7) }
+    ensures keeps { (result.adding.owner.count ≡ result.pool.count) × (result.adding.keep.count ≡ result.pool.count) }
+    ensures pass { (result.adding.pass.pool ≡ result.pool.id) × (adds_of result.adding.pass ≡ []) }
+    ensures workers { All (λ w. w.pool ≡ result.pool.id) result.workers.items }
+    ensures worker_count { length result.workers.items ≡ workers }
+    ensures helpers { All (λ h. h.pool ≡ result.pool.id) result.helpers.items }
+    ensures helper_count { length result.helpers.items ≡ helpers }
 {
     let PoolParts {
         pool,
         owner,
         keep,
         adders,
-        workers,
-        helpers,
-    } = Pool::new(alloc, ExecId(7), 3, 1, 1, 0, 0).expect(rt, "memory");
-    helpers.destroy_empty();
+        workers: works,
+        helpers: helps,
+    } = Pool::new(alloc, ExecId(7), 3, 1, workers, helpers, 0).expect(rt, "memory");
     let pass = only_pass(rt, &pool, adders);
-    let mut workers = workers_of(&pool, workers, 1);
-    let worker = next_worker(rt, &pool, &mut workers);
-    workers.destroy_empty();
+    let works = workers_of(rt, &pool, works, workers);
+    let helps = helpers_of(rt, &pool, helps, workers, helpers);
     Opened {
         pool,
-        owner,
-        keep,
-        pass,
-        worker,
+        adding: Adding { owner, keep, pass },
+        workers: works,
+        helpers: helps,
     }
 }
 
@@ -384,66 +485,104 @@ fn next_back<J: Numbered>(returned: &mut Returned<J>) -> Option<u64> {
     Some(job.taken_apart())
 }
 
-fn run_four<J: Numbered, R: Abort + Wait>(rt: &R, alloc: Global) {
-    let Opened {
-        pool,
+// Adds tasks to a pool, lets the keep-alive go, and begins to join.
+fn add_and_join<J: Numbered, R: Abort + Wait>(
+    rt: &R,
+    alloc: Global,
+    pool: &Pool<J>,
+    adding: Adding<J>,
+    rows: &[(i8, u64)],
+) -> Joining<J>
+    requires keeps { (adding.owner.count ≡ pool.now.count) × (adding.keep.count ≡ pool.now.count) }
+    requires pass { (adding.pass.pool ≡ pool.now.id) × (adds_of adding.pass ≡ []) }
+    requires one { (pool.now.adders ≡ 1) × (pool.now.exec.0 ≡ 7) }
+    requires few { length rows.now ≤ 1000 }
+    ensures passes { AreAllPasses pool.now.id pool.now.adders result.passes }
+    ensures pool { result.pool ≡ pool.now.id }
+{
+    let Adding {
         owner,
         keep,
         mut pass,
-        worker,
-    } = open_pool::<J, R>(rt, alloc);
-    let rows = [(0, 10), (-128, 11), (127, 12), (0, 13)];
-    add_rows(rt, &pool, &keep, &mut pass, &rows);
-    let joining = begin_to_join(rt, alloc, &pool, owner, keep, pass);
+    } = adding;
+    add_rows(rt, pool, &keep, &mut pass, rows);
+    begin_to_join(rt, alloc, pool, owner, keep, pass)
+}
+
+// Adds tasks to a pool, lets the keep-alive go, and begins to stop.
+fn add_and_halt<J: Numbered, R: Abort + Wait>(
+    rt: &R,
+    alloc: Global,
+    pool: &Pool<J>,
+    adding: Adding<J>,
+    rows: &[(i8, u64)],
+) -> Stopping<J>
+    requires keeps { (adding.owner.count ≡ pool.now.count) × (adding.keep.count ≡ pool.now.count) }
+    requires pass { (adding.pass.pool ≡ pool.now.id) × (adds_of adding.pass ≡ []) }
+    requires one { (pool.now.adders ≡ 1) × (pool.now.exec.0 ≡ 7) }
+    requires few { length rows.now ≤ 1000 }
+    ensures passes { AreAllPasses pool.now.id pool.now.adders result.passes }
+    ensures pool { result.pool ≡ pool.now.id }
+{
+    let Adding {
+        owner,
+        keep,
+        mut pass,
+    } = adding;
+    add_rows(rt, pool, &keep, &mut pass, rows);
+    begin_to_stop(rt, alloc, pool, owner, keep, pass)
+}
+
+// Adds tasks, joins, and works. The tasks have to run in this order, and each has to have its record.
+fn run_rows<J: Numbered, R: Abort + Wait>(
+    rt: &R,
+    alloc: Global,
+    rows: &[(i8, u64)],
+    expected: &[u64],
+)
+    requires { length rows.now ≤ 1000 }
+{
+    let Opened {
+        pool,
+        adding,
+        workers,
+        helpers,
+    } = open_pool::<J, R>(rt, alloc, 1, 0);
+    helpers.destroy_empty();
+    let joining = add_and_join(rt, alloc, &pool, adding, rows);
     let mut world = Vec::new(alloc);
-    let ends = work_at(rt, alloc, &pool, worker, &mut world);
-    let PoolEnd {
-        accepted,
-        ran,
-        mut returned,
-    } = end_join(rt, alloc, pool, joining, ends, &mut world);
-    assert_eq!(rt;
-        (accepted, ran.len(), ran.stopped(), returned.len()),
-        (4, 4, false, 0)
-    );
-    assert!(rt; next_back(&mut returned).is_none());
-    assert_eq!(rt; ids(rt, alloc, ran).as_slice(), [12, 10, 13, 11].as_slice());
-    assert_eq!(rt; world.as_slice(), [12, 10, 13, 11].as_slice());
+    let ends = work_at(rt, alloc, &pool, workers, &mut world);
+    let tasks = rows.len() as u64;
+    let ran = end_join(rt, alloc, pool, joining, ends, &mut world, tasks);
+    assert_eq!(rt; ids(rt, alloc, ran).as_slice(), expected);
+    assert_eq!(rt; world.as_slice(), expected);
 }
 
 #[test]
 fn the_highest_queue_runs_first(rt: HostRuntime) {
-    run_four::<Note, HostRuntime>(&rt, rt.alloc());
+    let rows = [(0, 10), (-128, 11), (127, 12), (0, 13)];
+    run_rows::<Note, HostRuntime>(&rt, rt.alloc(), &rows, &[12, 10, 13, 11]);
+}
+
+#[test]
+fn an_empty_pool_ends(rt: HostRuntime) {
+    run_rows::<Note, HostRuntime>(&rt, rt.alloc(), &[], &[]);
 }
 
 // Stops a pool with two tasks, and hands out what comes back.
 fn stop_two<J: Numbered, R: Abort + Wait>(rt: &R, alloc: Global) -> Returned<J> {
     let Opened {
         pool,
-        owner,
-        keep,
-        mut pass,
-        worker,
-    } = open_pool::<J, R>(rt, alloc);
-    add_rows(rt, &pool, &keep, &mut pass, &[(0, 20), (0, 21)]);
-    let stopping = begin_to_stop(rt, alloc, &pool, owner, keep, pass);
+        adding,
+        workers,
+        helpers,
+    } = open_pool::<J, R>(rt, alloc, 1, 0);
+    helpers.destroy_empty();
+    let stopping = add_and_halt(rt, alloc, &pool, adding, &[(0, 20), (0, 21)]);
     let mut world = Vec::new(alloc);
-    let ends = work_at(rt, alloc, &pool, worker, &mut world);
-    let PoolEnd {
-        accepted,
-        ran,
-        returned,
-    } = end_stop(rt, alloc, pool, stopping, ends);
-    assert_eq!(rt;
-        (
-            accepted,
-            ran.len(),
-            ran.stopped(),
-            returned.len(),
-            world.len()
-        ),
-        (2, 0, true, 2, 0)
-    );
+    let ends = work_at(rt, alloc, &pool, workers, &mut world);
+    let (ran, returned) = end_stop(rt, alloc, pool, stopping, ends, 2);
+    assert_eq!(rt; (ran.len(), returned.len(), world.len()), (0, 2, 0));
     returned
 }
 
@@ -472,53 +611,25 @@ fn a_stopped_pool_hands_its_tasks_back(rt: HostRuntime) {
     run_what_comes_back::<Note, HostRuntime>(&rt, rt.alloc());
 }
 
-fn end_empty<J: Numbered, R: Abort + Wait>(rt: &R, alloc: Global) {
-    let Opened {
-        pool,
-        owner,
-        keep,
-        pass,
-        worker,
-    } = open_pool::<J, R>(rt, alloc);
-    let mut world = Vec::new(alloc);
-    let joining = begin_to_join(rt, alloc, &pool, owner, keep, pass);
-    let ends = work_at(rt, alloc, &pool, worker, &mut world);
-    let PoolEnd {
-        accepted,
-        ran,
-        returned,
-    } = end_join(rt, alloc, pool, joining, ends, &mut world);
-    assert_eq!(rt;
-        (accepted, ran.len(), returned.len(), world.len()),
-        (0, 0, 0, 0)
-    );
-}
-
-#[test]
-fn an_empty_pool_ends(rt: HostRuntime) {
-    end_empty::<Note, HostRuntime>(&rt, rt.alloc());
-}
-
-// Adds so many tasks, half of them to the middle queue and half to the highest, lets the keep-alive go, and begins to join.
+// Adds a thousand tasks, half of them to the middle queue and half to the highest, lets the keep-alive go, and begins to join.
 fn add_and_begin_join<J: Numbered, R: Abort + Wait>(
     rt: &R,
     alloc: Global,
     pool: &Pool<J>,
-    owner: KeepOwner,
-    keep: KeepAlive,
-    mut pass: PoolPass<J>,
+    adding: Adding<J>,
 ) -> Joining<J>
-    requires owner { owner.count ≡ pool.now.count }
-    requires keep { keep.count ≡ pool.now.count }
-    requires pass { (pass.pool ≡ pool.now.id) × (adds_of pass ≡ []) }
+    requires keeps { (adding.owner.count ≡ pool.now.count) × (adding.keep.count ≡ pool.now.count) }
+    requires pass { (adding.pass.pool ≡ pool.now.id) × (adds_of adding.pass ≡ []) }
     requires one { (pool.now.adders ≡ 1) × (pool.now.exec.0 ≡ 7) }
     ensures passes { AreAllPasses pool.now.id pool.now.adders result.passes }
     ensures pool { result.pool ≡ pool.now.id }
 {
-    for id in 0..1000 {
-        let priority = if id % 2 == 0 { 0 } else { 127 };
-        let _ = add(rt, pool, &keep, &mut pass, priority, id);
-    }
+    let Adding {
+        owner,
+        keep,
+        mut pass,
+    } = adding;
+    add_thousand(rt, pool, &keep, &mut pass);
     begin_to_join(rt, alloc, pool, owner, keep, pass)
 }
 
@@ -540,7 +651,12 @@ fn each_once<R: Abort>(rt: &R, alloc: Global, ids: &[u64]) -> bool {
         assert!(rt; place < counts.len());
         counts[place] = counts[place].saturating_add(1);
     }
-    counts.iter().all(|count| *count == 1)
+    for count in &counts {
+        if *count != 1 {
+            return false;
+        }
+    }
+    true
 }
 
 // All ends of a pool with four workers.
@@ -564,46 +680,11 @@ fn four_ends<J: Headed, R: Abort>(
     ends
 }
 
-// A pool of three queues, one adder, and four workers.
-struct Large<J: Headed> {
-    pool: Pool<J>,
-    owner: KeepOwner,
-    keep: KeepAlive,
-    pass: PoolPass<J>,
-    workers: Vec<WorkerPass<J>>,
-}
-
-fn large_pool<J: Headed, R: Abort>(rt: &R, alloc: Global) -> Large<J>
-    ensures pool { (result.pool.adders ≡ 1) × (result.pool.workers ≡ 4) × (result.pool.helpers ≡ 0) × (result.pool.exec.0 ≡ 7) }
-    ensures keeps { (result.owner.count ≡ result.pool.count) × (result.keep.count ≡ result.pool.count) }
-    ensures pass { (result.pass.pool ≡ result.pool.id) × (adds_of result.pass ≡ []) }
-    ensures workers { All (λ w. w.pool ≡ result.pool.id) result.workers.items }
-    ensures four { length result.workers.items ≡ 4 }
-{
-    let PoolParts {
-        pool,
-        owner,
-        keep,
-        adders,
-        workers,
-        helpers,
-    } = Pool::new(alloc, ExecId(7), 3, 1, 4, 0, 0).expect(rt, "memory");
-    helpers.destroy_empty();
-    let pass = only_pass(rt, &pool, adders);
-    let workers = workers_of(&pool, workers, 4);
-    Large {
-        pool,
-        owner,
-        keep,
-        pass,
-        workers,
-    }
-}
-
 // The ids of the tasks that were handed back, behind those that are there.
 fn put_back_ids<J: Numbered, R: Abort>(rt: &R, ids: &mut Vec<u64>, mut returned: Returned<J>) {
     for _ in 0..returned.len() {
         let id = next_back(&mut returned).expect(rt, "a task");
         ids.push(id).expect(rt, "memory");
     }
+    assert!(rt; next_back(&mut returned).is_none());
 }

@@ -1,5 +1,5 @@
 // Jobs that may be neither copied nor dropped, with a helper beside the worker.
-ghost use Rattle.std.specs.Prelude.{◌≡◌, ◌⊎◌, ◌+◌, ◌<◌, ◌∷◌, ◌++◌, [], length};
+ghost use Rattle.std.specs.Prelude.{◌≡◌, ◌⊎◌, ◌∷◌, ◌++◌, []};
 ghost use Rattle.pool_model.specs.Passes.{AreAllPasses, AreAllEnds, adds_of};
 
 use super::*;
@@ -44,64 +44,6 @@ impl Numbered for Kept {
         let Kept(head) = self;
         head.id.0
     }
-}
-
-// A pool of three queues, with one adder, one worker and one helper.
-struct Trio<J: Headed> {
-    pool: Pool<J>,
-    owner: KeepOwner,
-    keep: KeepAlive,
-    pass: PoolPass<J>,
-    worker: WorkerPass<J>,
-    helper: HelperPass<J>,
-}
-
-fn open_trio<J: Headed, R: Abort>(rt: &R, alloc: Global) -> Trio<J>
-    ensures pool { (result.pool.adders ≡ 1) × (result.pool.workers ≡ 1) × (result.pool.helpers ≡ 1) × (result.pool.exec.0 ≡ 7) }
-    ensures keeps { (result.owner.count ≡ result.pool.count) × (result.keep.count ≡ result.pool.count) }
-    ensures pass { (result.pass.pool ≡ result.pool.id) × (adds_of result.pass ≡ []) }
-    ensures worker { result.worker.pool ≡ result.pool.id }
-    ensures helper { result.helper.pool ≡ result.pool.id }
-{
-    let PoolParts {
-        pool,
-        owner,
-        keep,
-        adders,
-        workers,
-        helpers,
-    } = Pool::new(alloc, ExecId(7), 3, 1, 1, 1, 0).expect(rt, "memory");
-    let pass = only_pass(rt, &pool, adders);
-    let mut workers = workers_of(&pool, workers, 1);
-    let worker = next_worker(rt, &pool, &mut workers);
-    workers.destroy_empty();
-    let helper = only_helper(rt, &pool, helpers);
-    Trio {
-        pool,
-        owner,
-        keep,
-        pass,
-        worker,
-        helper,
-    }
-}
-
-// Adds a job to the middle queue.
-fn add_kept<J: Numbered, R: Abort + Wait>(
-    rt: &R,
-    pool: &Pool<J>,
-    keep: &KeepAlive,
-    pass: &mut PoolPass<J>,
-    id: u64,
-)
-    requires keep { keep.now.count ≡ pool.now.count }
-    requires pass { pass.old.pool ≡ pool.now.id }
-    requires exec { pool.now.exec.0 ≡ 7 }
-    requires room { length (adds_of pass.old) < 100000 }
-    ensures pass { (pass.new.pool ≡ pass.old.pool) × (pass.new.number ≡ pass.old.number) }
-    ensures one { length (adds_of pass.new) ≡ length (adds_of pass.old) + 1 }
-{
-    assert_eq!(rt; add(rt, pool, keep, pass, 0, id), (0, id));
 }
 
 fn only_helped<J: Headed, R: Abort>(
@@ -151,23 +93,25 @@ fn add_and_help<J: Numbered, R: Abort + Wait>(
     rt: &R,
     alloc: Global,
     pool: &Pool<J>,
-    owner: KeepOwner,
-    keep: KeepAlive,
-    mut pass: PoolPass<J>,
+    adding: Adding<J>,
     mut helper: HelperPass<J>,
 ) -> (Joining<J>, HelperEnd<J>)
-    requires owner { owner.count ≡ pool.now.count }
-    requires keep { keep.count ≡ pool.now.count }
-    requires pass { (pass.pool ≡ pool.now.id) × (adds_of pass ≡ []) }
+    requires keeps { (adding.owner.count ≡ pool.now.count) × (adding.keep.count ≡ pool.now.count) }
+    requires pass { (adding.pass.pool ≡ pool.now.id) × (adds_of adding.pass ≡ []) }
     requires helper { helper.pool ≡ pool.now.id }
     requires one { (pool.now.adders ≡ 1) × (pool.now.exec.0 ≡ 7) }
     ensures joining { AreAllPasses pool.now.id pool.now.adders result.0.passes }
     ensures pool { result.0.pool ≡ pool.now.id }
     ensures helped { result.1.pool ≡ pool.now.id }
 {
+    let Adding {
+        owner,
+        keep,
+        mut pass,
+    } = adding;
     let mut world = Vec::new(alloc);
     for id in 0..1000 {
-        add_kept(rt, pool, &keep, &mut pass, id);
+        add(rt, pool, &keep, &mut pass, 0, id, id);
         let _ = help_once(rt, pool, &mut helper, &mut world);
     }
     let joining = begin_to_join(rt, alloc, pool, owner, keep, pass);
@@ -177,19 +121,15 @@ fn add_and_help<J: Numbered, R: Abort + Wait>(
 #[test]
 fn a_helper_beside_a_worker(rt: HostRuntime) {
     let alloc = rt.alloc();
-    let Trio {
+    let Opened {
         pool,
-        owner,
-        keep,
-        pass,
-        worker,
-        helper,
-    } = open_trio::<Kept, HostRuntime>(&rt, alloc);
-    let worker = wrapped(&rt, alloc, worker);
-    let helper = wrapped(&rt, alloc, helper);
-    let owner = wrapped(&rt, alloc, owner);
-    let keep = wrapped(&rt, alloc, keep);
-    let pass = wrapped(&rt, alloc, pass);
+        adding,
+        workers,
+        helpers,
+    } = open_pool::<Kept, HostRuntime>(&rt, alloc, 1, 1);
+    let worker = wrapped(&rt, alloc, only_worker(&rt, &pool, workers));
+    let helper = wrapped(&rt, alloc, only_helper(&rt, &pool, helpers));
+    let adding = wrapped(&rt, alloc, adding);
     let shared = &pool;
     let (end, (joining, helped)) = join(
         &rt,
@@ -197,60 +137,17 @@ fn a_helper_beside_a_worker(rt: HostRuntime) {
             requires { worker.pool ≡ shared.now.id }
         { work_kept(&rt, alloc, shared, worker.open()) },
         move ||
-            requires owner { owner.count ≡ shared.now.count }
-            requires keep { keep.count ≡ shared.now.count }
-            requires pass { (pass.pool ≡ shared.now.id) × (adds_of pass ≡ []) }
+            requires keeps { (adding.owner.count ≡ shared.now.count) × (adding.keep.count ≡ shared.now.count) }
+            requires pass { (adding.pass.pool ≡ shared.now.id) × (adds_of adding.pass ≡ []) }
             requires helper { helper.pool ≡ shared.now.id }
             requires one { (shared.now.adders ≡ 1) × (shared.now.exec.0 ≡ 7) }
-        {
-            add_and_help(
-                &rt,
-                alloc,
-                shared,
-                owner.open(),
-                keep.open(),
-                pass.open(),
-                helper.open(),
-            )
-        },
+        { add_and_help(&rt, alloc, shared, adding.open(), helper.open()) },
     );
     let ends = all_ends(&rt, alloc, &pool, end);
     let helped = only_helped(&rt, alloc, &pool, helped);
     let mut world = Vec::new(alloc);
-    let PoolEnd {
-        accepted,
-        ran,
-        returned,
-    } = pool.join(&rt, joining, ends, helped, &mut world);
-    assert_eq!(rt; (accepted, ran.len(), returned.len()), (1000, 1000, 0));
-    let ids = ids(&rt, alloc, ran);
-    assert!(rt; each_once(&rt, alloc, ids.as_slice()));
-}
-
-// The ids of the jobs that were handed back, which are taken apart.
-fn back_ids<J: Numbered, R: Abort>(rt: &R, alloc: Global, mut returned: Returned<J>) -> Vec<u64> {
-    let mut back = Vec::new(alloc);
-    while let Some((_, kept)) = returned.pop() {
-        back.push(kept.taken_apart()).expect(rt, "memory");
-    }
-    back
-}
-
-// Adds four jobs.
-fn add_four<J: Numbered, R: Abort + Wait>(
-    rt: &R,
-    pool: &Pool<J>,
-    keep: &KeepAlive,
-    pass: &mut PoolPass<J>,
-)
-    requires keep { keep.now.count ≡ pool.now.count }
-    requires pass { (pass.old.pool ≡ pool.now.id) × (adds_of pass.old ≡ []) }
-    requires exec { pool.now.exec.0 ≡ 7 }
-    ensures { pass.new.pool ≡ pass.old.pool }
-{
-    for id in 0..4 {
-        add_kept(rt, pool, keep, pass, id);
-    }
+    let ran = all_ran(&rt, pool.join(&rt, joining, ends, helped, &mut world), 1000);
+    assert!(rt; each_once(&rt, alloc, ids(&rt, alloc, ran).as_slice()));
 }
 
 // Stops a pool with a worker and a helper. Of four jobs one ran, and three come back.
@@ -270,37 +167,51 @@ fn end_stopped<J: Headed, R: Abort + Wait>(
 {
     let ends = all_ends(rt, alloc, &pool, end);
     let helped = only_helped(rt, alloc, &pool, helped);
-    let PoolEnd {
-        accepted,
-        ran,
-        returned,
-    } = pool.stop(rt, stopping, ends, helped);
-    assert_eq!(rt;
-        (accepted, ran.len(), ran.stopped(), returned.len()),
-        (4, 1, true, 3)
-    );
+    let (ran, returned) = some_ran(rt, pool.stop(rt, stopping, ends, helped), 4);
+    assert_eq!(rt; (ran.len(), returned.len()), (1, 3));
     returned
 }
 
-fn stop_three<J: Numbered, R: Abort + Wait>(rt: &R, alloc: Global) {
-    let Trio {
+// Helps where there is no job, adds four, helps with the first, and stops. Three come back.
+fn stop_four<J: Numbered, R: Abort + Wait>(
+    rt: &R,
+    alloc: Global,
+    world: &mut Vec<u64>,
+) -> Returned<J> {
+    let Opened {
         pool,
+        adding,
+        workers,
+        helpers,
+    } = open_pool::<J, R>(rt, alloc, 1, 1);
+    let mut helper = only_helper(rt, &pool, helpers);
+    assert!(rt; !help_once(rt, &pool, &mut helper, world));
+    let Adding {
         owner,
         keep,
         mut pass,
-        worker,
-        mut helper,
-    } = open_trio::<J, R>(rt, alloc);
-    let mut world = Vec::new(alloc);
-    assert!(rt; !help_once(rt, &pool, &mut helper, &mut world));
-    add_four(rt, &pool, &keep, &mut pass);
-    assert!(rt; help_once(rt, &pool, &mut helper, &mut world));
+    } = adding;
+    add_rows(
+        rt,
+        &pool,
+        &keep,
+        &mut pass,
+        &[(0, 0), (0, 1), (0, 2), (0, 3)],
+    );
+    assert!(rt; help_once(rt, &pool, &mut helper, world));
     let stopping = begin_to_stop(rt, alloc, &pool, owner, keep, pass);
-    let end = work_kept(rt, alloc, &pool, worker);
-    let mut returned = end_stopped(rt, alloc, pool, stopping, end, helper.end());
+    let end = work_kept(rt, alloc, &pool, only_worker(rt, &pool, workers));
+    end_stopped(rt, alloc, pool, stopping, end, helper.end())
+}
+
+fn stop_three<J: Numbered, R: Abort + Wait>(rt: &R, alloc: Global) {
+    let mut world = Vec::new(alloc);
+    let mut returned = stop_four::<J, R>(rt, alloc, &mut world);
     let record = returned.run_next(rt, &mut world).expect(rt, "a task");
     assert_eq!(rt; (record.job(), record.mark()), (JobId(1), Mark::Done(1)));
-    assert_eq!(rt; back_ids(rt, alloc, returned).as_slice(), [2, 3].as_slice());
+    let mut back = Vec::new(alloc);
+    put_back_ids(rt, &mut back, returned);
+    assert_eq!(rt; back.as_slice(), [2, 3].as_slice());
     assert_eq!(rt; world.as_slice(), [0, 1].as_slice());
 }
 

@@ -1,5 +1,5 @@
 // Four workers on threads of their own, between the calls of a gate that counts, beside one that adds, helps and ends the pool.
-ghost use Rattle.std.specs.Prelude.{◌≡◌, ◌+◌, [], All, IfSome, Some, None, length};
+ghost use Rattle.std.specs.Prelude.{◌≡◌, ◌+◌, ◌≤◌, [], All, IfSome, Some, None, length};
 ghost use Rattle.pool_model.specs.Passes.{AreAllPasses, AreAllEnds, adds_of};
 
 use super::*;
@@ -210,6 +210,29 @@ fn four_work_at<R: Abort + Wait + Threads + Sync>(
     four_ends(rt, alloc, pool, (first, second), (third, fourth))
 }
 
+// Adds so many tasks behind those that the pass has added.
+fn add_group<J: Numbered, R: Abort + Wait>(
+    rt: &R,
+    pool: &Pool<J>,
+    keep: &KeepAlive,
+    pass: &mut PoolPass<J>,
+    added: u64,
+    size: u64,
+)
+    requires keep { keep.now.count ≡ pool.now.count }
+    requires pass { pass.old.pool ≡ pool.now.id }
+    requires exec { pool.now.exec.0 ≡ 7 }
+    requires added { length (adds_of pass.old) ≡ added }
+    requires few { added + size ≤ 50000 }
+    ensures pass { pass.new.pool ≡ pass.old.pool }
+    ensures added { length (adds_of pass.new) ≡ added + size }
+{
+    for index in 0..size {
+        let id = added + index;
+        add(rt, pool, keep, pass, 0, id, id);
+    }
+}
+
 // Adds tasks, and waits after each so many until all of them have ended, so that the workers go to sleep and are woken in between.
 // Then it begins to join.
 fn add_in_groups<J: Numbered, R: Abort + Wait>(
@@ -219,24 +242,24 @@ fn add_in_groups<J: Numbered, R: Abort + Wait>(
     gate: &CountGate,
     groups: u64,
     size: u64,
-    owner: KeepOwner,
-    keep: KeepAlive,
-    mut pass: PoolPass<J>,
+    adding: Adding<J>,
 ) -> Joining<J>
-    requires owner { owner.count ≡ pool.now.count }
-    requires keep { keep.count ≡ pool.now.count }
-    requires pass { (pass.pool ≡ pool.now.id) × (adds_of pass ≡ []) }
+    requires keeps { (adding.owner.count ≡ pool.now.count) × (adding.keep.count ≡ pool.now.count) }
+    requires pass { (adding.pass.pool ≡ pool.now.id) × (adds_of adding.pass ≡ []) }
     requires one { (pool.now.adders ≡ 1) × (pool.now.exec.0 ≡ 7) }
     ensures passes { AreAllPasses pool.now.id pool.now.adders result.passes }
     ensures pool { result.pool ≡ pool.now.id }
 {
+    let Adding {
+        owner,
+        keep,
+        mut pass,
+    } = adding;
     let mut added = 0;
     for _ in 0..groups {
-        for _ in 0..size {
-            if added < 50_000 {
-                let _ = add(rt, pool, &keep, &mut pass, 0, added);
-                added += 1;
-            }
+        if size <= 50_000 - added {
+            add_group(rt, pool, &keep, &mut pass, added, size);
+            added += size;
         }
         await_count(&gate.ended, added);
     }
@@ -249,21 +272,20 @@ fn add_and_stop<J: Numbered, R: Abort + Wait>(
     alloc: Global,
     pool: &Pool<J>,
     gate: &CountGate,
-    owner: KeepOwner,
-    keep: KeepAlive,
-    mut pass: PoolPass<J>,
+    adding: Adding<J>,
 ) -> Stopping<J>
-    requires owner { owner.count ≡ pool.now.count }
-    requires keep { keep.count ≡ pool.now.count }
-    requires pass { (pass.pool ≡ pool.now.id) × (adds_of pass ≡ []) }
+    requires keeps { (adding.owner.count ≡ pool.now.count) × (adding.keep.count ≡ pool.now.count) }
+    requires pass { (adding.pass.pool ≡ pool.now.id) × (adds_of adding.pass ≡ []) }
     requires one { (pool.now.adders ≡ 1) × (pool.now.exec.0 ≡ 7) }
     ensures passes { AreAllPasses pool.now.id pool.now.adders result.passes }
     ensures pool { result.pool ≡ pool.now.id }
 {
-    for id in 0..1000 {
-        let priority = if id % 2 == 0 { 0 } else { 127 };
-        let _ = add(rt, pool, &keep, &mut pass, priority, id);
-    }
+    let Adding {
+        owner,
+        keep,
+        mut pass,
+    } = adding;
+    add_thousand(rt, pool, &keep, &mut pass);
     if gate.most < u64::MAX {
         await_count(&gate.begun, gate.most.saturating_add(4));
     }
@@ -272,7 +294,7 @@ fn add_and_stop<J: Numbered, R: Abort + Wait>(
     stopping
 }
 
-// Joins the pool. Each of so many tasks has to have a record, and both calls of the gate.
+// Joins the pool, whose workers have left no task to it. Each of so many tasks has to have a record, and both calls of the gate.
 fn end_joined<J: Numbered, R: Abort + Wait>(
     rt: &R,
     alloc: Global,
@@ -281,65 +303,34 @@ fn end_joined<J: Numbered, R: Abort + Wait>(
     ends: Vec<WorkerEnd<J>>,
     counts: &CountGate,
     tasks: u64,
-)
+) -> Runs
     requires pool { joining.pool ≡ pool.id }
     requires passes { AreAllPasses pool.id pool.adders joining.passes }
     requires ends { AreAllEnds pool.id pool.workers ends.items }
     requires helpers { pool.helpers ≡ 0 }
 {
     let mut world = Vec::new(alloc);
-    let PoolEnd {
-        accepted,
-        ran,
-        returned,
-    } = end_join(rt, alloc, pool, joining, ends, &mut world);
-    assert_eq!(rt;
-        (accepted, ran.len() as u64, returned.len(), world.len()),
-        (tasks, tasks, 0, 0)
-    );
+    let ran = end_join(rt, alloc, pool, joining, ends, &mut world, tasks);
+    assert_eq!(rt; world.len(), 0);
     assert_eq!(rt; counts.passed(), (tasks, 0));
-}
-
-// Joins the pool. Each of a thousand tasks has to have a record, by its id, and both calls of the gate.
-fn end_thousand<J: Numbered, R: Abort + Wait>(
-    rt: &R,
-    alloc: Global,
-    pool: Pool<J>,
-    joining: Joining<J>,
-    ends: Vec<WorkerEnd<J>>,
-    counts: &CountGate,
-)
-    requires pool { joining.pool ≡ pool.id }
-    requires passes { AreAllPasses pool.id pool.adders joining.passes }
-    requires ends { AreAllEnds pool.id pool.workers ends.items }
-    requires helpers { pool.helpers ≡ 0 }
-{
-    let mut world = Vec::new(alloc);
-    let PoolEnd {
-        accepted,
-        ran,
-        returned,
-    } = end_join(rt, alloc, pool, joining, ends, &mut world);
-    assert_eq!(rt; (accepted, ran.len(), returned.len()), (1000, 1000, 0));
-    assert_eq!(rt; counts.passed(), (1000, 0));
-    let ids = ids(rt, alloc, ran);
-    assert!(rt; each_once(rt, alloc, ids.as_slice()));
+    ran
 }
 
 #[test]
 fn four_workers_run_a_thousand_tasks(rt: HostRuntime) {
     let alloc = rt.alloc();
-    let Large {
+    let Opened {
         pool,
-        owner,
-        keep,
-        pass,
+        adding,
         workers,
-    } = large_pool::<Note, HostRuntime>(&rt, alloc);
+        helpers,
+    } = open_pool::<Note, HostRuntime>(&rt, alloc, 4, 0);
+    helpers.destroy_empty();
     let counts = CountGate::new(&rt, alloc, u64::MAX, 1000);
-    let joining = add_and_begin_join(&rt, alloc, &pool, owner, keep, pass);
+    let joining = add_and_begin_join(&rt, alloc, &pool, adding);
     let ends = four_work_at(&rt, alloc, &pool, &counts, workers);
-    end_thousand(&rt, alloc, pool, joining, ends, &counts);
+    let ran = end_joined(&rt, alloc, pool, joining, ends, &counts, 1000);
+    assert!(rt; each_once(&rt, alloc, ids(&rt, alloc, ran).as_slice()));
 }
 
 // One by one, and as a stream: groups of tasks, and how many each has.
@@ -347,17 +338,15 @@ fn four_workers_run_a_thousand_tasks(rt: HostRuntime) {
 fn no_task_is_slept_through(rt: HostRuntime) {
     let alloc = rt.alloc();
     for (groups, size) in [(5000u64, 1u64), (20, 1000)] {
-        let Large {
+        let Opened {
             pool,
-            owner,
-            keep,
-            pass,
+            adding,
             workers,
-        } = large_pool::<Note, HostRuntime>(&rt, alloc);
+            helpers,
+        } = open_pool::<Note, HostRuntime>(&rt, alloc, 4, 0);
+        helpers.destroy_empty();
         let passes = wrapped(&rt, alloc, workers);
-        let owner = wrapped(&rt, alloc, owner);
-        let keep = wrapped(&rt, alloc, keep);
-        let pass = wrapped(&rt, alloc, pass);
+        let adding = wrapped(&rt, alloc, adding);
         let tasks = groups.saturating_mul(size);
         let counts = CountGate::new(&rt, alloc, u64::MAX, tasks);
         let gate = &counts;
@@ -369,25 +358,12 @@ fn no_task_is_slept_through(rt: HostRuntime) {
                 requires four { (length passes.items ≡ 4) × (shared.now.workers ≡ 4) }
             { four_work_at(&rt, alloc, shared, gate, passes.open()) },
             move ||
-                requires owner { owner.count ≡ shared.now.count }
-                requires keep { keep.count ≡ shared.now.count }
-                requires pass { (pass.pool ≡ shared.now.id) × (adds_of pass ≡ []) }
+                requires keeps { (adding.owner.count ≡ shared.now.count) × (adding.keep.count ≡ shared.now.count) }
+                requires pass { (adding.pass.pool ≡ shared.now.id) × (adds_of adding.pass ≡ []) }
                 requires one { (shared.now.adders ≡ 1) × (shared.now.exec.0 ≡ 7) }
-            {
-                add_in_groups(
-                    &rt,
-                    alloc,
-                    shared,
-                    gate,
-                    groups,
-                    size,
-                    owner.open(),
-                    keep.open(),
-                    pass.open(),
-                )
-            },
+            { add_in_groups(&rt, alloc, shared, gate, groups, size, adding.open()) },
         );
-        end_joined(&rt, alloc, pool, joining, ends, &counts, tasks);
+        let _ = end_joined(&rt, alloc, pool, joining, ends, &counts, tasks);
     }
 }
 
@@ -406,20 +382,8 @@ fn end_halted<J: Numbered, R: Abort + Wait>(
     requires ends { AreAllEnds pool.id pool.workers ends.items }
     requires helpers { pool.helpers ≡ 0 }
 {
-    let PoolEnd {
-        accepted,
-        ran,
-        returned,
-    } = end_stop(rt, alloc, pool, stopping, ends);
+    let (ran, returned) = end_stop(rt, alloc, pool, stopping, ends, 1000);
     let records = ran.len();
-    assert_eq!(rt;
-        (
-            accepted,
-            ran.stopped(),
-            records.saturating_add(returned.len())
-        ),
-        (1000, true, 1000)
-    );
     if counts.most == 400 {
         assert_eq!(rt; records, 404);
     }
@@ -434,17 +398,15 @@ fn end_halted<J: Numbered, R: Abort + Wait>(
 fn a_stop_among_a_thousand_tasks_loses_none(rt: HostRuntime) {
     let alloc = rt.alloc();
     for most in [400, u64::MAX] {
-        let Large {
+        let Opened {
             pool,
-            owner,
-            keep,
-            pass,
+            adding,
             workers,
-        } = large_pool::<Note, HostRuntime>(&rt, alloc);
+            helpers,
+        } = open_pool::<Note, HostRuntime>(&rt, alloc, 4, 0);
+        helpers.destroy_empty();
         let passes = wrapped(&rt, alloc, workers);
-        let owner = wrapped(&rt, alloc, owner);
-        let keep = wrapped(&rt, alloc, keep);
-        let pass = wrapped(&rt, alloc, pass);
+        let adding = wrapped(&rt, alloc, adding);
         let counts = CountGate::new(&rt, alloc, most, 1000);
         let gate = &counts;
         let shared = &pool;
@@ -455,21 +417,10 @@ fn a_stop_among_a_thousand_tasks_loses_none(rt: HostRuntime) {
                 requires four { (length passes.items ≡ 4) × (shared.now.workers ≡ 4) }
             { four_work_at(&rt, alloc, shared, gate, passes.open()) },
             move ||
-                requires owner { owner.count ≡ shared.now.count }
-                requires keep { keep.count ≡ shared.now.count }
-                requires pass { (pass.pool ≡ shared.now.id) × (adds_of pass ≡ []) }
+                requires keeps { (adding.owner.count ≡ shared.now.count) × (adding.keep.count ≡ shared.now.count) }
+                requires pass { (adding.pass.pool ≡ shared.now.id) × (adds_of adding.pass ≡ []) }
                 requires one { (shared.now.adders ≡ 1) × (shared.now.exec.0 ≡ 7) }
-            {
-                add_and_stop(
-                    &rt,
-                    alloc,
-                    shared,
-                    gate,
-                    owner.open(),
-                    keep.open(),
-                    pass.open(),
-                )
-            },
+            { add_and_stop(&rt, alloc, shared, gate, adding.open()) },
         );
         end_halted(&rt, alloc, pool, stopping, ends, &counts);
     }

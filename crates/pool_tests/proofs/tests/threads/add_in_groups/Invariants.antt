@@ -4,6 +4,3 @@ use Rattle.pool_tests.proofs.tests.threads.add_in_groups.Given as goal
 
 abbrev pub invariant-loop : goal.invariant-loop
 invariant-loop g l = (l.pass.pool ≡ l.initial.pass.pool) × (length (adds_of l.pass) ≡ l.added) × (l.added ≤ 50000)
-
-abbrev pub invariant-loop-2 : goal.invariant-loop-2
-invariant-loop-2 g l = (l.pass.pool ≡ l.initial.pass.pool) × (length (adds_of l.pass) ≡ l.added) × (l.added ≤ 50000)
