@@ -7,10 +7,11 @@ use fan_base::{ExecId, JobId, Mark, OpenGate, Parcel, Refused};
 use job_trait::{Head, Headed, Job};
 use keep_alive::{KeepAlive, KeepOwner};
 use prio_pool::{
-    Helped, HelperEnd, HelperPass, Joining, Pool, PoolEnd, PoolParts, PoolPass, Returned, Runs,
-    Stopping, WorkerEnd, WorkerPass, new_passes_are_unused, queue_for, run_direct,
+    Helped, HelperEnd, HelperPass, Joining, Pool, PoolEnd, PoolParts, PoolPass, Returned,
+    RunRecord, Runs, Stopping, WorkerEnd, WorkerPass, new_passes_are_unused, queue_for, run_direct,
 };
 use std::alloc::Global;
+use std::fmt::Debug;
 use std::process::Abort;
 use std::sync::Wait;
 use std::thread::{Threads, join};
@@ -70,9 +71,28 @@ impl Numbered for Note {
     }
 }
 
+// Compares two values. A test compares by this, since each assertion that a body makes of its own makes that body dearer to prove.
+fn same<T: PartialEq + Debug + Drop, R: Abort>(rt: &R, found: T, expected: T) {
+    assert_eq!(rt; found, expected);
+}
+
+// Compares the numbers of two lists.
+fn check_list<R: Abort>(rt: &R, found: Vec<u64>, expected: &[u64]) {
+    assert_eq!(rt; found.as_slice(), expected);
+}
+
+// The queues of five priorities in a pool of so many.
+fn check_queues<R: Abort>(rt: &R, queues: u32, expected: [u32; 5])
+    requires { (0 < queues) × (queues ≤ 256) }
+{
+    let priorities = [-128, -1, 0, 1, 127];
+    for index in 0..5 {
+        same(rt, queue_for(queues, priorities[index]), expected[index]);
+    }
+}
+
 #[test]
 fn each_priority_has_its_queue(rt: HostRuntime) {
-    let priorities = [-128, -1, 0, 1, 127];
     let rows = [
         (1, [0, 0, 0, 0, 0]),
         (2, [0, 0, 1, 1, 1]),
@@ -81,15 +101,40 @@ fn each_priority_has_its_queue(rt: HostRuntime) {
     ];
     for (queues, expected) in rows {
         if 0 < queues && queues <= 256 {
-            for index in 0..5 {
-                assert_eq!(rt; queue_for(queues, priorities[index]), expected[index]);
-            }
+            check_queues(&rt, queues, expected);
         }
     }
 }
 
-// Adds a task, for which there has to be memory, and which gets the ticket of the one adder with this index. One that is refused comes
-// back, and is taken apart.
+// Takes a job apart that was refused, and ends the test.
+fn refused<J: Numbered, R: Abort>(rt: &R, job: J, id: u64) -> ! {
+    same(rt, job.taken_apart(), id);
+    rt.panic("memory")
+}
+
+// Adds a task, for which there has to be memory, and gives the two numbers of its ticket.
+fn add_one<J: Numbered, R: Abort + Wait>(
+    rt: &R,
+    pool: &Pool<J>,
+    keep: &KeepAlive,
+    pass: &mut PoolPass<J>,
+    priority: i8,
+    id: u64,
+) -> (u32, u64)
+    requires keep { keep.now.count ≡ pool.now.count }
+    requires pass { pass.old.pool ≡ pool.now.id }
+    requires exec { pool.now.exec.0 ≡ 7 }
+    requires room { length (adds_of pass.old) < 100000 }
+    ensures pass { (pass.new.pool ≡ pass.old.pool) × (pass.new.number ≡ pass.old.number) }
+    ensures one { length (adds_of pass.new) ≡ length (adds_of pass.old) + 1 }
+{
+    match pool.add(rt, keep, pass, priority, J::of(id)) {
+        Ok(ticket) => (ticket.adder, ticket.index),
+        Err(Refused::Memory(job)) => refused(rt, job, id),
+    }
+}
+
+// Adds a task, which gets the ticket of the one adder with this index.
 fn add<J: Numbered, R: Abort + Wait>(
     rt: &R,
     pool: &Pool<J>,
@@ -106,13 +151,7 @@ fn add<J: Numbered, R: Abort + Wait>(
     ensures pass { (pass.new.pool ≡ pass.old.pool) × (pass.new.number ≡ pass.old.number) }
     ensures one { length (adds_of pass.new) ≡ length (adds_of pass.old) + 1 }
 {
-    match pool.add(rt, keep, pass, priority, J::of(id)) {
-        Ok(ticket) => assert_eq!(rt; (ticket.adder, ticket.index), (0, index)),
-        Err(Refused::Memory(job)) => {
-            assert_eq!(rt; job.taken_apart(), id);
-            rt.panic("memory")
-        }
-    }
+    same(rt, add_one(rt, pool, keep, pass, priority, id), (0, index));
 }
 
 // Adds the first tasks of a pass, each with its priority and id. (A loop, since each add in a row of calls makes the next one dearer to prove.)
@@ -247,17 +286,15 @@ fn work_at<J: Job<Vec<u64>>, R: Abort + Wait>(
 }
 
 // What is left of a pool that is joined: the records of all of its tasks, which are so many, and nothing that is handed back.
-fn all_ran<J: Numbered, R: Abort>(rt: &R, end: PoolEnd<J>, tasks: u64) -> Runs {
+fn all_ran<J: Numbered, R: Abort>(rt: &R, end: PoolEnd<J>, tasks: usize) -> Runs {
     let PoolEnd {
         accepted,
         ran,
         mut returned,
     } = end;
-    assert_eq!(rt;
-        (accepted, ran.len() as u64, ran.stopped(), returned.len()),
-        (tasks, tasks, false, 0)
-    );
-    assert!(rt; next_back(&mut returned).is_none());
+    let found = (accepted, ran.len(), ran.stopped(), returned.len());
+    same(rt, found, (tasks as u64, tasks, false, 0));
+    same(rt, next_back(&mut returned), None);
     ran
 }
 
@@ -269,7 +306,7 @@ fn end_join<J: Numbered, R: Abort + Wait>(
     joining: Joining<J>,
     ends: Vec<WorkerEnd<J>>,
     world: &mut Vec<u64>,
-    tasks: u64,
+    tasks: usize,
 ) -> Runs
     requires pool { joining.pool ≡ pool.id }
     requires passes { AreAllPasses pool.id pool.adders joining.passes }
@@ -290,13 +327,11 @@ fn some_ran<J: Headed, R: Abort>(rt: &R, end: PoolEnd<J>, tasks: usize) -> (Runs
         ran,
         returned,
     } = end;
-    assert_eq!(rt;
-        (
-            accepted,
-            ran.stopped(),
-            ran.len().saturating_add(returned.len())
-        ),
-        (tasks as u64, true, tasks)
+    let all = ran.len().saturating_add(returned.len());
+    same(
+        rt,
+        (accepted, ran.stopped(), all),
+        (tasks as u64, true, tasks),
     );
     (ran, returned)
 }
@@ -533,6 +568,26 @@ fn add_and_halt<J: Numbered, R: Abort + Wait>(
     begin_to_stop(rt, alloc, pool, owner, keep, pass)
 }
 
+// Works with the one worker of a pool, and joins it.
+fn work_and_join<J: Numbered, R: Abort + Wait>(
+    rt: &R,
+    alloc: Global,
+    pool: Pool<J>,
+    joining: Joining<J>,
+    workers: Vec<WorkerPass<J>>,
+    world: &mut Vec<u64>,
+    tasks: usize,
+) -> Runs
+    requires pool { joining.pool ≡ pool.id }
+    requires passes { AreAllPasses pool.id pool.adders joining.passes }
+    requires workers { All (λ w. w.pool ≡ pool.id) workers.items }
+    requires one { (length workers.items ≡ 1) × (pool.workers ≡ 1) }
+    requires helpers { pool.helpers ≡ 0 }
+{
+    let ends = work_at(rt, alloc, &pool, workers, world);
+    end_join(rt, alloc, pool, joining, ends, world, tasks)
+}
+
 // Adds tasks, joins, and works. The tasks have to run in this order, and each has to have its record.
 fn run_rows<J: Numbered, R: Abort + Wait>(
     rt: &R,
@@ -551,11 +606,9 @@ fn run_rows<J: Numbered, R: Abort + Wait>(
     helpers.destroy_empty();
     let joining = add_and_join(rt, alloc, &pool, adding, rows);
     let mut world = Vec::new(alloc);
-    let ends = work_at(rt, alloc, &pool, workers, &mut world);
-    let tasks = rows.len() as u64;
-    let ran = end_join(rt, alloc, pool, joining, ends, &mut world, tasks);
-    assert_eq!(rt; ids(rt, alloc, ran).as_slice(), expected);
-    assert_eq!(rt; world.as_slice(), expected);
+    let ran = work_and_join(rt, alloc, pool, joining, workers, &mut world, rows.len());
+    check_list(rt, ids(rt, alloc, ran), expected);
+    check_list(rt, world, expected);
 }
 
 #[test]
@@ -569,6 +622,28 @@ fn an_empty_pool_ends(rt: HostRuntime) {
     run_rows::<Note, HostRuntime>(&rt, rt.alloc(), &[], &[]);
 }
 
+// Works with the one worker of a pool, and stops it. None of its tasks ran, and all of them come back.
+fn work_and_stop<J: Job<Vec<u64>>, R: Abort + Wait>(
+    rt: &R,
+    alloc: Global,
+    pool: Pool<J>,
+    stopping: Stopping<J>,
+    workers: Vec<WorkerPass<J>>,
+    tasks: usize,
+) -> Returned<J>
+    requires pool { stopping.pool ≡ pool.id }
+    requires passes { AreAllPasses pool.id pool.adders stopping.passes }
+    requires workers { All (λ w. w.pool ≡ pool.id) workers.items }
+    requires one { (length workers.items ≡ 1) × (pool.workers ≡ 1) }
+    requires helpers { pool.helpers ≡ 0 }
+{
+    let mut world = Vec::new(alloc);
+    let ends = work_at(rt, alloc, &pool, workers, &mut world);
+    let (ran, returned) = end_stop(rt, alloc, pool, stopping, ends, tasks);
+    same(rt, (ran.len(), returned.len(), world.len()), (0, tasks, 0));
+    returned
+}
+
 // Stops a pool with two tasks, and hands out what comes back.
 fn stop_two<J: Numbered, R: Abort + Wait>(rt: &R, alloc: Global) -> Returned<J> {
     let Opened {
@@ -579,31 +654,51 @@ fn stop_two<J: Numbered, R: Abort + Wait>(rt: &R, alloc: Global) -> Returned<J> 
     } = open_pool::<J, R>(rt, alloc, 1, 0);
     helpers.destroy_empty();
     let stopping = add_and_halt(rt, alloc, &pool, adding, &[(0, 20), (0, 21)]);
-    let mut world = Vec::new(alloc);
-    let ends = work_at(rt, alloc, &pool, workers, &mut world);
-    let (ran, returned) = end_stop(rt, alloc, pool, stopping, ends, 2);
-    assert_eq!(rt; (ran.len(), returned.len(), world.len()), (0, 2, 0));
-    returned
+    work_and_stop(rt, alloc, pool, stopping, workers, 2)
+}
+
+// The job that comes back first.
+fn first_back<J: Numbered, R: Abort>(rt: &R, returned: &mut Returned<J>) -> J {
+    let (ticket, job) = returned.pop().expect(rt, "a task");
+    same(rt, (ticket.adder, ticket.index, job.id().0), (0, 0, 20));
+    job
+}
+
+// Runs the job that comes back next.
+fn run_back<J: Numbered, R: Abort + Wait>(
+    rt: &R,
+    returned: &mut Returned<J>,
+    world: &mut Vec<u64>,
+) -> RunRecord {
+    returned.run_next(rt, world).expect(rt, "a task")
+}
+
+// Compares the record of a task of the executor 7: its index, its queue, its id, and the number that its run marks as done.
+fn check_record<R: Abort>(rt: &R, record: &RunRecord, place: (u64, u32, u64), number: u64) {
+    let found = (record.ticket().index, record.queue(), record.job().0);
+    same(rt, found, place);
+    same(
+        rt,
+        (record.exec(), record.mark()),
+        (ExecId(7), Mark::Done(number)),
+    );
+}
+
+// Runs a job outside of the pool.
+fn run_outside<J: Numbered, R: Abort + Wait>(rt: &R, job: J, world: &mut Vec<u64>) {
+    let direct = run_direct(rt, 2, job, world);
+    let found = (direct.queue(), direct.job().0, direct.mark());
+    same(rt, found, (2, 20, Mark::Done(10)));
 }
 
 fn run_what_comes_back<J: Numbered, R: Abort + Wait>(rt: &R, alloc: Global) {
     let mut returned = stop_two::<J, R>(rt, alloc);
     let mut world = Vec::new(alloc);
-    let (ticket, job) = returned.pop().expect(rt, "a task");
-    assert_eq!(rt; (ticket.adder, ticket.index, job.id().0), (0, 0, 20));
-    let record = returned.run_next(rt, &mut world).expect(rt, "a task");
-    assert_eq!(rt;
-        (record.ticket().index, record.queue(), record.job().0),
-        (1, 1, 21)
-    );
-    assert_eq!(rt; (record.exec(), record.mark()), (ExecId(7), Mark::Done(10)));
+    let job = first_back(rt, &mut returned);
+    check_record(rt, &run_back(rt, &mut returned, &mut world), (1, 1, 21), 10);
     assert!(rt; returned.run_next(rt, &mut world).is_none());
-    let direct = run_direct(rt, 2, job, &mut world);
-    assert_eq!(rt;
-        (direct.queue(), direct.job().0, direct.mark()),
-        (2, 20, Mark::Done(10))
-    );
-    assert_eq!(rt; world.as_slice(), [21, 20].as_slice());
+    run_outside(rt, job, &mut world);
+    check_list(rt, world, &[21, 20]);
 }
 
 #[test]
@@ -659,6 +754,11 @@ fn each_once<R: Abort>(rt: &R, alloc: Global, ids: &[u64]) -> bool {
     true
 }
 
+// Each id below a thousand has to stand here once.
+fn check_once<R: Abort>(rt: &R, alloc: Global, ids: Vec<u64>) {
+    assert!(rt; each_once(rt, alloc, ids.as_slice()));
+}
+
 // All ends of a pool with four workers.
 fn four_ends<J: Headed, R: Abort>(
     rt: &R,
@@ -686,5 +786,5 @@ fn put_back_ids<J: Numbered, R: Abort>(rt: &R, ids: &mut Vec<u64>, mut returned:
         let id = next_back(&mut returned).expect(rt, "a task");
         ids.push(id).expect(rt, "memory");
     }
-    assert!(rt; next_back(&mut returned).is_none());
+    same(rt, next_back(&mut returned), None);
 }

@@ -83,9 +83,26 @@ fn help_once<J: Job<Vec<u64>>, R: Abort + Wait>(
     ensures { helper.new.pool ≡ helper.old.pool }
 {
     let before = world.len();
-    let ran = pool.help(rt, helper, world, &OpenGate) == Helped::Ran;
-    assert_eq!(rt; world.len().saturating_sub(before), usize::from(ran));
+    let ran = match pool.help(rt, helper, world, &OpenGate) {
+        Helped::Ran => true,
+        Helped::Empty => false,
+    };
+    same(rt, world.len().saturating_sub(before), usize::from(ran));
     ran
+}
+
+// Helps once, where it is known whether a job waits.
+fn check_help<J: Job<Vec<u64>>, R: Abort + Wait>(
+    rt: &R,
+    pool: &Pool<J>,
+    helper: &mut HelperPass<J>,
+    world: &mut Vec<u64>,
+    waits: bool,
+)
+    requires { helper.old.pool ≡ pool.now.id }
+    ensures { helper.new.pool ≡ helper.old.pool }
+{
+    same(rt, help_once(rt, pool, helper, world), waits);
 }
 
 // Adds a thousand jobs and helps after each, lets the keep-alive go, and begins to join.
@@ -147,7 +164,7 @@ fn a_helper_beside_a_worker(rt: HostRuntime) {
     let helped = only_helped(&rt, alloc, &pool, helped);
     let mut world = Vec::new(alloc);
     let ran = all_ran(&rt, pool.join(&rt, joining, ends, helped, &mut world), 1000);
-    assert!(rt; each_once(&rt, alloc, ids(&rt, alloc, ran).as_slice()));
+    check_once(&rt, alloc, ids(&rt, alloc, ran));
 }
 
 // Stops a pool with a worker and a helper. Of four jobs one ran, and three come back.
@@ -168,11 +185,32 @@ fn end_stopped<J: Headed, R: Abort + Wait>(
     let ends = all_ends(rt, alloc, &pool, end);
     let helped = only_helped(rt, alloc, &pool, helped);
     let (ran, returned) = some_ran(rt, pool.stop(rt, stopping, ends, helped), 4);
-    assert_eq!(rt; (ran.len(), returned.len()), (1, 3));
+    same(rt, (ran.len(), returned.len()), (1, 3));
     returned
 }
 
-// Helps where there is no job, adds four, helps with the first, and stops. Three come back.
+// Helps where there is no job, adds four, and helps with the first.
+fn help_beside_four<J: Numbered, R: Abort + Wait>(
+    rt: &R,
+    pool: &Pool<J>,
+    keep: &KeepAlive,
+    pass: &mut PoolPass<J>,
+    helper: &mut HelperPass<J>,
+    world: &mut Vec<u64>,
+)
+    requires keep { keep.now.count ≡ pool.now.count }
+    requires pass { (pass.old.pool ≡ pool.now.id) × (adds_of pass.old ≡ []) }
+    requires helper { helper.old.pool ≡ pool.now.id }
+    requires exec { pool.now.exec.0 ≡ 7 }
+    ensures pass { pass.new.pool ≡ pass.old.pool }
+    ensures helper { helper.new.pool ≡ helper.old.pool }
+{
+    check_help(rt, pool, helper, world, false);
+    add_rows(rt, pool, keep, pass, &[(0, 0), (0, 1), (0, 2), (0, 3)]);
+    check_help(rt, pool, helper, world, true);
+}
+
+// Adds four jobs, of which the helper runs one, and stops. Three come back.
 fn stop_four<J: Numbered, R: Abort + Wait>(
     rt: &R,
     alloc: Global,
@@ -185,34 +223,35 @@ fn stop_four<J: Numbered, R: Abort + Wait>(
         helpers,
     } = open_pool::<J, R>(rt, alloc, 1, 1);
     let mut helper = only_helper(rt, &pool, helpers);
-    assert!(rt; !help_once(rt, &pool, &mut helper, world));
     let Adding {
         owner,
         keep,
         mut pass,
     } = adding;
-    add_rows(
-        rt,
-        &pool,
-        &keep,
-        &mut pass,
-        &[(0, 0), (0, 1), (0, 2), (0, 3)],
-    );
-    assert!(rt; help_once(rt, &pool, &mut helper, world));
+    help_beside_four(rt, &pool, &keep, &mut pass, &mut helper, world);
     let stopping = begin_to_stop(rt, alloc, &pool, owner, keep, pass);
     let end = work_kept(rt, alloc, &pool, only_worker(rt, &pool, workers));
     end_stopped(rt, alloc, pool, stopping, end, helper.end())
 }
 
+// Compares the ids of the jobs that come back, which are taken apart.
+fn check_back<J: Numbered, R: Abort>(
+    rt: &R,
+    alloc: Global,
+    returned: Returned<J>,
+    expected: &[u64],
+) {
+    let mut back = Vec::new(alloc);
+    put_back_ids(rt, &mut back, returned);
+    check_list(rt, back, expected);
+}
+
 fn stop_three<J: Numbered, R: Abort + Wait>(rt: &R, alloc: Global) {
     let mut world = Vec::new(alloc);
     let mut returned = stop_four::<J, R>(rt, alloc, &mut world);
-    let record = returned.run_next(rt, &mut world).expect(rt, "a task");
-    assert_eq!(rt; (record.job(), record.mark()), (JobId(1), Mark::Done(1)));
-    let mut back = Vec::new(alloc);
-    put_back_ids(rt, &mut back, returned);
-    assert_eq!(rt; back.as_slice(), [2, 3].as_slice());
-    assert_eq!(rt; world.as_slice(), [0, 1].as_slice());
+    check_record(rt, &run_back(rt, &mut returned, &mut world), (1, 1, 1), 1);
+    check_back(rt, alloc, returned, &[2, 3]);
+    check_list(rt, world, &[0, 1]);
 }
 
 #[test]

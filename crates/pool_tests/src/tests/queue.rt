@@ -2,7 +2,7 @@
 ghost use Rattle.std.specs.Prelude.{◌≡◌, ◌<◌, [], Some};
 ghost use Rattle.pool_model.specs.declared.task.Ending.TheVariants.{Stops};
 
-use super::{Note, Numbered};
+use super::{Note, Numbered, same};
 use fan_base::Refused;
 use job_trait::Headed;
 use keep_alive::{KeepAlive, KeepOwner};
@@ -52,24 +52,42 @@ fn take_next<J: Numbered, R: Wait>(
     }
 }
 
-// Whether an adder's first task was accepted.
-fn push_first<J: Numbered, R: Wait>(
+// Takes a task, of which the job has to have this id; where it is 0, the queue has to be empty.
+fn check_take<J: Numbered, R: Abort + Wait>(
+    rt: &R,
+    queue: &TaskQueue<J>,
+    taker: &mut Taker<J>,
+    looks: &mut Looks<J>,
+    id: u64,
+)
+    requires { taker.old.queue ≡ queue.now }
+    ensures { taker.new.queue ≡ taker.old.queue }
+{
+    same(rt, take_next(rt, queue, taker, looks), id);
+}
+
+// Takes a task apart that was refused, and ends the test.
+fn refused<J: Numbered, R: Abort>(rt: &R, task: Queued<J>) -> ! {
+    let _ = id_of(task);
+    rt.panic("memory")
+}
+
+// Pushes an adder's first task, for which there has to be memory.
+fn push_first<J: Numbered, R: Abort + Wait>(
     rt: &R,
     queue: &TaskQueue<J>,
     adder: &mut Adder<J>,
-    task: Queued<J>,
-) -> bool
+    number: u32,
+    id: u64,
+)
     requires queue { adder.old.queue ≡ queue.now }
-    requires number { task.ticket.adder ≡ adder.old.number }
+    requires number { number ≡ adder.old.number }
     requires first { adder.old.pushed ≡ [] }
     ensures { (adder.new.queue ≡ adder.old.queue) × (adder.new.passes ≡ adder.old.passes) }
 {
-    match queue.push(rt, adder, task) {
-        Ok(()) => true,
-        Err(Refused::Memory(task)) => {
-            let _ = id_of(task);
-            false
-        }
+    match queue.push(rt, adder, make_task(number, 0, id)) {
+        Ok(()) => {}
+        Err(Refused::Memory(task)) => refused(rt, task),
     }
 }
 
@@ -91,19 +109,22 @@ fn end_queue<J: Headed, R: Wait>(
     queue.settle(rt, all)
 }
 
+// Compares what is left: one task.
+fn check_left<J: Numbered, R: Abort>(rt: &R, mut left: Packets<Queued<J>>, id: u64) {
+    same(rt, (next(&mut left), next(&mut left)), (id, 0));
+}
+
 fn pass_two<J: Numbered, R: Abort + Wait>(rt: &R, alloc: Global) {
     let (queue, mut maker) = TaskQueue::<J>::new(alloc, 3).expect(rt, "memory");
     let mut first = queue.next_adder(&mut maker);
     let mut second = queue.next_adder(&mut maker);
     let mut taker = queue.next_taker(&mut maker);
     let mut looks = Looks::new();
-    assert_eq!(rt; take_next(rt, &queue, &mut taker, &mut looks), 0);
-    let a = push_first(rt, &queue, &mut first, make_task(0, 0, 10));
-    let b = push_first(rt, &queue, &mut second, make_task(1, 0, 11));
-    assert_eq!(rt; (a, b), (true, true));
-    assert_eq!(rt; take_next(rt, &queue, &mut taker, &mut looks), 10);
-    let mut left = end_queue(rt, queue, first, second, taker);
-    assert_eq!(rt; (next(&mut left), next(&mut left)), (11, 0));
+    check_take(rt, &queue, &mut taker, &mut looks, 0);
+    push_first(rt, &queue, &mut first, 0, 10);
+    push_first(rt, &queue, &mut second, 1, 11);
+    check_take(rt, &queue, &mut taker, &mut looks, 10);
+    check_left(rt, end_queue(rt, queue, first, second, taker), 11);
 }
 
 #[test]
@@ -111,12 +132,18 @@ fn tasks_leave_in_order_and_the_rest_is_handed_out(rt: HostRuntime) {
     pass_two::<Note, HostRuntime>(&rt, rt.alloc());
 }
 
-// What a look finds. The watch stays one of this mark.
-fn look_at<J>(mark: &EndMark, watch: &mut Watch, looks: &mut Looks<J>) -> Option<Ending>
+// Looks at the mark, and compares what it finds. The watch stays one of this mark.
+fn check_look<J, R: Abort>(
+    rt: &R,
+    mark: &EndMark,
+    watch: &mut Watch,
+    looks: &mut Looks<J>,
+    expected: Option<Ending>,
+)
     requires { watch.old.mark ≡ mark.now.mark }
     ensures { watch.new.mark ≡ watch.old.mark }
 {
-    mark.look(watch, looks)
+    same(rt, mark.look(watch, looks), expected);
 }
 
 // Sets the mark to a stop, once the keep-alive has been released.
@@ -147,12 +174,12 @@ fn set_once<J, R: Abort + Wait>(rt: &R, alloc: Global) {
     let mut worker = mark.watch(&mut all);
     let mut looks: Looks<J> = Looks::new();
     let other = mark.one_part(&mut all);
-    assert_eq!(rt; look_at(mark, &mut worker, &mut looks), None);
+    check_look(rt, mark, &mut worker, &mut looks, None);
     mark.put_parts(&mut all, other);
     let mut begun = begin_to_stop(rt, &kept, owner, keep, all);
-    assert_eq!(rt; look_at(mark, &mut worker, &mut looks), Some(Ending::Stops));
+    check_look(rt, mark, &mut worker, &mut looks, Some(Ending::Stops));
     mark.agree(&mut begun, worker);
-    assert_eq!(rt; look_at(mark, &mut begun, &mut looks), Some(Ending::Stops));
+    check_look(rt, mark, &mut begun, &mut looks, Some(Ending::Stops));
 }
 
 #[test]

@@ -302,7 +302,7 @@ fn end_joined<J: Numbered, R: Abort + Wait>(
     joining: Joining<J>,
     ends: Vec<WorkerEnd<J>>,
     counts: &CountGate,
-    tasks: u64,
+    tasks: usize,
 ) -> Runs
     requires pool { joining.pool ≡ pool.id }
     requires passes { AreAllPasses pool.id pool.adders joining.passes }
@@ -311,8 +311,8 @@ fn end_joined<J: Numbered, R: Abort + Wait>(
 {
     let mut world = Vec::new(alloc);
     let ran = end_join(rt, alloc, pool, joining, ends, &mut world, tasks);
-    assert_eq!(rt; world.len(), 0);
-    assert_eq!(rt; counts.passed(), (tasks, 0));
+    same(rt, world.len(), 0);
+    same(rt, counts.passed(), (tasks as u64, 0));
     ran
 }
 
@@ -330,7 +330,7 @@ fn four_workers_run_a_thousand_tasks(rt: HostRuntime) {
     let joining = add_and_begin_join(&rt, alloc, &pool, adding);
     let ends = four_work_at(&rt, alloc, &pool, &counts, workers);
     let ran = end_joined(&rt, alloc, pool, joining, ends, &counts, 1000);
-    assert!(rt; each_once(&rt, alloc, ids(&rt, alloc, ran).as_slice()));
+    check_once(&rt, alloc, ids(&rt, alloc, ran));
 }
 
 // One by one, and as a stream: groups of tasks, and how many each has.
@@ -363,7 +363,7 @@ fn no_task_is_slept_through(rt: HostRuntime) {
                 requires one { (shared.now.adders ≡ 1) × (shared.now.exec.0 ≡ 7) }
             { add_in_groups(&rt, alloc, shared, gate, groups, size, adding.open()) },
         );
-        let _ = end_joined(&rt, alloc, pool, joining, ends, &counts, tasks);
+        let _ = end_joined(&rt, alloc, pool, joining, ends, &counts, tasks as usize);
     }
 }
 
@@ -385,12 +385,12 @@ fn end_halted<J: Numbered, R: Abort + Wait>(
     let (ran, returned) = end_stop(rt, alloc, pool, stopping, ends, 1000);
     let records = ran.len();
     if counts.most == 400 {
-        assert_eq!(rt; records, 404);
+        same(rt, records, 404);
     }
-    assert_eq!(rt; counts.passed(), (records as u64, 0));
+    same(rt, counts.passed(), (records as u64, 0));
     let mut all = ids(rt, alloc, ran);
     put_back_ids(rt, &mut all, returned);
-    assert!(rt; each_once(rt, alloc, all.as_slice()));
+    check_once(rt, alloc, all);
 }
 
 // The gate lets 400 tasks begin, and holds each of the four workers at its next one until the stop has begun; or it holds none.
