@@ -43,8 +43,8 @@ fn place_last<T, L: Ledger>(
     Ok(false)
 }
 
-// Places the entries of a wheel's slot anew, where the slot's turn comes with the next tick. Their ids are touched before, so that the
-// processor fetches what the table has of them side by side, and not one by one.
+// Places the entries of a wheel's slot anew, where the slot's turn comes with the next tick. Where many ids are held, the slot's are touched
+// before, so that the processor fetches what the table has of them side by side, and not one by one.
 fn cascade<T, L: Ledger>(
     alloc: Global,
     book: &mut Book<T>,

@@ -45,7 +45,7 @@ fn fire_first<T, L: Ledger>(
     fired.push_reserved(entry.item);
 }
 
-// What is due at the next tick leaves, in order of scheduling; there is room for it. The ids are touched before, as a cascade does.
+// What is due at the next tick leaves, in order of scheduling; there is room for it. Where there are several, their ids are touched before.
 fn fire<T, L: Ledger>(
     book: &mut Book<T>,
     keys: &[(u64, u64)],
