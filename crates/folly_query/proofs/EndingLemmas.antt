@@ -18,14 +18,15 @@ use Rattle.run_notes.specs.Told.{note_of, told_of}
 use Rattle.run_ending.specs.declared.end.FanEnd.{FanEnd}
 use Rattle.run_ending.specs.declared.end.FanOutcome.{FanOutcome}
 use Rattle.run_ending.specs.declared.end.FanOutcome.TheVariants as outcome
-use Rattle.run_ending.specs.Ends.{IsReported, Reports, ReportsAs}
+use Rattle.run_notes.specs.declared.notes.PoolNote.{PoolNote}
+use Rattle.run_ending.specs.Ends.{IsReported, IsStopTold, Reports, ReportsAs}
 use Rattle.fanout.specs.Asked.{Writes}
 use Rattle.folly_query.specs.declared.report.Report.{Report}
 use Rattle.folly_query.specs.declared.report.Status.{Status}
 use Rattle.folly_query.specs.declared.report.Status.TheVariants as status
 use Rattle.reply_printer.specs.Passing.{Gains}
 use Rattle.folly_query.specs.Passing.{ReadsAll, ReadsTooMuch}
-use Rattle.folly_query.specs.Endings.{Comes, EndsAs, EndsBy, RefusesAs, SumsUpAs, SumsUpBy, IsWritten, WritesAs, asked_of, summary_by}
+use Rattle.folly_query.specs.Endings.{Comes, EndsAs, EndsBy, RefusesAs, SumsUpAs, SumsUpBy, TellsPool, IsWritten, WritesAs, asked_of, summary_by}
 use Rattle.folly_query.specs.Reports.{TellsAll, asked_by, status_of}
 
 pub written_or_front : {E G F R : Type 0} (r : Result (Unit {0}) E) → OnOk r G → OnErr r F → OnErr r R → G ⊎ (F × R)
@@ -124,6 +125,14 @@ module _ (settings : Settings) (source source' sink sink' : Shown) (text : Bytes
       by outcome.Done gains told = (text, all, input, accepted, gains, whole told)
       by outcome.Memory front told = inr (text, all, output input, inl (input, accepted, refl), front)
       by outcome.WriteFault failed told = (text, all, input, accepted, failed.0, failed.1, whole told)
+
+  pub tells_pool : (pool told : Option PoolNote) → pool ≡ told → ReadsAll source source' text → Accepts text settings.shards input
+      → IfSome told (IsStopTold (asked_by settings input.lines)) → IfSome pool (TellsPool settings source source')
+  tells_pool pool told is all accepted stopped = subst (λ p. IfSome p (TellsPool settings source source')) (sym is) (by told stopped)
+    where
+      by : (p : Option PoolNote) → IfSome p (IsStopTold (asked_by settings input.lines)) → IfSome p (TellsPool settings source source')
+      by None stopped = tt
+      by (Some note) stopped = (text, all, input, accepted, stopped)
 
   pub run_comes : (found : Status) (o : FanOutcome) → found ≡ status_of o → ReadsAll source source' text → ((bad : BadInput) → Refuses text settings.shards bad → ⊥) → Writes input sink sink' o
       → IfSome source.bytes (λ bytes. Comes settings.shards bytes source source' sink sink' found)

@@ -4,7 +4,8 @@ ghost use Rattle.query_words.specs.declared.command.Settings.{Settings};
 ghost use Rattle.query_words.specs.declared.command.Generation.{Generation};
 ghost use Rattle.query_words.specs.Grammar.{IsCommand, IsOutside};
 ghost use Rattle.query_words.specs.Laws.{AreSettingsInRange};
-ghost use Rattle.folly_query.specs.Endings.{Comes, EndsAs, ReadsAccepted, RefusesAs, SumsUpAs};
+ghost use Rattle.run_ending.specs.Ends.{IsStopTold};
+ghost use Rattle.folly_query.specs.Endings.{Comes, EndsAs, RefusesAs, SumsUpAs, TellsPool, asked_of};
 ghost use Rattle.folly_query.specs.Reports.{IsRefusal, TellsNothing};
 
 use crate::answer::answer;
@@ -56,11 +57,16 @@ pub fn query_main<S: Source, K: Sink + Send, G: Gate, R: Threads + Wait + Sync>(
         SumsUpAs generation settings (shown (K.holds sink.old) (K.faults sink.old)) (shown (K.holds sink.new) (K.faults sink.new)) result }
     ensures unread { (generation : Generation) (settings : Settings) → IsCommand words.now (Command.Generate generation settings) → source.new ≡ source.old }
 
-    // Where the words or the input are refused nothing runs, and there is a pool only where they are accepted. Without a pool nothing is told.
+    // Where the words or the input are refused nothing runs. Without a pool nothing is told.
     ensures nothing { IsRefusal result.status → TellsNothing result }
     ensures unmade { result.pool ≡ None → TellsNothing result }
-    ensures pool { (settings : Settings) → IsCommand words.now (Command.Run settings) → IfSome result.pool (λ _. ReadsAccepted settings.shards
+
+    // There is a pool only where words and input are accepted. Where there is one, whatever the status, it was stopped exactly where the settings ask
+    // for it, and of a stopped one each record of what it ran is of one of the first early tasks, no two of one.
+    ensures pool { (settings : Settings) → IsCommand words.now (Command.Run settings) → IfSome result.pool (TellsPool settings
         (shown (S.left source.old) (S.faults source.old)) (shown (S.left source.new) (S.faults source.new))) }
+    ensures made_up_pool { (generation : Generation) (settings : Settings) → IsCommand words.now (Command.Generate generation settings) →
+        IfSome result.pool (IsStopTold (asked_of generation settings)) }
 {
     words_are_at_most_one_command();
     commands_are_in_range();
@@ -91,7 +97,7 @@ fn run<S: Source, K: Sink + Send, G: Gate, R: Threads + Wait + Sync>(
     ensures unwritten { (result.status ≡ Status.ReadFault) ⊎ (result.status ≡ Status.TooLarge) → sink.new ≡ sink.old }
     ensures nothing { IsRefusal result.status → TellsNothing result }
     ensures unmade { result.pool ≡ None → TellsNothing result }
-    ensures pool { IfSome result.pool (λ _. ReadsAccepted settings.shards
+    ensures pool { IfSome result.pool (TellsPool settings
         (shown (S.left source.old) (S.faults source.old)) (shown (S.left source.new) (S.faults source.new))) }
 {
     let text = match read_all(alloc, source) {

@@ -45,19 +45,35 @@ fn one_worker_runs_tasks_one_after_another(rt: HostRuntime) -> Result<(), Fail> 
     Ok(())
 }
 
-// The last task of the first query finds no byte written, and the first task of the second query waits for a line.
-#[test]
-fn a_reply_is_printed_while_a_later_task_waits(rt: HostRuntime) -> Result<(), Fail> {
+// Whether the last task of the first query finds no byte written, and another task, which waits for a line, sees one.
+fn line_comes<R: AllocGlobal + Abort + Threads + Wait + Sync>(
+    rt: &R,
+    waits: JobId,
+    turns: u64,
+) -> Result<bool, Fail> {
     let alloc = rt.alloc();
     let words = args(alloc, "run")?;
     let input = Vec::from_slice(alloc, b"doc 7 red apple\ndoc 4 red\nfind red\ncount red\n")?;
     let mut source = MemSource::new(input, 100, Vec::new(alloc));
-    let gate = LineGate::new(JobId(67), JobId(128), TURNS);
+    let gate = LineGate::new(JobId(67), waits, turns);
     let mut sink = LineSink::new(&gate, MemSink::new(alloc, 1000, 1000, Vec::new(alloc))?);
-    let report = query_main(&rt, alloc, &words, &mut source, &mut sink, &gate);
+    let report = query_main(rt, alloc, &words, &mut source, &mut sink, &gate);
     assert_eq!(rt; report.status, Status::Done);
     let written = sink.into_inner();
     assert_eq!(rt; written.bytes(), b"1 find 2: 4 7\n2 count 2\n".as_slice());
-    assert!(rt; gate.met());
+    Ok(gate.met())
+}
+
+// The first task of the second query waits.
+#[test]
+fn a_reply_is_printed_while_a_later_task_waits(rt: HostRuntime) -> Result<(), Fail> {
+    assert!(rt; line_comes(&rt, JobId(128), TURNS)?);
+    Ok(())
+}
+
+// A task of the first query waits, without which there is no line. So it is in a run that prints behind all tasks.
+#[test]
+fn no_reply_comes_before_its_tasks(rt: HostRuntime) -> Result<(), Fail> {
+    assert!(rt; !line_comes(&rt, JobId(64), FEW_TURNS)?);
     Ok(())
 }

@@ -150,9 +150,24 @@ fn red() -> ReportRow {
     )
 }
 
-fn joined_runs() -> [ReportRow; 6] {
+/// An input that is made up, of nothing.
+fn made_up() -> ReportRow {
+    ReportRow {
+        words: "gen 5 0 0",
+        ..usual_row(
+            "",
+            "documents 0 queries 0 lines 0 bytes 0 sum 0\n",
+            &[],
+            &[0, 0, 0],
+            [0; 5],
+        )
+    }
+}
+
+fn joined_runs() -> [ReportRow; 7] {
     [
         usual_row("", "", &[], &[0, 0, 0], [0; 5]),
+        made_up(),
         red(),
         usual_row("after 5 find a\n", "1 cancelled\n", &[], &[0, 0, 1], [0; 5]),
         usual_row(

@@ -2,7 +2,8 @@ use Rattle.std.proofs.Common.{subst}
 use Rattle.std.specs.Option.{IfSome}
 use Rattle.fan_base.specs.Outside.{shown}
 use Rattle.query_words.specs.declared.command.Command.TheVariants as command
-use Rattle.folly_query.specs.Endings.{Comes, EndsAs, ReadsAccepted, SumsUpAs}
+use Rattle.run_ending.specs.Ends.{IsStopTold}
+use Rattle.folly_query.specs.Endings.{Comes, EndsAs, SumsUpAs, TellsPool, asked_of}
 use Rattle.folly_query.proofs.CommandLemmas.{same_generation, same_settings, same_settings_of_it}
 use Rattle.folly_query.proofs.run.query_main.Goals as goal
 
@@ -23,7 +24,7 @@ returns-in-Some-Run-clause-comes g c = λ settings is.
 
 pub returns-in-Some-Run-clause-pool : goal.returns-in-Some-Run-clause-pool
 returns-in-Some-Run-clause-pool g c = λ settings is.
-    subst (λ s. IfSome c.run.result.pool (λ _. ReadsAccepted s.shards
+    subst (λ s. IfSome c.run.result.pool (TellsPool s
     (shown (g.S.Source.left c.args.source.now) (g.S.Source.faults c.args.source.now)) (shown (g.S.Source.left c.run.new.source) (g.S.Source.faults c.run.new.source))))
     (same_settings c.words_are_at_most_one_command.ensures c.args.words.now c.in-Some-Run.field-0 c.in-Some-Run.settings settings c.in-Some-Run.ensures.some c.in-Some-Run.field-0-is is)
     c.run.ensures.pool
@@ -39,6 +40,16 @@ returns-in-Some-Generate-clause-sums_up g c = λ generation settings is.
     (same_settings_of_it c.words_are_at_most_one_command.ensures c.args.words.now c.in-Some-Generate.field-0 c.in-Some-Generate.generation generation c.in-Some-Generate.settings settings
     c.in-Some-Generate.ensures.some c.in-Some-Generate.field-0-is is)
     c.sum_up.ensures.ends)
+
+pub returns-in-Some-Generate-clause-made_up_pool : goal.returns-in-Some-Generate-clause-made_up_pool
+returns-in-Some-Generate-clause-made_up_pool g c = λ generation settings is.
+    subst (λ n. IfSome c.sum_up.result.pool (IsStopTold (asked_of n settings)))
+    (same_generation c.words_are_at_most_one_command.ensures c.args.words.now c.in-Some-Generate.field-0 c.in-Some-Generate.generation generation c.in-Some-Generate.settings settings
+    c.in-Some-Generate.ensures.some c.in-Some-Generate.field-0-is is)
+    (subst (λ s. IfSome c.sum_up.result.pool (IsStopTold (asked_of c.in-Some-Generate.generation s)))
+    (same_settings_of_it c.words_are_at_most_one_command.ensures c.args.words.now c.in-Some-Generate.field-0 c.in-Some-Generate.generation generation c.in-Some-Generate.settings settings
+    c.in-Some-Generate.ensures.some c.in-Some-Generate.field-0-is is)
+    c.sum_up.ensures.stopped)
 
 pub returns-in-None-clause-ends : goal.returns-in-None-clause-ends
 returns-in-None-clause-ends g c = λ settings is. absurd (c.in-None.ensures.none (command.Run settings) is)

@@ -4,7 +4,7 @@ use Rattle.line_table.specs.declared.table.LineTable.{LineTable}
 use Rattle.query_text.specs.Outcomes.{AreLinesOf, IsRefusal}
 use Rattle.folly_query.specs.Endings.{RefusesAs}
 use Rattle.folly_query.specs.Passing.{ReadsAll}
-use Rattle.folly_query.proofs.EndingLemmas.{refusal_comes, refused_ends, run_comes, run_ends}
+use Rattle.folly_query.proofs.EndingLemmas.{refusal_comes, refused_ends, run_comes, run_ends, tells_pool}
 use Rattle.folly_query.proofs.run.run.Goals as goal
 
 pub returns-in-Err-Bad-clause-ends : goal.returns-in-Err-Bad-clause-ends
@@ -49,3 +49,13 @@ returns-clause-comes g c =
     let all = subst (λ t. ReadsAll source source' t) (sym c.as_slice.ensures.value) c.in-Ok.ensures.all in
     run_comes c.args.settings source source' sink sink' c.as_slice.result.now (record { lines = c.in-Ok-read_lines.table }) c.of_run.result.status c.answer.result.outcome c.of_run.ensures.status all
     (λ bad r. c.in-Ok-read_lines.ensures.refuses bad r) c.answer.ensures.writes
+
+pub returns-clause-pool : goal.returns-clause-pool
+returns-clause-pool g c =
+    let source = shown (g.S.Source.left c.args.source.now) (g.S.Source.faults c.args.source.now) in
+    let source' = shown (g.S.Source.left c.read_all.new.source) (g.S.Source.faults c.read_all.new.source) in
+    let sink = shown (g.K.Sink.holds c.args.sink.now) (g.K.Sink.faults c.args.sink.now) in
+    let sink' = shown (g.K.Sink.holds c.answer.new.sink) (g.K.Sink.faults c.answer.new.sink) in
+    let all = subst (λ t. ReadsAll source source' t) (sym c.as_slice.ensures.value) c.in-Ok.ensures.all in
+    tells_pool c.args.settings source source' sink sink' c.as_slice.result.now (record { lines = c.in-Ok-read_lines.table }) c.of_run.result.pool c.answer.result.pool c.of_run.ensures.pool
+    all c.in-Ok-read_lines.ensures.accepted c.answer.ensures.stopped
