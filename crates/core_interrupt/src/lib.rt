@@ -39,8 +39,6 @@ mod raiser;
 mod rule;
 mod state;
 mod steps;
-#[cfg(test)]
-mod tests;
 mod view;
 
 pub use close::Remains;

@@ -21,8 +21,6 @@ mod inline;
 mod job;
 mod laws;
 mod manual;
-#[cfg(test)]
-mod tests;
 
 pub use executor::Executor;
 pub use inline::InlineExecutor;

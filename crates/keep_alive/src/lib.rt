@@ -26,8 +26,6 @@
 mod keep;
 mod rule;
 mod steps;
-#[cfg(test)]
-mod tests;
 mod view;
 
 pub use keep::{

@@ -1,6 +1,6 @@
 //! Callers of the runtime, each as short as a user would write it: a promise and its future, a continuation on an executor, a
 //! proxy, work that is deferred, a core by hand, a queue of messages, a pool, an event base, a collect and an interrupt.
-//! `docs/LIBRARY.md` goes through them. They are proved and tested, and nothing stands on them.
+//! `docs/LIBRARY.md` goes through them. They are proved, and nothing but their tests stands on them.
 #![tactic(auto)]
 
 mod chained;
@@ -13,8 +13,6 @@ mod pooled;
 mod promised;
 mod proxied;
 mod queued;
-#[cfg(test)]
-mod tests;
 
 pub use chained::{Arrived, Double, Doubling, DoublingJob, double_value};
 pub use collected::{Both, gather_two};

@@ -1,12 +1,12 @@
 //! Each caller once, with what must come of it.
 
-use crate::{
-    Deferral, Heard, ask_another, double_later, double_value, gather_two, hand_over, hear_both,
-    interrupt, keep, post_and_tick, run_two,
-};
 use core_word::Tally;
 use fan_base::{ExecId, JobId, Try};
 use notify_queue::{Stamp, Stamped};
+use runtime_examples::{
+    Deferral, Heard, ask_another, double_later, double_value, gather_two, hand_over, hear_both,
+    interrupt, keep, post_and_tick, run_two,
+};
 use std::test::Fail;
 
 #[test]

@@ -1,7 +1,9 @@
 // The rows of calls on both sides, a home that is closed between them, and two threads.
 ghost use Rattle.std.specs.Prelude.{◌≡◌, [], None, IfOk};
 
-use super::*;
+use core_interrupt::{
+    Heard, Hearer, InterruptHome, Raised, Raiser, Remains, State, armed_agrees, raise_where_armed,
+};
 use std::alloc::{AllocError, Global};
 use std::test::Fail;
 use std::thread;

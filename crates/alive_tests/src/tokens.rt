@@ -1,8 +1,8 @@
 // A count on one thread and on several.
 ghost use Rattle.std.specs.Prelude.{◌≡◌, None};
 
-use super::*;
 use fan_base::Memory;
+use keep_alive::{KeepAlive, KeepOwner, Receipt, Released, last_is_after_the_owner};
 use std::sync::Wait;
 use std::test::Fail;
 use std::thread::{Threads, join, join_mut};

@@ -3,7 +3,7 @@ use Rattle.std.proofs.lemmas.List.{take-append-drop}
 use mathlib.Core.List.{map-append}
 use Rattle.job_trait.specs.declared.job.Head.{Head}
 use Rattle.job_trait.specs.Runs.{RunsAll}
-use Rattle.job_trait.proofs.tests.run_in_two_parts.Goals as goal
+use Rattle.job_tests.proofs.rows.run_in_two_parts.Goals as goal
 
 pub returns-clause-ran : goal.returns-clause-ran
 returns-clause-ran g c =

@@ -1,6 +1,6 @@
 use Rattle.std.proofs.Common.{◌≡◌, ◌≤◌, ◌⊎◌, ⊎_elim, ℕ, List, [], ◌∷◌, ◌++◌, length, ap, arith}
 use Rattle.std.proofs.lemmas.List.{length-append}
-use Rattle.job_trait.proofs.tests.run_notes.Goals as goal
+use Rattle.job_tests.proofs.rows.run_notes.Goals as goal
 
 longer : (before after : List ℕ) (n : ℕ) → (after ≡ before ++ n ∷ []) ⊎ (after ≡ before) → length before ≤ length after
 longer before after n ran = ⊎_elim

@@ -3,8 +3,11 @@ ghost use Rattle.std.specs.Prelude.{◌≡◌, ◌⊎◌, ◌≤◌, [], ◌∷�
 ghost use Rattle.job_trait.specs.Marks.{IsDone};
 ghost use Rattle.job_trait.specs.Runs.{Leads, RunsAll, IsKnownBackwards, done_of};
 
-use super::*;
 use fan_base::{ExecId, JobId, Mark, Refused};
+use job_trait::{
+    Executor, Head, Headed, InlineExecutor, Job, ManualExecutor, OfJob, WorldFact, WorldRelation,
+    all_jobs_of_two_lists, all_jobs_were_done, related_by_each_run,
+};
 use std::alloc::Global;
 use std::sync::Wait;
 use std::test::Fail;
