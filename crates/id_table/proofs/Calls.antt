@@ -1,14 +1,14 @@
 -- What the calls of a table need: of its fields, and of the list that contracts see.
 use Rattle.std.proofs.Common.{◌≡◌, ◌≢◌, ℕ, ◌+◌, ◌-◌, ◌<◌, ◌∷◌, [], Bool, true, cond, nat_eq, List, length, get_or, set, replicate, refl, sym, ap, subst, ◌∙◌, arith, Some, None}
-use Rattle.id_table.specs.declared.cell.Cell.{Cell}
 use Rattle.id_table.specs.Pairs.{has_id, place_of, AreSame, AreDistinct}
-use Rattle.id_table.specs.Cells.{empty_cell, id_at, mark_at, pairs_of, counted, held}
+use Rattle.id_table.specs.Cells.{Cell, empty_cell, id_at, mark_at, pairs_of, counted, held}
 use Rattle.id_table.specs.Probed.{IsProbed, EndsLook}
 use Rattle.id_table.specs.Table.{IsTable, HasRoom}
 use Rattle.id_table.proofs.Counts.{by_same, counted_filled, filled_within, held-set, held-replicate}
 use Rattle.id_table.proofs.Changes.{length_pairs, once_distinct, found_place, missed_place, empty_place, free_held, added, set_probed, set_places, set_len}
 use Rattle.id_table.proofs.Rooms.{table_once, fresh_probed}
 use Rattle.std.proofs.lemmas.List.{length-replicate, nil_from_length}
+use Rattle.std.proofs.lemmas.Nat.{pow_below}
 
 module _ (bits len : ℕ) (cells : List Cell) (pairs : List (ℕ × ℕ)) (table : IsTable bits len cells) (view : pairs_of cells ≡ pairs) where
   pub len_of : len ≡ length pairs
@@ -27,6 +27,21 @@ module _ (bits len : ℕ) (cells : List Cell) (pairs : List (ℕ × ℕ)) (table
       let within = filled_within cells in
       let same = table.len_is in
       omega arith
+
+  -- there are at most 2^63 cells, half of them filled
+  pub few : len < 9223372036854775808
+  few = by_same (length cells) 0
+      (λ e.
+      let within = filled_within cells in
+      let same = table.len_is in
+      omega arith)
+      (λ ne.
+      let probed = table.probed (omega arith) in
+      let size = probed.sized.size in
+      let sparse = probed.sparse in
+      let same = table.len_is in
+      let most = pow_below bits 64 probed.sized.within in
+      omega arith)
 
   pub none_there : (id : ℕ) → length cells ≡ 0 → place_of pairs id ≡ None
   none_there id none = subst (λ (ps : List (ℕ × ℕ)). place_of ps id ≡ None) view (empty_place cells id none)

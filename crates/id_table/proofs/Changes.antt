@@ -2,9 +2,8 @@
 use Rattle.std.proofs.Common.{◌≡◌, ◌≢◌, ℕ, ◌+◌, ◌-◌, ◌<◌, ◌∷◌, [], Bool, true, false, cond, nat_eq, List, length, get_or, set, refl, sym, ap, subst, ◌∙◌, arith, length-set, Option, Some, None, ne_eqb, eq-eqb}
 use Rattle.std.specs.List.{count_by}
 use Rattle.std.proofs.lemmas.Bool.Decides.{nat_tests}
-use Rattle.id_table.specs.declared.cell.Cell.{Cell}
 use Rattle.id_table.specs.Pairs.{has_id, place_of, AreSame, AreDistinct}
-use Rattle.id_table.specs.Cells.{empty_cell, id_at, mark_at, pairs_of, counted, held, filled}
+use Rattle.id_table.specs.Cells.{Cell, empty_cell, id_at, mark_at, pairs_of, counted, held, filled}
 use Rattle.id_table.specs.Ring.{home_of, distance}
 use Rattle.id_table.specs.Probed.{IsOnce, IsReached, IsProbed, EndsLook}
 use Rattle.id_table.proofs.Counts.{by_same, counted_own, counted_other, counted_filled, held_pairs, held-set, counted-le-held, none_held}
@@ -91,10 +90,10 @@ added_len pairs new id place same =
 
 -- a pair less
 
-at_id : (q id : ℕ) (a b : Option ℕ) → q ≡ id → cond (nat_eq q id) a b ≡ a
+pub at_id : (q id : ℕ) (a b : Option ℕ) → q ≡ id → cond (nat_eq q id) a b ≡ a
 at_id q id a b e = rw (eq-eqb q id e) refl
 
-at_other : (q id : ℕ) (a b : Option ℕ) → q ≢ id → cond (nat_eq q id) a b ≡ b
+pub at_other : (q id : ℕ) (a b : Option ℕ) → q ≢ id → cond (nat_eq q id) a b ≡ b
 at_other q id a b ne = rw (ne_eqb q id ne) refl
 
 pub none_places : (pairs : List (ℕ × ℕ)) (id : ℕ) → place_of pairs id ≡ None

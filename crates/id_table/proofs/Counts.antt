@@ -3,9 +3,8 @@ use Rattle.std.proofs.Common.{◌≡◌, ◌≢◌, ℕ, zero, suc, ◌+◌, ◌
 use Rattle.std.specs.List.{count_by}
 use Rattle.std.proofs.lemmas.Bool.Decides.{nat_tests}
 use Rattle.std.proofs.lemmas.List.Sums.{sum_by-set, sum_by-cons, sum_by-append, get_or-le-sum_by}
-use Rattle.id_table.specs.declared.cell.Cell.{Cell}
 use Rattle.id_table.specs.Pairs.{has_id}
-use Rattle.id_table.specs.Cells.{empty_cell, id_at, mark_at, pair_of, pairs_of, counted, held, filled, first_empty}
+use Rattle.id_table.specs.Cells.{Cell, empty_cell, id_at, mark_at, pair_of, pairs_of, counted, held, filled, first_empty}
 use Rattle.id_table.proofs.Steps.{le_or_lt}
 
 pub by_same : {C : Type 0} → (a b : ℕ) → (a ≡ b → C) → (a ≢ b → C) → C

@@ -5,4 +5,5 @@ pub mod Places
 pub mod Probing
 pub mod Reaching
 pub mod Rooms
+pub mod Split
 pub mod Steps

@@ -26,7 +26,7 @@ count-cons test pair pairs = sum_by-cons (λ p. cond (test p) 1 0) pair pairs
 
 -- one pair before the others: of the id, or not
 
-place_here : (id : ℕ) (pair : ℕ × ℕ) (pairs : List (ℕ × ℕ)) → id ≡ pair.0 → place_of (pair ∷ pairs) id ≡ Some pair.1
+pub place_here : (id : ℕ) (pair : ℕ × ℕ) (pairs : List (ℕ × ℕ)) → id ≡ pair.0 → place_of (pair ∷ pairs) id ≡ Some pair.1
 place_here id pair pairs e = grind (arith, nat_tests)
 
 pub place_later : (id : ℕ) (pair : ℕ × ℕ) (pairs : List (ℕ × ℕ)) → id ≢ pair.0 → place_of (pair ∷ pairs) id ≡ place_of pairs id

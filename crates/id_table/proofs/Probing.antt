@@ -1,8 +1,8 @@
 -- What a cell that is filled, emptied or moved makes of the table.
 use Rattle.std.proofs.Common.{◌≡◌, ◌≢◌, ℕ, ◌+◌, ◌*◌, ◌<◌, ◌≤◌, Bool, true, List, length, get_or, set, refl, sym, ap, subst, ◌∙◌, ⊎_elim, arith, length-set, get_or-set_same, get_or-set_other}
-use Rattle.id_table.specs.declared.cell.Cell.{Cell}
+use Rattle.std.proofs.lemmas.List.{get_or_default}
 use Rattle.id_table.specs.Pairs.{has_id}
-use Rattle.id_table.specs.Cells.{empty_cell, id_at, mark_at, counted, held, filled, first_empty}
+use Rattle.id_table.specs.Cells.{Cell, empty_cell, id_at, mark_at, counted, held, filled, first_empty}
 use Rattle.id_table.specs.Ring.{home_of, next, distance}
 use Rattle.id_table.specs.Probed.{IsSized, IsReached, IsProbed, IsShifting, EndsLook}
 use Rattle.id_table.proofs.Steps.{le_or_lt, home_below, next_below, distance_same, nearer, last_of_all}
@@ -28,6 +28,17 @@ gap_apart bits cells gap at end s = λ e.
     let same : distance (length cells) at gap ≡ distance (length cells) at at = ap (distance (length cells) at) e in
     let before = s.before in
     omega arith
+
+-- what was read of a cell
+
+pub read_id : (cells : List Cell) (k id : ℕ) (cell : Cell) → k < length cells → id ≡ (get_or cells k cell).id → id ≡ id_at cells k
+read_id cells k id cell h e = e ∙ ap (λ (c : Cell). c.id) (get_or_default cells k cell empty_cell h)
+
+pub read_mark : (cells : List Cell) (k mark : ℕ) (cell : Cell) → k < length cells → mark ≡ (get_or cells k cell).mark → mark ≡ mark_at cells k
+read_mark cells k mark cell h e = e ∙ ap (λ (c : Cell). c.mark) (get_or_default cells k cell empty_cell h)
+
+pub home_read : (bits home id : ℕ) (cells : List Cell) (k : ℕ) → home ≡ home_of bits id → id ≡ id_at cells k → home ≡ home_at bits cells k
+home_read bits home id cells k e f = e ∙ ap (home_of bits) f
 
 -- one write
 

@@ -3,9 +3,8 @@ use Rattle.std.proofs.Common.{◌≡◌, ℕ, suc, ◌+◌, ◌*◌, ◌/◌, �
 use Rattle.std.proofs.lemmas.List.{length-replicate, get_or-replicate}
 use Rattle.std.proofs.lemmas.List.Sums.{sum_by_more, sum_by-take-le}
 use Rattle.std.proofs.Math.Nat.{pow-suc}
-use Rattle.id_table.specs.declared.cell.Cell.{Cell}
 use Rattle.id_table.specs.Pairs.{has_id}
-use Rattle.id_table.specs.Cells.{empty_cell, id_at, mark_at, counted, held, filled}
+use Rattle.id_table.specs.Cells.{Cell, empty_cell, id_at, mark_at, counted, held, filled}
 use Rattle.id_table.specs.Probed.{IsOnce, IsProbed}
 use Rattle.id_table.specs.Table.{IsTable, HasRoom}
 use Rattle.id_table.proofs.Counts.{by_same, counted_own, counted_filled, held-replicate, none_held, filled_within}

@@ -1,7 +1,6 @@
 -- Steps round a ring of `size` cells.
-use Rattle.std.proofs.Common.{◌≡◌, ◌≢◌, ◌⊎◌, ℕ, zero, suc, ◌+◌, ◌-◌, ◌*◌, ◌/◌, ◌%◌, ◌^◌, ◌<◌, ◌≤◌, inl, inr, ⊎_elim, zero-le, suc-le-suc, ap, subst, shr_lt, mod-lt, pow_pos, arith}
+use Rattle.std.proofs.Common.{◌≡◌, ◌≢◌, ◌⊎◌, ℕ, zero, suc, ◌+◌, ◌-◌, ◌*◌, ◌%◌, ◌^◌, ◌<◌, ◌≤◌, inl, inr, ⊎_elim, zero-le, suc-le-suc, subst, shr_lt, mod-lt, pow_pos, arith}
 use Rattle.std.proofs.lemmas.Bool.Decides.{nat_tests}
-use Rattle.std.proofs.Math.Nat.{pow-suc}
 use Rattle.id_table.specs.Ring.{home_of, next, distance}
 
 pub le_or_lt : (a b : ℕ) → (a ≤ b) ⊎ (b < a)

@@ -1,7 +1,11 @@
 -- What the cells hold.
 use Rattle.std.specs.Prelude.{ℕ, suc, ◌-◌, ◌==◌, Bool, true, List, [], ◌∷◌, slice_index_or, if◌then◌else◌}
 use Rattle.std.specs.List.{flat_map, sum_by}
-use Rattle.id_table.specs.declared.cell.Cell.{Cell}
+
+-- a cell, whatever its key: an id with its place and 1, or 0 there
+pub record Cell : Type 0 where
+  pub id : ℕ
+  pub mark : ℕ
 
 abbrev pub empty_cell : Cell
 empty_cell = record { id = 0; mark = 0 }

@@ -2,4 +2,5 @@ pub mod Cells
 pub mod Pairs
 pub mod Probed
 pub mod Ring
+pub mod Split
 pub mod Table

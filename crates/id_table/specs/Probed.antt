@@ -1,8 +1,7 @@
 -- How the cells stand.
 use Rattle.std.specs.Prelude.{◌≡◌, ◌≢◌, ℕ, ◌*◌, ◌^◌, ◌<◌, ◌≤◌, List, length}
-use Rattle.id_table.specs.declared.cell.Cell.{Cell}
 use Rattle.id_table.specs.Pairs.{has_id}
-use Rattle.id_table.specs.Cells.{id_at, mark_at, held, filled}
+use Rattle.id_table.specs.Cells.{Cell, id_at, mark_at, held, filled}
 use Rattle.id_table.specs.Ring.{home_of, distance}
 
 -- how far a cell is from the home of the id that it has, and how far another is from there

@@ -1,7 +1,6 @@
 -- The fields of a table.
 use Rattle.std.specs.Prelude.{◌≡◌, ℕ, ◌+◌, ◌*◌, ◌<◌, ◌≤◌, List, length}
-use Rattle.id_table.specs.declared.cell.Cell.{Cell}
-use Rattle.id_table.specs.Cells.{filled}
+use Rattle.id_table.specs.Cells.{Cell, filled}
 use Rattle.id_table.specs.Probed.{IsProbed}
 
 -- the number of the pairs is known, and the cells stand as they should where there are some

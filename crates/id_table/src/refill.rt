@@ -5,7 +5,8 @@ ghost use Rattle.id_table.specs.Pairs.{has_id};
 ghost use Rattle.id_table.specs.Probed.{IsProbed, IsOnce};
 ghost use Rattle.id_table.specs.Table.{IsTable, HasRoom};
 
-use crate::cell::{Cell, EMPTY};
+use crate::cell::Cell;
+use crate::key::Key;
 use crate::probe::fill;
 use std::alloc::{AllocError, Global};
 
@@ -14,30 +15,30 @@ const FIRST_BITS: u32 = 4;
 
 const MOST_BITS: u32 = 60;
 
-fn empty_cells(alloc: Global, bits: u32) -> Result<Vec<Cell>, AllocError>
+fn empty_cells<K: Key>(alloc: Global, bits: u32) -> Result<Vec<Cell<K>>, AllocError>
     requires { bits ≤ 60 }
     ensures { IfOk result (λ cells. cells.items ≡ replicate (2 ^ bits) empty_cell) }
 {
     let size = 1usize << bits;
-    vec![in alloc; EMPTY; size]
+    vec![in alloc; Cell::empty(); size]
 }
 
 // Fills a cell with what another one holds, where it holds something.
-fn carry(cells: &mut [Cell], bits: u32, cell: Cell)
+fn carry<K: Key>(cells: &mut [Cell<K>], bits: u32, cell: Cell<K>)
     requires probed { IsProbed bits cells.old }
     requires free { 0 < cell.mark → held (has_id cell.id) cells.old ≡ 0 }
     requires room { 0 < cell.mark → 2 * (filled cells.old + 1) ≤ length cells.old }
     ensures probed { IsProbed bits cells.new }
     ensures pairs { (test : ℕ × ℕ → Bool) → held test cells.new ≡ held test cells.old + counted test cell }
 {
-    if cell.mark == 0 {
+    if cell.mark() == 0 {
         return;
     }
     fill(cells, bits, cell);
 }
 
 // Fills empty cells with all that others hold.
-fn pour(cells: &mut [Cell], bits: u32, old: &[Cell])
+fn pour<K: Key>(cells: &mut [Cell<K>], bits: u32, old: &[Cell<K>])
     requires probed { IsProbed bits cells.old }
     requires none { (test : ℕ × ℕ → Bool) → held test cells.old ≡ 0 }
     requires once { IsOnce old.now }
@@ -51,7 +52,7 @@ fn pour(cells: &mut [Cell], bits: u32, old: &[Cell])
 }
 
 // 2^bits cells that hold the same.
-fn refilled(alloc: Global, bits: u32, old: &[Cell]) -> Result<Vec<Cell>, AllocError>
+fn refilled<K: Key>(alloc: Global, bits: u32, old: &[Cell<K>]) -> Result<Vec<Cell<K>>, AllocError>
     requires some { 2 < bits }
     requires within { bits ≤ 60 }
     requires once { IsOnce old.now }
@@ -65,7 +66,7 @@ fn refilled(alloc: Global, bits: u32, old: &[Cell]) -> Result<Vec<Cell>, AllocEr
 }
 
 // The number of bits of the next size: twice the cells, or the first ones.
-fn more_bits(cells: &[Cell], bits: u32, len: usize) -> u32
+fn more_bits<K: Key>(cells: &[Cell<K>], bits: u32, len: usize) -> u32
     requires { IsTable bits len cells.now }
     ensures some { 2 < result }
     ensures room { 2 * (len + 1) ≤ 2 ^ result }
@@ -79,9 +80,9 @@ fn more_bits(cells: &[Cell], bits: u32, len: usize) -> u32
 
 // Sees to it that there is room for one more. A call that finds no memory leaves all as it was.
 #[tactic(auto, using(crate::proofs::Rooms::table_once, crate::proofs::Rooms::room_now, crate::proofs::Rooms::room_new))]
-pub(crate) fn make_room(
+pub(crate) fn make_room<K: Key>(
     alloc: Global,
-    cells: &mut Vec<Cell>,
+    cells: &mut Vec<Cell<K>>,
     bits: &mut u32,
     len: usize,
 ) -> Result<(), AllocError>
@@ -106,10 +107,10 @@ pub(crate) fn make_room(
 }
 
 // Empties all cells.
-pub(crate) fn wipe(cells: &mut [Cell])
+pub(crate) fn wipe<K: Key>(cells: &mut [Cell<K>])
     ensures { cells.new ≡ replicate (length cells.old) empty_cell }
 {
     for cell in cells.iter_mut() {
-        *cell = EMPTY;
+        *cell = Cell::empty();
     }
 }

@@ -1,34 +1,27 @@
 //! The table from ids to places.
-use crate::cell::Cell;
-use crate::probe::{fill, look, write};
-use crate::refill::{make_room, wipe};
-use crate::ring::home;
-use crate::shift::take_out;
+use crate::keyed::Table;
 use std::alloc::{AllocError, Global};
 use std::marker::Model;
+
+// The ids below this one have the narrow table, whose cells take half the memory.
+const WIDE: u64 = 0x1_0000_0000;
 
 /// A table from ids, each held once, to places. Contracts see the list of its pairs, in an order that means nothing.
 #[derive(Debug, Drop)]
 pub struct IdTable {
-    alloc: Global,
-    bits: u32,
-    len: usize,
-    // The marks that were touched, added up: so they are read, though nothing needs them.
-    touched: u32,
-    cells: Vec<Cell>,
+    narrow: Table<u32>,
+    wide: Table<u64>,
 }
 
 impl Model for IdTable {
-    ghost use Rattle.std.specs.Prelude.{ℕ, List};
+    ghost use Rattle.std.specs.Prelude.{ℕ, List, ◌++◌};
+    ghost use Rattle.id_table.specs.Split.{IsSplit};
 
     ghost Value = { List (ℕ × ℕ) };
 
-    ghost use Rattle.id_table.specs.Cells.{pairs_of};
-    ghost use Rattle.id_table.specs.Table.{IsTable};
+    ghost view = { λ table. table.narrow ++ table.wide };
 
-    ghost view = { λ table. pairs_of table.cells.items };
-
-    ghost invariant = { λ table. IsTable table.bits table.len table.cells.items };
+    ghost invariant = { λ table. IsSplit table.narrow table.wide };
 }
 
 impl IdTable {
@@ -40,11 +33,8 @@ impl IdTable {
         ensures { result ≡ [] }
     {
         IdTable {
-            alloc,
-            bits: 0,
-            len: 0,
-            touched: 0,
-            cells: Vec::new(alloc),
+            narrow: Table::new(alloc),
+            wide: Table::new(alloc),
         }
     }
 
@@ -52,14 +42,14 @@ impl IdTable {
     pub fn len(&self) -> usize
         ensures { result ≡ length self.now }
     {
-        self.len
+        self.narrow.len() + self.wide.len()
     }
 
     /// Whether no id is held.
     pub fn is_empty(&self) -> bool
         ensures { IsTrue result ↔ (length self.now ≡ 0) }
     {
-        self.len == 0
+        self.len() == 0
     }
 
     /// The place of an id, None exactly where the id isn't held.
@@ -67,16 +57,10 @@ impl IdTable {
         ensures place { result ≡ place_of self.now id }
         ensures distinct { AreDistinct self.now }
     {
-        let len = self.len;
-        if len == 0 {
-            return None;
+        if id < WIDE {
+            return self.narrow.get(id);
         }
-        let at = look(&self.cells, self.bits, id);
-        let mark = self.cells[at].mark;
-        if mark == 0 {
-            return None;
-        }
-        Some(mark - 1)
+        self.wide.get(id)
     }
 
     /// Reads the cell at which the look for an id begins, so that it is near when the id is looked for. For several ids, touched one behind
@@ -84,13 +68,11 @@ impl IdTable {
     pub fn touch(&mut self, id: u64)
         ensures { self.new ≡ self.old }
     {
-        let len = self.len;
-        if len == 0 {
+        if id < WIDE {
+            self.narrow.touch(id);
             return;
         }
-        let at = home(self.bits, id);
-        let mark = self.cells[at].mark;
-        self.touched = self.touched.wrapping_add(mark);
+        self.wide.touch(id);
     }
 
     /// Holds an id with its place. The id may not be held, which [`IdTable::get`] tells. A call that finds no memory leaves
@@ -104,11 +86,10 @@ impl IdTable {
         ensures distinct { OnOk result (AreDistinct self.new) }
         ensures refused { OnErr result (self.new ≡ self.old) }
     {
-        make_room(self.alloc, &mut self.cells, &mut self.bits, self.len)?;
-        let mark = place + 1;
-        fill(&mut self.cells, self.bits, Cell { id, mark });
-        self.len += 1;
-        Ok(())
+        if id < WIDE {
+            return self.narrow.insert(id, place);
+        }
+        self.wide.insert(id, place)
     }
 
     /// Gives an id that is held another place.
@@ -119,9 +100,11 @@ impl IdTable {
         ensures len { length self.new ≡ length self.old }
         ensures distinct { AreDistinct self.new }
     {
-        let at = look(&self.cells, self.bits, id);
-        let mark = place + 1;
-        write(&mut self.cells, at, Cell { id, mark });
+        if id < WIDE {
+            self.narrow.set(id, place);
+            return;
+        }
+        self.wide.set(id, place);
     }
 
     /// Takes an id out and gives the place that it had, None exactly where the id isn't held. It takes no memory.
@@ -133,25 +116,17 @@ impl IdTable {
         ensures none { result ≡ None → self.new ≡ self.old }
         ensures distinct { AreDistinct self.new }
     {
-        let len = self.len;
-        if len == 0 {
-            return None;
+        if id < WIDE {
+            return self.narrow.remove(id);
         }
-        let at = look(&self.cells, self.bits, id);
-        let mark = self.cells[at].mark;
-        if mark == 0 {
-            return None;
-        }
-        take_out(&mut self.cells, self.bits, at);
-        self.len -= 1;
-        Some(mark - 1)
+        self.wide.remove(id)
     }
 
     /// Takes all ids out, and keeps the memory.
     pub fn clear(&mut self)
         ensures { self.new ≡ [] }
     {
-        wipe(&mut self.cells);
-        self.len = 0;
+        self.narrow.clear();
+        self.wide.clear();
     }
 }

@@ -38,12 +38,13 @@ fn hold(
 fn call_both(
     table: &mut IdTable,
     map: &mut BTreeMap<u64, u32>,
+    first: u64,
     ids: u64,
     seed: &mut u64,
 ) -> Result<(), Fail>
     requires { 0 < ids }
 {
-    let id = draw(seed) % ids;
+    let id = first.wrapping_add(draw(seed) % ids);
     let place = (draw(seed) % 4_000_000_000) as u32;
     if draw(seed) % 2 == 0 {
         hold(table, map, id, place)?;
@@ -56,17 +57,18 @@ fn call_both(
     Ok(())
 }
 
-// Drawn calls, a look at each id, and that nothing is left after a clear.
-fn compare(alloc: Global, ids: u64, seed: u64) -> Result<(), Fail>
+// Drawn calls on so many ids from the first one, a look at each id, and that nothing is left after a clear.
+fn compare(alloc: Global, first: u64, ids: u64, seed: u64) -> Result<(), Fail>
     requires { 0 < ids }
 {
     let mut table = IdTable::new(alloc);
     let mut map = BTreeMap::new(alloc);
     let mut seed = seed;
     for _ in 0..400 {
-        call_both(&mut table, &mut map, ids, &mut seed)?;
+        call_both(&mut table, &mut map, first, ids, &mut seed)?;
     }
-    for id in 0..ids {
+    for k in 0..ids {
+        let id = first.wrapping_add(k);
         if table.get(id) != map.get(&id).copied() {
             return differ(id);
         }
@@ -80,7 +82,8 @@ fn compare(alloc: Global, ids: u64, seed: u64) -> Result<(), Fail>
 
 #[test]
 fn a_table_is_an_ordered_map(rt: HostRuntime) -> Result<(), Fail> {
-    compare(rt.alloc(), 7, 1)?;
-    compare(rt.alloc(), 60, 2)?;
-    compare(rt.alloc(), 1000, 3)
+    compare(rt.alloc(), 0, 7, 1)?;
+    compare(rt.alloc(), 0, 60, 2)?;
+    compare(rt.alloc(), 0, 1000, 3)?;
+    compare(rt.alloc(), 4_294_967_266, 60, 4)
 }

@@ -81,39 +81,78 @@ const ROW: [Call; 20] = [
     Call::Get(7, Some(1)),
 ];
 
-#[test]
-fn rows_of_calls(rt: HostRuntime) -> Result<(), Fail> {
-    let mut table = IdTable::new(rt.alloc());
-    for call in ROW {
-        if !answers(&mut table, call)? {
+// Ids below, at and above 2^32, where the table's cells change, and ids with the same lower half.
+const BOUND: [Call; 22] = [
+    Call::Insert(4_294_967_295, 1),
+    Call::Insert(4_294_967_296, 2),
+    Call::Insert(u64::MAX, 3),
+    Call::Insert(0, 4),
+    Call::Len(4),
+    Call::Get(4_294_967_295, Some(1)),
+    Call::Get(4_294_967_296, Some(2)),
+    Call::Get(u64::MAX, Some(3)),
+    Call::Get(0, Some(4)),
+    Call::Get(1, None),
+    Call::Get(4_294_967_297, None),
+    Call::Set(4_294_967_296, 5),
+    Call::Get(0, Some(4)),
+    Call::Remove(0, Some(4)),
+    Call::Get(4_294_967_296, Some(5)),
+    Call::Remove(4_294_967_295, Some(1)),
+    Call::Remove(u64::MAX, Some(3)),
+    Call::Remove(u64::MAX, None),
+    Call::Len(1),
+    Call::Clear,
+    Call::Get(4_294_967_296, None),
+    Call::Len(0),
+];
+
+fn run(alloc: Global, row: &[Call]) -> Result<(), Fail> {
+    let mut table = IdTable::new(alloc);
+    for call in row {
+        if !answers(&mut table, *call)? {
             return Err(Fail::new(format_args!("{call:?}")));
         }
     }
     Ok(())
 }
 
-fn fill_up(alloc: Global, step: u64) -> Result<bool, Fail> {
+#[test]
+fn rows_of_calls(rt: HostRuntime) -> Result<(), Fail> {
+    run(rt.alloc(), &ROW)?;
+    run(rt.alloc(), &BOUND)
+}
+
+// The ids of a run of 300.
+fn id_of(first: u64, step: u64, k: u32) -> u64 {
+    first.wrapping_add(step.wrapping_mul(k as u64))
+}
+
+fn fill_up(alloc: Global, first: u64, step: u64) -> Result<bool, Fail> {
     let mut table = IdTable::new(alloc);
     for k in 0..300u32 {
-        if !insert(&mut table, step.wrapping_mul(k as u64), k)? {
+        if !insert(&mut table, id_of(first, step, k), k)? {
             return Ok(false);
         }
     }
     for k in 0..300u32 {
-        if table.remove(step.wrapping_mul(k as u64)) != Some(k) {
+        if table.remove(id_of(first, step, k)) != Some(k) {
             return Ok(false);
         }
     }
     Ok(table.is_empty())
 }
 
-// Ids that begin at one cell, at neighbours, and far apart.
+// Ids that begin at one cell, at neighbours, and far apart, and ids on both sides of 2^32.
 #[test]
 fn ids_in_a_run(rt: HostRuntime) -> Result<(), Fail> {
     for step in [1, 4096, 1 << 55, 0x9e37_79b9_7f4a_7c15] {
-        if !fill_up(rt.alloc(), step)? {
+        if !fill_up(rt.alloc(), 0, step)? {
             return Err(Fail::new(format_args!("step {step}")));
         }
+    }
+    if !fill_up(rt.alloc(), 4_294_967_146, 1)? {
+        return Err(Fail::new(format_args!("from 4294967146")));
     }
     Ok(())
 }

@@ -4,7 +4,7 @@ use Rattle.id_table.specs.Probed.{IsProbed}
 use Rattle.id_table.proofs.refill.pour.Given as goal
 
 abbrev pub invariant-loop-cell : goal.invariant-loop-cell
-invariant-loop-cell l =
+invariant-loop-cell g l =
     record {
       len : length l.cells ≡ length l.fn.cells;
       probed : IsProbed l.bits l.cells;

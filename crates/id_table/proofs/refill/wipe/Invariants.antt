@@ -3,4 +3,4 @@ use Rattle.id_table.specs.Cells.{empty_cell}
 use Rattle.id_table.proofs.refill.wipe.Given as goal
 
 abbrev pub invariant-loop-cell : goal.invariant-loop-cell
-invariant-loop-cell l = take l.cell-index l.cells ≡ replicate l.cell-index empty_cell
+invariant-loop-cell g l = take l.cell-index l.cells ≡ replicate l.cell-index empty_cell

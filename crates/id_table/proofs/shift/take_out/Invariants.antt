@@ -5,7 +5,7 @@ use Rattle.id_table.specs.Ring.{distance}
 use Rattle.id_table.proofs.shift.take_out.Given as goal
 
 abbrev pub invariant-loop-cells : goal.invariant-loop-cells
-invariant-loop-cells l =
+invariant-loop-cells g l =
     record {
       len : length l.cells ≡ length l.fn.cells;
       shifting : IsShifting l.bits l.cells l.hole l.cell (first_empty l.fn.cells);
@@ -13,4 +13,4 @@ invariant-loop-cells l =
     }
 
 abbrev pub decreases-loop-cells : goal.decreases-loop-cells
-decreases-loop-cells l = distance (length l.fn.cells) l.cell (first_empty l.fn.cells)
+decreases-loop-cells g l = distance (length l.fn.cells) l.cell (first_empty l.fn.cells)

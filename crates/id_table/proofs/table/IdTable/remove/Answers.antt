@@ -1,87 +1,61 @@
-use Rattle.std.proofs.Common.{◌≡◌, ℕ, ◌+◌, ◌-◌, ◌∷◌, Bool, cond, nat_eq, List, length, get_or, sym, ap, subst, ◌∙◌, arith, Some, None}
-use Rattle.std.proofs.lemmas.List.{get_or_read}
-use Rattle.id_table.specs.declared.cell.Cell.{Cell}
-use Rattle.id_table.specs.Pairs.{place_of, AreSame, AreDistinct}
-use Rattle.id_table.specs.Cells.{empty_cell, pairs_of, counted, held}
-use Rattle.id_table.specs.Probed.{EndsLook}
-use Rattle.id_table.specs.Table.{IsTable}
-use Rattle.id_table.proofs.Changes.{once_distinct, added_len, left_places, none_places}
-use Rattle.id_table.proofs.Rooms.{given_back}
-use Rattle.id_table.proofs.Calls.{zero_there, missed_there, found_there, distinct_of, taken_pairs, taken_table}
+use Rattle.std.proofs.Common.{◌++◌, refl, sym, ◌∙◌, arith, None}
+use Rattle.std.proofs.lemmas.Option.{IfSome_then}
+use Rattle.id_table.proofs.Changes.{added_len}
+use Rattle.id_table.proofs.Split.{narrow_place, narrow_split, narrow_places, narrow_less, narrow_same, wide_place, wide_split, wide_places, wide_less, wide_same, split_distinct}
 use Rattle.id_table.proofs.table.IdTable.remove.Goals as goal
 
-pub returns-then-len-eq0-clause-place : goal.returns-then-len-eq0-clause-place
-returns-then-len-eq0-clause-place c = sym (zero_there c.self.inside.bits c.self.inside.len c.self.inside.cells.items c.args.self.now c.self.invariant c.self.view_is c.args.id c.if-len-eq0.true)
-
-pub returns-then-len-eq0-clause-places : goal.returns-then-len-eq0-clause-places
-returns-then-len-eq0-clause-places c = none_places c.args.self.now c.args.id (zero_there c.self.inside.bits c.self.inside.len c.self.inside.cells.items c.args.self.now c.self.invariant c.self.view_is c.args.id c.if-len-eq0.true)
-
-pub returns-then-len-eq0-clause-distinct : goal.returns-then-len-eq0-clause-distinct
-returns-then-len-eq0-clause-distinct c = distinct_of c.self.inside.bits c.self.inside.len c.self.inside.cells.items c.args.self.now c.self.invariant c.self.view_is
-
-pub returns-then-mark-eq0-clause-place : goal.returns-then-mark-eq0-clause-place
-returns-then-mark-eq0-clause-place c =
-    let ends = subst (λ (xs : List Cell). EndsLook c.self.inside.bits xs c.args.id c.look-at.result) c.deref.ensures.value c.look-at.ensures in
-    let read = ap (λ (x : Cell). x.mark) (get_or_read c.self.inside.cells.items c.look-at.result c.index.result.now ends.within c.index.ensures empty_cell) in
-    sym (missed_there c.self.inside.bits c.self.inside.len c.self.inside.cells.items c.args.self.now c.self.invariant c.self.view_is c.args.id c.look-at.result ends (sym read ∙ c.if-mark-eq0.true))
-
-pub returns-then-mark-eq0-clause-places : goal.returns-then-mark-eq0-clause-places
-returns-then-mark-eq0-clause-places c =
-    let ends = subst (λ (xs : List Cell). EndsLook c.self.inside.bits xs c.args.id c.look-at.result) c.deref.ensures.value c.look-at.ensures in
-    let read = ap (λ (x : Cell). x.mark) (get_or_read c.self.inside.cells.items c.look-at.result c.index.result.now ends.within c.index.ensures empty_cell) in
-    none_places c.args.self.now c.args.id (missed_there c.self.inside.bits c.self.inside.len c.self.inside.cells.items c.args.self.now c.self.invariant c.self.view_is c.args.id c.look-at.result ends (sym read ∙ c.if-mark-eq0.true))
-
-pub returns-then-mark-eq0-clause-distinct : goal.returns-then-mark-eq0-clause-distinct
-returns-then-mark-eq0-clause-distinct c = distinct_of c.self.inside.bits c.self.inside.len c.self.inside.cells.items c.args.self.now c.self.invariant c.self.view_is
-
 pub invariant_of-self : goal.invariant_of-self
-invariant_of-self c =
-    let ends = subst (λ (xs : List Cell). EndsLook c.self.inside.bits xs c.args.id c.look-at.result) c.deref.ensures.value c.look-at.ensures in
-    let read = ap (λ (x : Cell). x.mark) (get_or_read c.self.inside.cells.items c.look-at.result c.index.result.now ends.within c.index.ensures empty_cell) in
-    let less = subst (λ (xs : List Cell). (test : ℕ × ℕ → Bool) → held test xs ≡ held test c.take_out.new.cells + counted test (get_or xs c.look-at.result empty_cell)) c.deref_mut.ensures.value c.take_out.ensures.pairs in
-    let back = given_back c.take_out.new.cells c.self.inside.cells.items c.self.inside.cells.len (omega (arith, c.take_out.auto.cells, c.deref_mut.ensures.len, c.self.inside.cells.ok)) in
-    subst (IsTable c.self.inside.bits (c.self.inside.len - 1)) (sym back)
-    (taken_table c.self.inside.bits c.self.inside.len c.self.inside.cells.items c.args.self.now c.self.invariant c.self.view_is c.take_out.new.cells c.look-at.result (omega (arith, read, c.if-mark-eq0.false)) c.take_out.ensures.probed less)
+invariant_of-self c = narrow_split c.self.inside.narrow c.self.inside.wide c.args.self.now c.self.invariant c.self.view_is c.args.id c.if-id-lt-WIDE.true None c.remove.new.self c.remove.ensures.places c.remove.ensures.distinct
+
+pub returns-then-id-lt-WIDE-clause-place : goal.returns-then-id-lt-WIDE-clause-place
+returns-then-id-lt-WIDE-clause-place c = c.remove.ensures.place ∙ sym (narrow_place c.self.inside.narrow c.self.inside.wide c.args.self.now c.self.invariant c.self.view_is c.args.id c.if-id-lt-WIDE.true)
+
+pub returns-then-id-lt-WIDE-clause-places : goal.returns-then-id-lt-WIDE-clause-places
+returns-then-id-lt-WIDE-clause-places c =
+    narrow_places c.self.inside.narrow c.self.inside.wide c.args.self.now c.self.invariant c.self.view_is c.args.id c.if-id-lt-WIDE.true None c.remove.new.self c.remove.ensures.places
+
+pub returns-then-id-lt-WIDE-clause-pairs : goal.returns-then-id-lt-WIDE-clause-pairs
+returns-then-id-lt-WIDE-clause-pairs c =
+    IfSome_then c.remove.result c.remove.ensures.pairs (λ place same. narrow_less c.self.inside.narrow c.self.inside.wide c.args.self.now c.self.invariant c.self.view_is c.args.id place c.remove.new.self same)
+
+pub returns-then-id-lt-WIDE-clause-len : goal.returns-then-id-lt-WIDE-clause-len
+returns-then-id-lt-WIDE-clause-len c =
+    IfSome_then c.remove.result c.remove.ensures.pairs
+    (λ place same. added_len (c.remove.new.self ++ c.self.inside.wide) c.args.self.now c.args.id place (narrow_less c.self.inside.narrow c.self.inside.wide c.args.self.now c.self.invariant c.self.view_is c.args.id place c.remove.new.self same))
+
+pub returns-then-id-lt-WIDE-clause-none : goal.returns-then-id-lt-WIDE-clause-none
+returns-then-id-lt-WIDE-clause-none c = λ none. narrow_same c.self.inside.narrow c.self.inside.wide c.args.self.now c.self.invariant c.self.view_is c.remove.new.self (c.remove.ensures.none none)
+
+pub returns-then-id-lt-WIDE-clause-distinct : goal.returns-then-id-lt-WIDE-clause-distinct
+returns-then-id-lt-WIDE-clause-distinct c =
+    split_distinct c.remove.new.self c.self.inside.wide (c.remove.new.self ++ c.self.inside.wide)
+    (narrow_split c.self.inside.narrow c.self.inside.wide c.args.self.now c.self.invariant c.self.view_is c.args.id c.if-id-lt-WIDE.true None c.remove.new.self c.remove.ensures.places c.remove.ensures.distinct)
+    refl
+
+pub invariant_of-self-2 : goal.invariant_of-self-2
+invariant_of-self-2 c = wide_split c.self.inside.narrow c.self.inside.wide c.args.self.now c.self.invariant c.self.view_is c.args.id (omega (arith, c.if-id-lt-WIDE.false)) None c.remove-2.new.self c.remove-2.ensures.places c.remove-2.ensures.distinct
 
 pub returns-clause-place : goal.returns-clause-place
-returns-clause-place c =
-    let ends = subst (λ (xs : List Cell). EndsLook c.self.inside.bits xs c.args.id c.look-at.result) c.deref.ensures.value c.look-at.ensures in
-    let read = ap (λ (x : Cell). x.mark) (get_or_read c.self.inside.cells.items c.look-at.result c.index.result.now ends.within c.index.ensures empty_cell) in
-    ap (λ (m : ℕ). Some (m - 1)) read ∙ sym (found_there c.self.inside.bits c.self.inside.len c.self.inside.cells.items c.args.self.now c.self.invariant c.self.view_is c.args.id c.look-at.result ends (omega (arith, read, c.if-mark-eq0.false)))
+returns-clause-place c = c.remove-2.ensures.place ∙ sym (wide_place c.self.inside.narrow c.self.inside.wide c.args.self.now c.self.invariant c.self.view_is c.args.id (omega (arith, c.if-id-lt-WIDE.false)))
 
 pub returns-clause-places : goal.returns-clause-places
-returns-clause-places c = λ q.
-    let ends = subst (λ (xs : List Cell). EndsLook c.self.inside.bits xs c.args.id c.look-at.result) c.deref.ensures.value c.look-at.ensures in
-    let read = ap (λ (x : Cell). x.mark) (get_or_read c.self.inside.cells.items c.look-at.result c.index.result.now ends.within c.index.ensures empty_cell) in
-    let less = subst (λ (xs : List Cell). (test : ℕ × ℕ → Bool) → held test xs ≡ held test c.take_out.new.cells + counted test (get_or xs c.look-at.result empty_cell)) c.deref_mut.ensures.value c.take_out.ensures.pairs in
-    let back = given_back c.take_out.new.cells c.self.inside.cells.items c.self.inside.cells.len (omega (arith, c.take_out.auto.cells, c.deref_mut.ensures.len, c.self.inside.cells.ok)) in
-    let same = taken_pairs c.self.inside.bits c.self.inside.len c.self.inside.cells.items c.args.self.now c.self.invariant c.self.view_is c.take_out.new.cells c.args.id c.look-at.result (c.index.result.now.mark - 1) ends (omega (arith, read, c.if-mark-eq0.false)) less in
-    subst (λ (xs : List Cell). place_of (pairs_of xs) q ≡ cond (nat_eq q c.args.id) None (place_of c.args.self.now q)) (sym back)
-    (left_places c.args.self.now (pairs_of c.take_out.new.cells) c.args.id (c.index.result.now.mark - 1) same (distinct_of c.self.inside.bits c.self.inside.len c.self.inside.cells.items c.args.self.now c.self.invariant c.self.view_is) q)
+returns-clause-places c =
+    wide_places c.self.inside.narrow c.self.inside.wide c.args.self.now c.self.invariant c.self.view_is c.args.id (omega (arith, c.if-id-lt-WIDE.false)) None c.remove-2.new.self c.remove-2.ensures.places
 
 pub returns-clause-pairs : goal.returns-clause-pairs
 returns-clause-pairs c =
-    let ends = subst (λ (xs : List Cell). EndsLook c.self.inside.bits xs c.args.id c.look-at.result) c.deref.ensures.value c.look-at.ensures in
-    let read = ap (λ (x : Cell). x.mark) (get_or_read c.self.inside.cells.items c.look-at.result c.index.result.now ends.within c.index.ensures empty_cell) in
-    let less = subst (λ (xs : List Cell). (test : ℕ × ℕ → Bool) → held test xs ≡ held test c.take_out.new.cells + counted test (get_or xs c.look-at.result empty_cell)) c.deref_mut.ensures.value c.take_out.ensures.pairs in
-    let back = given_back c.take_out.new.cells c.self.inside.cells.items c.self.inside.cells.len (omega (arith, c.take_out.auto.cells, c.deref_mut.ensures.len, c.self.inside.cells.ok)) in
-    let same = taken_pairs c.self.inside.bits c.self.inside.len c.self.inside.cells.items c.args.self.now c.self.invariant c.self.view_is c.take_out.new.cells c.args.id c.look-at.result (c.index.result.now.mark - 1) ends (omega (arith, read, c.if-mark-eq0.false)) less in
-    subst (λ (xs : List Cell). AreSame c.args.self.now ((c.args.id, c.index.result.now.mark - 1) ∷ pairs_of xs)) (sym back) same
+    IfSome_then c.remove-2.result c.remove-2.ensures.pairs (λ place same. wide_less c.self.inside.narrow c.self.inside.wide c.args.self.now c.self.invariant c.self.view_is c.args.id place c.remove-2.new.self same)
 
 pub returns-clause-len : goal.returns-clause-len
 returns-clause-len c =
-    let ends = subst (λ (xs : List Cell). EndsLook c.self.inside.bits xs c.args.id c.look-at.result) c.deref.ensures.value c.look-at.ensures in
-    let read = ap (λ (x : Cell). x.mark) (get_or_read c.self.inside.cells.items c.look-at.result c.index.result.now ends.within c.index.ensures empty_cell) in
-    let less = subst (λ (xs : List Cell). (test : ℕ × ℕ → Bool) → held test xs ≡ held test c.take_out.new.cells + counted test (get_or xs c.look-at.result empty_cell)) c.deref_mut.ensures.value c.take_out.ensures.pairs in
-    let back = given_back c.take_out.new.cells c.self.inside.cells.items c.self.inside.cells.len (omega (arith, c.take_out.auto.cells, c.deref_mut.ensures.len, c.self.inside.cells.ok)) in
-    let same = taken_pairs c.self.inside.bits c.self.inside.len c.self.inside.cells.items c.args.self.now c.self.invariant c.self.view_is c.take_out.new.cells c.args.id c.look-at.result (c.index.result.now.mark - 1) ends (omega (arith, read, c.if-mark-eq0.false)) less in
-    subst (λ (xs : List Cell). length c.args.self.now ≡ length (pairs_of xs) + 1) (sym back)
-    (added_len (pairs_of c.take_out.new.cells) c.args.self.now c.args.id (c.index.result.now.mark - 1) same)
+    IfSome_then c.remove-2.result c.remove-2.ensures.pairs
+    (λ place same. added_len (c.self.inside.narrow ++ c.remove-2.new.self) c.args.self.now c.args.id place (wide_less c.self.inside.narrow c.self.inside.wide c.args.self.now c.self.invariant c.self.view_is c.args.id place c.remove-2.new.self same))
+
+pub returns-clause-none : goal.returns-clause-none
+returns-clause-none c = λ none. wide_same c.self.inside.narrow c.self.inside.wide c.args.self.now c.self.invariant c.self.view_is c.remove-2.new.self (c.remove-2.ensures.none none)
 
 pub returns-clause-distinct : goal.returns-clause-distinct
 returns-clause-distinct c =
-    let ends = subst (λ (xs : List Cell). EndsLook c.self.inside.bits xs c.args.id c.look-at.result) c.deref.ensures.value c.look-at.ensures in
-    let read = ap (λ (x : Cell). x.mark) (get_or_read c.self.inside.cells.items c.look-at.result c.index.result.now ends.within c.index.ensures empty_cell) in
-    let less = subst (λ (xs : List Cell). (test : ℕ × ℕ → Bool) → held test xs ≡ held test c.take_out.new.cells + counted test (get_or xs c.look-at.result empty_cell)) c.deref_mut.ensures.value c.take_out.ensures.pairs in
-    let back = given_back c.take_out.new.cells c.self.inside.cells.items c.self.inside.cells.len (omega (arith, c.take_out.auto.cells, c.deref_mut.ensures.len, c.self.inside.cells.ok)) in
-    subst (λ (xs : List Cell). AreDistinct (pairs_of xs)) (sym back) (once_distinct c.take_out.new.cells c.take_out.ensures.probed.once)
+    split_distinct c.self.inside.narrow c.remove-2.new.self (c.self.inside.narrow ++ c.remove-2.new.self)
+    (wide_split c.self.inside.narrow c.self.inside.wide c.args.self.now c.self.invariant c.self.view_is c.args.id (omega (arith, c.if-id-lt-WIDE.false)) None c.remove-2.new.self c.remove-2.ensures.places c.remove-2.ensures.distinct)
+    refl

@@ -1,56 +1,41 @@
-use Rattle.std.proofs.Common.{◌≡◌, ◌+◌, cond, nat_eq, List, length, set, refl, sym, ap, subst, ◌∙◌, arith, Some}
-use Rattle.id_table.specs.declared.cell.Cell.{Cell}
-use Rattle.id_table.specs.Pairs.{place_of, AreDistinct}
-use Rattle.id_table.specs.Cells.{pairs_of}
-use Rattle.id_table.specs.Probed.{IsProbed, EndsLook}
-use Rattle.id_table.specs.Table.{IsTable}
-use Rattle.id_table.proofs.Changes.{once_distinct, set_probed}
-use Rattle.id_table.proofs.Rooms.{given_back}
-use Rattle.id_table.proofs.Calls.{some_cells, held_mark, moved_table, moved_places, moved_len}
+use Rattle.std.proofs.Common.{◌++◌, refl, ◌∙◌, arith, Some}
+use Rattle.id_table.proofs.Split.{narrow_place, narrow_split, narrow_places, narrow_len, wide_place, wide_split, wide_places, wide_len, split_distinct}
 use Rattle.id_table.proofs.table.IdTable.set.Goals as goal
 
-pub look-at-requires : goal.look-at-requires
-look-at-requires c = record {
-  probed = subst (IsProbed c.self.inside.bits) (sym c.deref.ensures.value) (c.self.invariant.probed (some_cells c.self.inside.bits c.self.inside.len c.self.inside.cells.items c.args.self.now c.self.invariant c.self.view_is c.args.id c.requires.held));
-}
+pub set-requires-clause-held : goal.set-requires-clause-held
+set-requires-clause-held c = λ e. c.requires.held (narrow_place c.self.inside.narrow c.self.inside.wide c.args.self.now c.self.invariant c.self.view_is c.args.id c.if-id-lt-WIDE.true ∙ e)
 
 pub invariant_of-self : goal.invariant_of-self
-invariant_of-self c =
-    let ends = subst (λ (xs : List Cell). EndsLook c.self.inside.bits xs c.args.id c.look-at.result) c.deref.ensures.value c.look-at.ensures in
-    let was = held_mark c.self.inside.bits c.self.inside.len c.self.inside.cells.items c.args.self.now c.self.invariant c.self.view_is c.args.id c.look-at.result c.requires.held ends in
-    let e = c.write.ensures ∙ ap (λ (xs : List Cell). set xs c.look-at.result (record { id = c.args.id; mark = c.args.place + 1 })) c.deref_mut.ensures.value in
-    let back = given_back c.write.new.cells c.self.inside.cells.items c.self.inside.cells.len (omega (arith, c.write.auto.cells, c.deref_mut.ensures.len, c.self.inside.cells.ok)) ∙ e in
-    let probed = c.self.invariant.probed (some_cells c.self.inside.bits c.self.inside.len c.self.inside.cells.items c.args.self.now c.self.invariant c.self.view_is c.args.id c.requires.held) in
-    subst (IsTable c.self.inside.bits c.self.inside.len) (sym back)
-    (moved_table c.self.inside.bits c.self.inside.len c.self.inside.cells.items c.args.self.now c.self.invariant c.self.view_is c.look-at.result (record { id = c.args.id; mark = c.args.place + 1 }) probed ends.within was (omega arith) (sym (ends.found was)))
+invariant_of-self c = narrow_split c.self.inside.narrow c.self.inside.wide c.args.self.now c.self.invariant c.self.view_is c.args.id c.if-id-lt-WIDE.true (Some c.args.place) c.set.new.self c.set.ensures.places c.set.ensures.distinct
+
+pub returns-then-id-lt-WIDE-clause-places : goal.returns-then-id-lt-WIDE-clause-places
+returns-then-id-lt-WIDE-clause-places c =
+    narrow_places c.self.inside.narrow c.self.inside.wide c.args.self.now c.self.invariant c.self.view_is c.args.id c.if-id-lt-WIDE.true (Some c.args.place) c.set.new.self c.set.ensures.places
+
+pub returns-then-id-lt-WIDE-clause-len : goal.returns-then-id-lt-WIDE-clause-len
+returns-then-id-lt-WIDE-clause-len c = narrow_len c.self.inside.narrow c.self.inside.wide c.args.self.now c.self.invariant c.self.view_is c.set.new.self c.set.ensures.len
+
+pub returns-then-id-lt-WIDE-clause-distinct : goal.returns-then-id-lt-WIDE-clause-distinct
+returns-then-id-lt-WIDE-clause-distinct c =
+    split_distinct c.set.new.self c.self.inside.wide (c.set.new.self ++ c.self.inside.wide)
+    (narrow_split c.self.inside.narrow c.self.inside.wide c.args.self.now c.self.invariant c.self.view_is c.args.id c.if-id-lt-WIDE.true (Some c.args.place) c.set.new.self c.set.ensures.places c.set.ensures.distinct)
+    refl
+
+pub set-requires-2-clause-held : goal.set-requires-2-clause-held
+set-requires-2-clause-held c = λ e. c.requires.held (wide_place c.self.inside.narrow c.self.inside.wide c.args.self.now c.self.invariant c.self.view_is c.args.id (omega (arith, c.if-id-lt-WIDE.false)) ∙ e)
+
+pub invariant_of-self-2 : goal.invariant_of-self-2
+invariant_of-self-2 c = wide_split c.self.inside.narrow c.self.inside.wide c.args.self.now c.self.invariant c.self.view_is c.args.id (omega (arith, c.if-id-lt-WIDE.false)) (Some c.args.place) c.set-2.new.self c.set-2.ensures.places c.set-2.ensures.distinct
 
 pub returns-clause-places : goal.returns-clause-places
-returns-clause-places c = λ q.
-    let ends = subst (λ (xs : List Cell). EndsLook c.self.inside.bits xs c.args.id c.look-at.result) c.deref.ensures.value c.look-at.ensures in
-    let was = held_mark c.self.inside.bits c.self.inside.len c.self.inside.cells.items c.args.self.now c.self.invariant c.self.view_is c.args.id c.look-at.result c.requires.held ends in
-    let e = c.write.ensures ∙ ap (λ (xs : List Cell). set xs c.look-at.result (record { id = c.args.id; mark = c.args.place + 1 })) c.deref_mut.ensures.value in
-    let back = given_back c.write.new.cells c.self.inside.cells.items c.self.inside.cells.len (omega (arith, c.write.auto.cells, c.deref_mut.ensures.len, c.self.inside.cells.ok)) ∙ e in
-    let probed = c.self.invariant.probed (some_cells c.self.inside.bits c.self.inside.len c.self.inside.cells.items c.args.self.now c.self.invariant c.self.view_is c.args.id c.requires.held) in
-    subst (λ (xs : List Cell). place_of (pairs_of xs) q ≡ cond (nat_eq q c.args.id) (Some c.args.place) (place_of c.args.self.now q)) (sym back)
-    (moved_places c.self.inside.bits c.self.inside.len c.self.inside.cells.items c.args.self.now c.self.invariant c.self.view_is c.look-at.result (record { id = c.args.id; mark = c.args.place + 1 }) c.args.id c.args.place probed ends was refl refl q)
+returns-clause-places c =
+    wide_places c.self.inside.narrow c.self.inside.wide c.args.self.now c.self.invariant c.self.view_is c.args.id (omega (arith, c.if-id-lt-WIDE.false)) (Some c.args.place) c.set-2.new.self c.set-2.ensures.places
 
 pub returns-clause-len : goal.returns-clause-len
-returns-clause-len c =
-    let ends = subst (λ (xs : List Cell). EndsLook c.self.inside.bits xs c.args.id c.look-at.result) c.deref.ensures.value c.look-at.ensures in
-    let was = held_mark c.self.inside.bits c.self.inside.len c.self.inside.cells.items c.args.self.now c.self.invariant c.self.view_is c.args.id c.look-at.result c.requires.held ends in
-    let e = c.write.ensures ∙ ap (λ (xs : List Cell). set xs c.look-at.result (record { id = c.args.id; mark = c.args.place + 1 })) c.deref_mut.ensures.value in
-    let back = given_back c.write.new.cells c.self.inside.cells.items c.self.inside.cells.len (omega (arith, c.write.auto.cells, c.deref_mut.ensures.len, c.self.inside.cells.ok)) ∙ e in
-    let probed = c.self.invariant.probed (some_cells c.self.inside.bits c.self.inside.len c.self.inside.cells.items c.args.self.now c.self.invariant c.self.view_is c.args.id c.requires.held) in
-    subst (λ (xs : List Cell). length (pairs_of xs) ≡ length c.args.self.now) (sym back)
-    (moved_len c.self.inside.bits c.self.inside.len c.self.inside.cells.items c.args.self.now c.self.invariant c.self.view_is c.look-at.result (record { id = c.args.id; mark = c.args.place + 1 }) ends.within was (omega arith))
+returns-clause-len c = wide_len c.self.inside.narrow c.self.inside.wide c.args.self.now c.self.invariant c.self.view_is c.set-2.new.self c.set-2.ensures.len
 
 pub returns-clause-distinct : goal.returns-clause-distinct
 returns-clause-distinct c =
-    let ends = subst (λ (xs : List Cell). EndsLook c.self.inside.bits xs c.args.id c.look-at.result) c.deref.ensures.value c.look-at.ensures in
-    let was = held_mark c.self.inside.bits c.self.inside.len c.self.inside.cells.items c.args.self.now c.self.invariant c.self.view_is c.args.id c.look-at.result c.requires.held ends in
-    let e = c.write.ensures ∙ ap (λ (xs : List Cell). set xs c.look-at.result (record { id = c.args.id; mark = c.args.place + 1 })) c.deref_mut.ensures.value in
-    let back = given_back c.write.new.cells c.self.inside.cells.items c.self.inside.cells.len (omega (arith, c.write.auto.cells, c.deref_mut.ensures.len, c.self.inside.cells.ok)) ∙ e in
-    let probed = c.self.invariant.probed (some_cells c.self.inside.bits c.self.inside.len c.self.inside.cells.items c.args.self.now c.self.invariant c.self.view_is c.args.id c.requires.held) in
-    let after = set_probed c.self.inside.bits c.self.inside.cells.items c.look-at.result (record { id = c.args.id; mark = c.args.place + 1 }) probed ends.within was (omega arith) (sym (ends.found was)) in
-    subst (λ (xs : List Cell). AreDistinct (pairs_of xs)) (sym back)
-    (once_distinct (set c.self.inside.cells.items c.look-at.result (record { id = c.args.id; mark = c.args.place + 1 })) after.once)
+    split_distinct c.self.inside.narrow c.set-2.new.self (c.self.inside.narrow ++ c.set-2.new.self)
+    (wide_split c.self.inside.narrow c.self.inside.wide c.args.self.now c.self.invariant c.self.view_is c.args.id (omega (arith, c.if-id-lt-WIDE.false)) (Some c.args.place) c.set-2.new.self c.set-2.ensures.places c.set-2.ensures.distinct)
+    refl
