@@ -7,10 +7,14 @@ use Rattle.std.specs.Cmp.Lexicographic.{pointwise, slice_cmp, bytes_decides}
 use Rattle.std.specs.BTreeMap.{get, is_at}
 use Rattle.std.proofs.lemmas.Bool.{cases_lt, eq-eqb, le-ltb, lt-ltb, ne_eqb}
 use Rattle.std.proofs.lemmas.Bool.Decides.{nat_tests}
-use Rattle.std.proofs.lemmas.List.{get_or_append_left, get_or_push, length_push, take_more}
+use Rattle.std.proofs.lemmas.List.{get_or_append_left, get_or_default, get_or_push, length_push, take_more}
+use Rattle.std.proofs.lemmas.List.Sums.{take_while-cons}
+use Rattle.std.specs.Prelude.{take_while}
+use Rattle.fan_base.proofs.Words.{up_to_padding}
+use Rattle.fan_base.specs.Word.{is_filled, padded}
 use Rattle.fan_base.specs.declared.word.Word.{Word}
 use Rattle.word_table.specs.declared.dictionary.Dictionary.{Dictionary}
-use Rattle.word_table.specs.Numbers.{IsAt, Knows, found_in, number_in, with_word, with_words}
+use Rattle.word_table.specs.Numbers.{AreKeyed, HasKey, IsAt, Knows, byte_at, first_bytes, found_in, number_in, with_word, with_words}
 
 is_eq-nat_cmp : (x y : ℕ) → is_eq (nat_cmp x y) ≡ eqb x y
 is_eq-nat_cmp x y = grind (arith, nat_tests)
@@ -147,6 +151,60 @@ with-old words w h = ap (λ (b : Bool). cond b words (words ++ w ∷ [])) (lt-lt
 pub with-new : (words : List Word) (w : Word) → length words ≤ number_in words w → with_word words w ≡ words ++ w ∷ []
 with-new words w h = ap (λ (b : Bool). cond b words (words ++ w ∷ [])) (le-ltb (number_in words w) (length words) h)
 
+-- a word by its first bytes
+
+ends : (y : ℕ) (ys : List ℕ) → y ≡ 0 → take_while is_filled (y ∷ ys) ≡ []
+ends y ys e = take_while-cons is_filled y ys ∙ ap (λ (c : ℕ). cond (is_filled c) (y ∷ take_while is_filled ys) []) e
+
+same-front : (n : ℕ) (xs ys : List ℕ) → ((i : ℕ) → i < suc n → get_or xs i 0 ≡ get_or ys i 0) → get_or xs n 0 ≡ 0 → take_while is_filled xs ≡ take_while is_filled ys
+same-front n [] [] same end = refl
+same-front n [] (y ∷ ys) same end = sym (ends y ys (sym (same 0 (omega arith))))
+same-front n (x ∷ xs) [] same end = ends x xs (same 0 (omega arith))
+same-front zero (x ∷ xs) (y ∷ ys) same end = ends x xs end ∙ sym (ends y ys (sym (same 0 (omega arith)) ∙ end))
+same-front (suc n) (x ∷ xs) (y ∷ ys) same end =
+    let first : x ≡ y = same 0 (omega arith) in
+    let rest = same-front n xs ys (λ k less. same (suc k) (omega (arith, less))) end in
+    take_while-cons is_filled x xs ∙ ((λ i. cond (is_filled (first i)) (first i ∷ rest i) []) ∙ sym (take_while-cons is_filled y ys))
+
+-- of eight bytes each is the word's
+one-of-first : (w : Word) (i : ℕ) → i < 8 → get_or (first_bytes w) i 0 ≡ byte_at w i
+one-of-first w zero less = refl
+one-of-first w (suc zero) less = refl
+one-of-first w (suc (suc zero)) less = refl
+one-of-first w (suc (suc (suc zero))) less = refl
+one-of-first w (suc (suc (suc (suc zero)))) less = refl
+one-of-first w (suc (suc (suc (suc (suc zero))))) less = refl
+one-of-first w (suc (suc (suc (suc (suc (suc zero)))))) less = refl
+one-of-first w (suc (suc (suc (suc (suc (suc (suc zero))))))) less = refl
+one-of-first w (suc (suc (suc (suc (suc (suc (suc (suc k)))))))) less = absurd (omega (arith, less))
+
+-- a word that ends within its first bytes is told by them
+same-by-key : (key : ℕ) (v w : Word) → HasKey key v → HasKey key w → byte_at w 7 ≡ 0 → v ≡ w
+same-by-key key v w has keeps short =
+    sym (up_to_padding v has.is_word) ∙ (same-front 7 (padded v) (padded w) same (same 7 (omega arith) ∙ short) ∙ up_to_padding w keeps.is_word)
+  where
+    same : (i : ℕ) → i < 8 → byte_at v i ≡ byte_at w i
+    same i less = sym (one-of-first v i less) ∙ (ap (λ (bytes : List ℕ). get_or bytes i 0) (sym has.bytes ∙ keeps.bytes) ∙ one-of-first w i less)
+
+pub at-key : (keys : List ℕ) (words : List Word) (n key : ℕ) (w : Word) → AreKeyed keys words → n < length keys → get_or keys n 0 ≡ key → HasKey key w → byte_at w 7 ≡ 0 → IsAt words n w
+at-key keys words n key w keyed within is has short =
+    let less : n < length words = omega (arith, within, keyed.many) in
+    let there : IsAt words n (get_or words n w) = record { within = less; is = get_or_default words n (get_or words n w) w less } in
+    record { within = less; is = same-by-key key (get_or words n w) w (subst (λ (k : ℕ). HasKey k (get_or words n w)) is (keyed.each n (get_or words n w) there)) has short }
+
+keyed-push : (keys : List ℕ) (words : List Word) (key : ℕ) (x : Word) → AreKeyed keys words → HasKey key x → AreKeyed (keys ++ key ∷ []) (words ++ x ∷ [])
+keyed-push keys words key x keyed has = record {
+  many = omega (arith, length_push keys key, length_push words x, keyed.many);
+  each = λ n w at. elim (cases_lt n (length words)) [
+    | inl less ↦ subst (λ (k : ℕ). HasKey k w) (sym (get_or_append_left keys (key ∷ []) 0 n (omega (arith, less, keyed.many))))
+        (keyed.each n w (record { within = less; is = sym (get_or_append_left words (x ∷ []) w n less) ∙ at.is }))
+    | inr more ↦
+        let last : length words ≡ n = omega (arith, more, at.within, length_push words x) in
+        let same : x ≡ w = sym (get_or_push words x w n last) ∙ at.is in
+        subst (λ (k : ℕ). HasKey k w) (sym (get_or_push keys key 0 n (keyed.many ∙ last))) (subst (λ (v : Word). HasKey key v) same has)
+  ];
+}
+
 pub hint-right : (d : Dictionary) (words : List Word) (n : ℕ) (w : Word) → Knows d words → IsAt d.words.items n w → n ≡ number_in words w
 hint-right d words n w knows at = sym (knows.differ n w (subst (λ (ws : List Word). IsAt ws n w) knows.words_are at))
 
@@ -176,10 +234,13 @@ differ-push words x new differ n w at = elim (cases_lt n (length words)) [
 ]
 
 pub knows-push : (old new : Dictionary) (words : List Word) (x : Word) (n : ℕ) → Knows old words → length words ≤ number_in words x → n ≡ length words → new.words.items ≡ old.words.items ++ x ∷ []
+    → ((key : ℕ) × HasKey key x × (new.keys.items ≡ old.keys.items ++ key ∷ []))
     → ((w : Word) → get (slice_cmp nat_cmp) new.numbers w ≡ cond (is_at (slice_cmp nat_cmp x) w) (Some n) (get (slice_cmp nat_cmp) old.numbers w)) → Knows new (with_word words x)
-knows-push old new words x n knows fresh is pushed put =
+knows-push old new words x n knows fresh is pushed keyed put =
     subst (λ (ws : List Word). Knows new ws) (sym (with-new words x fresh)) (record {
       words_are = pushed ∙ ap (λ (ws : List Word). ws ++ x ∷ []) knows.words_are;
+      keyed = subst (λ (ks : List ℕ). AreKeyed ks new.words.items) (sym keyed.2)
+          (subst (λ (ws : List Word). AreKeyed (old.keys.items ++ keyed.0 ∷ []) ws) (sym pushed) (keyed-push old.keys.items old.words.items keyed.0 x knows.keyed keyed.1));
       numbered = λ w. put w ∙ ((λ i. cond (is_at-word x w i) (Some (is i)) (knows.numbered w i)) ∙ found-push words x w fresh);
       differ = differ-push words x fresh knows.differ;
     })
@@ -201,13 +262,14 @@ some-less words w n is = elim (cases_lt (number_in words w) (length words)) [
 pub number-back : (words : List Word) (w : Word) (n : ℕ) → found_in words w ≡ Some n → n ≡ number_in (with_word words w) w
 number-back words w n is = let old = some-less words w n is in number-there words w n (sym old.0) old.1
 
-pub knows-back : (old new : Dictionary) (words : List Word) (x : Word) (m n : ℕ) → Knows old words → found_in words x ≡ Some n → new.words.items ≡ old.words.items
+pub knows-back : (old new : Dictionary) (words : List Word) (x : Word) (m n : ℕ) → Knows old words → found_in words x ≡ Some n → new.words.items ≡ old.words.items → new.keys.items ≡ old.keys.items
     → ((w : Word) → get (slice_cmp nat_cmp) new.numbers w ≡ cond (is_at (slice_cmp nat_cmp x) w) (Some n) (cond (is_at (slice_cmp nat_cmp x) w) (Some m) (get (slice_cmp nat_cmp) old.numbers w)))
     → Knows new (with_word words x)
-knows-back old new words x m n knows is same put =
+knows-back old new words x m n knows is same kept put =
     let less = some-less words x n is in
     subst (λ (ws : List Word). Knows new ws) (sym (with-old words x (omega (arith, less.0, less.1)))) (record {
       words_are = same ∙ knows.words_are;
+      keyed = subst (λ (ks : List ℕ). AreKeyed ks new.words.items) (sym kept) (subst (λ (ws : List Word). AreKeyed old.keys.items ws) (sym same) knows.keyed);
       numbered = λ w. put w ∙ ((λ i. cond (is_at-word x w i) (Some n) (cond (is_at-word x w i) (Some m) (knows.numbered w i))) ∙ by w (pointwise eqb x w) refl);
       differ = knows.differ;
     })

@@ -1,6 +1,6 @@
-ghost use Rattle.std.specs.Prelude.{◌≡◌, ◌<◌, ◌++◌, ◌∷◌, [], List, IfOk, IfSome, OnOk, length, true};
+ghost use Rattle.std.specs.Prelude.{◌≡◌, ◌<◌, ◌++◌, ◌∷◌, [], ℕ, List, IfOk, IfSome, OnOk, get_or, length, true};
 ghost use Rattle.fan_base.specs.declared.word.Word.{Word};
-ghost use Rattle.word_table.specs.Numbers.{IsAt, Knows, number_in, with_word, words_in};
+ghost use Rattle.word_table.specs.Numbers.{AreKeyed, HasKey, IsAt, Knows, byte_at, number_in, with_word, words_in};
 ghost use Rattle.word_table.specs.Numbered.{word_at};
 
 use crate::hints::Hints;
@@ -13,6 +13,8 @@ use std::collections::BTreeMap;
 #[derive(Drop)]
 pub struct Dictionary {
     words: Vec<Word>,
+    /// The first bytes of each word. They lie closer together than the words, and most words have no others.
+    keys: Vec<u64>,
     numbers: BTreeMap<Word, usize>,
     hints: Hints,
 }
@@ -24,6 +26,7 @@ impl Dictionary {
     {
         Dictionary {
             words: Vec::new(alloc),
+            keys: Vec::new(alloc),
             numbers: BTreeMap::new(alloc),
             hints: Hints::new(alloc),
         }
@@ -59,9 +62,14 @@ impl Dictionary {
         }
     }
 
-    /// What is most likely the word's number. Guesses for many words, before any is asked for, are had in less time than one by one.
-    pub(crate) fn guess(&self, word: &Word) -> u32 {
-        self.hints.guess(word)
+    /// Where a word's first hint lies.
+    pub(crate) fn hint_place(&self, word: &Word) -> u32 {
+        self.hints.place(word)
+    }
+
+    /// What is most likely the number of the word whose first hint lies there.
+    pub(crate) fn guess_at(&self, place: u32) -> u32 {
+        self.hints.at(place)
     }
 
     /// The word's number, whatever the guess. A new word gets the next.
@@ -77,7 +85,7 @@ impl Dictionary {
 
     /// The word's number, where the guess or a hint tells.
     fn hinted_by(&self, word: &Word, guess: u32) -> Option<usize>
-        ensures { IfSome result (λ number. IsAt self.now.words.items number word.now) }
+        ensures { AreKeyed self.now.keys.items self.now.words.items → IfSome result (λ number. IsAt self.now.words.items number word.now) }
     {
         let number = guess as usize;
         if self.is_at(number, word) {
@@ -122,10 +130,12 @@ impl Dictionary {
     /// Puts a word behind the others, with a hint for it.
     fn put_behind(&mut self, number: usize, word: &Word) -> Result<(), AllocError>
         ensures words { OnOk result (self.new.words.items ≡ self.old.words.items ++ word.now ∷ []) }
+        ensures keys { OnOk result ((key : ℕ) × HasKey key word.now × (self.new.keys.items ≡ self.old.keys.items ++ key ∷ [])) }
         ensures numbers { self.new.numbers ≡ self.old.numbers }
     {
         let alloc = self.allocator();
         self.words.push(*word)?;
+        self.keys.push(key_of(word))?;
         if self.hints.are_full(number) {
             self.hints.grow(alloc, self.words.as_slice())?;
         } else {
@@ -136,7 +146,7 @@ impl Dictionary {
 
     /// The word's number, where a hint tells.
     fn hinted(&self, word: &Word) -> Option<usize>
-        ensures { IfSome result (λ number. IsAt self.now.words.items number word.now) }
+        ensures { AreKeyed self.now.keys.items self.now.words.items → IfSome result (λ number. IsAt self.now.words.items number word.now) }
     {
         for hint in self.hints.of(word) {
             let number = *hint as usize;
@@ -147,8 +157,23 @@ impl Dictionary {
         None
     }
 
-    /// Whether a number is the word's.
+    /// Whether a number is the word's. The word that has the number is looked at only where its first bytes don't tell.
     fn is_at(&self, number: usize, word: &Word) -> bool
+        ensures { AreKeyed self.now.keys.items self.now.words.items → result ≡ true → IsAt self.now.words.items number word.now }
+    {
+        self.has_key(number, key_of(word)) && (is_short(word) || self.is_word_at(number, word))
+    }
+
+    /// Whether a number is that of a word with these first bytes.
+    fn has_key(&self, number: usize, key: u64) -> bool
+        ensures within { result ≡ true → number < length self.now.keys.items }
+        ensures key { result ≡ true → get_or self.now.keys.items number 0 ≡ key }
+    {
+        number < self.keys.len() && self.keys[number] == key
+    }
+
+    /// Whether a number is the word's, by the words.
+    fn is_word_at(&self, number: usize, word: &Word) -> bool
         ensures { result ≡ true → IsAt self.now.words.items number word.now }
     {
         number < self.words.len() && are_same(&self.words[number], word)
@@ -163,6 +188,23 @@ impl Dictionary {
             None => self.words.len(),
         }
     }
+}
+
+/// The first eight bytes of a word, as a number.
+fn key_of(word: &Word) -> u64
+    ensures { HasKey result word.now }
+{
+    let bytes = word.as_array();
+    u64::from_le_bytes([
+        bytes[0], bytes[1], bytes[2], bytes[3], bytes[4], bytes[5], bytes[6], bytes[7],
+    ])
+}
+
+/// Whether its first eight bytes are all that a word has.
+fn is_short(word: &Word) -> bool
+    ensures { result ≡ true → byte_at word.now 7 ≡ 0 }
+{
+    word.as_array()[7] == 0
 }
 
 /// Whether two words are the same.

@@ -32,9 +32,19 @@ impl Hints {
         &self.numbers[first..end]
     }
 
-    /// What is most likely the word's number.
-    pub fn guess(&self, word: &Word) -> u32 {
-        self.of(word).first().copied().unwrap_or(NO_HINT)
+    /// The first place of a word's hints. Behind 2^32 places it is another one, which costs time alone.
+    pub fn place(&self, word: &Word) -> u32 {
+        (self.first(word) & 0xFFFF_FFFF) as u32
+    }
+
+    /// The hint at a place.
+    pub fn at(&self, place: u32) -> u32 {
+        let place = place as usize;
+        if place < self.numbers.len() {
+            self.numbers[place]
+        } else {
+            NO_HINT
+        }
     }
 
     /// Whether one of a word's places is free.

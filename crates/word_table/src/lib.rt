@@ -10,8 +10,9 @@
 //! - `Sorted::of`, `places`: for each word the places where it stands, each once, and beside each how often (`Tell`).
 //! - `numbers_stay`: the law that numbers stay right where words are added.
 //!
-//! A word is found by a hint of its hash, which is compared with the word; where the hint fails, an ordered map has it. So no contract
-//! speaks of a hint, and words chosen so that their hashes agree cost a search each and no more.
+//! A word is found by a hint of its hash. The word that the hint names is compared, by its first eight bytes where these are all; where
+//! the hint fails, an ordered map has the number. So no contract speaks of a hint, and words chosen so that their hashes agree cost a
+//! search each and no more.
 #![tactic(auto)]
 
 pub use dictionary::Dictionary;

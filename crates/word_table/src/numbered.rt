@@ -62,15 +62,27 @@ impl Dictionary {
         Ok(numbers)
     }
 
-    /// A guess for each of these words.
+    /// A guess for each of these words. Guesses for many words, before any is compared, are had in less time than one by one, and so
+    /// are the places of their hints before any is read.
     fn guesses(&self, words: &[Word]) -> Result<Vec<u32>, AllocError>
         ensures { IfOk result (λ guesses. length guesses.items ≡ length words.now) }
     {
-        let mut guesses = Vec::with_capacity(self.allocator(), words.len())?;
-        for word in words {
-            guesses.push(self.guess(word))?;
+        let mut guesses = self.hint_places(words)?;
+        for i in 0..words.len() {
+            guesses[i] = self.guess_at(guesses[i]);
         }
         Ok(guesses)
+    }
+
+    /// Where the first hint of each of these words lies.
+    fn hint_places(&self, words: &[Word]) -> Result<Vec<u32>, AllocError>
+        ensures { IfOk result (λ places. length places.items ≡ length words.now) }
+    {
+        let mut places = Vec::with_capacity(self.allocator(), words.len())?;
+        for word in words {
+            places.push(self.hint_place(word))?;
+        }
+        Ok(places)
     }
 
     /// The word's number, whatever the guess. A new word gets the next.

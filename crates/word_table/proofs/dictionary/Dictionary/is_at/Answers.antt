@@ -1,12 +1,7 @@
-use Rattle.std.proofs.Common.{◌≡◌, get_or, sym, subst, arith}
-use Rattle.fan_base.specs.declared.word.Word.{Word}
+use Rattle.word_table.proofs.NumberLemmas.{at-key}
 use Rattle.word_table.proofs.dictionary.Dictionary.is_at.Goals as goal
 
-pub returns-then-number-len : goal.returns-then-number-len
-returns-then-number-len c = λ e.
-    let words = c.args.self.now.words.items in
-    let same = c.are_same.ensures e in
-    record {
-      within = omega (arith, c.len.ensures, c.if-number-len.true, c.args.self.now.words.ok);
-      is = subst (λ (w : Word). get_or words c.args.number w ≡ w) same (sym c.index.ensures);
-    }
+pub returns-then-is_short : goal.returns-then-is_short
+returns-then-is_short c = λ keyed short.
+    at-key c.args.self.now.keys.items c.args.self.now.words.items c.args.number c.key_of.result c.args.word.now keyed
+    (c.has_key.ensures.within c.if-has_key.true) (c.has_key.ensures.key c.if-has_key.true) c.key_of.ensures (c.is_short.ensures short)
