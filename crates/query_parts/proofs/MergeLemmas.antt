@@ -1,17 +1,16 @@
 -- The parts of all shards together.
-use Rattle.std.proofs.Common.{◌≡◌, ℕ, zero, suc, ◌+◌, ◌-◌, ◌<◌, ◌≤◌, ◌^◌, List, [], ◌∷◌, ◌++◌, length, Bool, true, false, cond, get_or, refl, sym, ap, ◌∙◌, arith, zero-add, length-drop, map, take, drop, sum}
+use Rattle.std.proofs.Common.{◌≡◌, ℕ, zero, suc, ◌+◌, ◌<◌, ◌≤◌, ◌^◌, List, [], ◌∷◌, ◌++◌, length, get_or, refl, sym, ap, ◌∙◌, arith, zero-add, map, take, sum}
 use Rattle.std.specs.List.{range_with_len, filter_map, sum_by}
-use Rattle.std.proofs.lemmas.List.{drop_more, length-map, length-take-le, take_all}
+use Rattle.std.proofs.lemmas.List.{length-map, length-take-le}
 use Rattle.std.proofs.lemmas.List.FromFn.{get_or-map-range_with_len, length-map-range_with_len}
 use Rattle.std.proofs.lemmas.List.Sums.{sum_by-cons, sum_by_more_le, sum-map}
 use Rattle.fan_base.specs.declared.doc.Doc.{Doc}
 use Rattle.fan_base.specs.declared.word.Word.{Word}
 use Rattle.query_grammar.specs.Tree.{Tree}
-use Rattle.query_grammar.specs.Truth.{is_among}
 use Rattle.query_model.specs.declared.line.Ask.{Ask}
 use Rattle.query_model.specs.declared.line.Ask.TheVariants as ask
 use Rattle.query_model.specs.declared.reply.Hits.{Hits}
-use Rattle.query_model.specs.Answers.{each_once, having, hits_of, holding, weight_of}
+use Rattle.query_model.specs.Answers.{having, hits_of, holding, weight_of}
 use Rattle.query_model.specs.Parts.{merged_hits, part_before}
 use Rattle.shard_index.specs.declared.counts.Counts.{Counts}
 use Rattle.shard_index.specs.Counting.{counts_of}
@@ -135,31 +134,7 @@ pub hits-fit : TotalsLaw → (asks : Ask) (e : Tree) (docs : List Doc) (shards b
 hits-fit few asks e docs shards before parts is are =
     omega (arith, ap (λ hs. sum (map (λ hits. hits.total) hs)) (hits-of-parts asks e docs shards before parts is are), few e docs shards before are.some, are.few)
 
--- words, each once
-
-pub rest-of : (words : List Word) (i : ℕ) → take (length words - i) (drop i words) ≡ drop i words
-rest-of words i = take_all (length words - i) (drop i words) (omega (arith, length-drop i words))
-
-each-once-at : (word : Word) (words : List Word) (b : Bool) → is_among word words ≡ b → each_once (word ∷ words) ≡ cond b (each_once words) (word ∷ each_once words)
-each-once-at word words b is = ap (λ c. cond c (each_once words) (word ∷ each_once words)) is
-
-pub once-more : (words once : List Word) (i : ℕ) (word : Word) → i < length words → word ≡ get_or words i word → is_among word (drop (i + 1) words) ≡ false
-    → once ++ each_once (drop i words) ≡ each_once words → (once ++ word ∷ []) ++ each_once (drop (i + 1) words) ≡ each_once words
-once-more words once i word within is new so_far =
-    let cut : drop i words ≡ word ∷ drop (i + 1) words = drop_more words i word within ∙ ap (λ (w : Word). w ∷ drop (i + 1) words) (sym is) in
-    let first : each_once (drop i words) ≡ word ∷ each_once (drop (i + 1) words) = ap each_once cut ∙ each-once-at word (drop (i + 1) words) false new in
-    put once (each_once (drop (i + 1) words)) ∙ (ap (λ ws. once ++ ws) (sym first) ∙ so_far)
-  where
-    put : (xs ys : List Word) → (xs ++ word ∷ []) ++ ys ≡ xs ++ (word ∷ ys)
-    put [] ys = refl
-    put (x ∷ xs) ys = ap (λ zs. x ∷ zs) (put xs ys)
-
-pub once-same : (words once : List Word) (i : ℕ) (word : Word) → i < length words → word ≡ get_or words i word → is_among word (drop (i + 1) words) ≡ true
-    → once ++ each_once (drop i words) ≡ each_once words → once ++ each_once (drop (i + 1) words) ≡ each_once words
-once-same words once i word within is again so_far =
-    let cut : drop i words ≡ word ∷ drop (i + 1) words = drop_more words i word within ∙ ap (λ (w : Word). w ∷ drop (i + 1) words) (sym is) in
-    let first : each_once (drop i words) ≡ each_once (drop (i + 1) words) = ap each_once cut ∙ each-once-at word (drop (i + 1) words) true again in
-    ap (λ ws. once ++ ws) (sym first) ∙ so_far
+-- weights of words, each once
 
 pub weights-more : (weight : Word → ℕ) (words once : List Word) (weights kept : List ℕ) (i g d : ℕ) (word : Word) → i < length words → word ≡ get_or words i word → g ≡ get_or weights i d
     → weights ≡ map weight words → kept ≡ map weight once → kept ++ g ∷ [] ≡ map weight (once ++ word ∷ [])

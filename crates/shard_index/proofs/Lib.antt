@@ -1,6 +1,7 @@
 mod Sorted
 mod Keeping
 mod WordLemmas
+pub mod OnceLemmas
 mod PlaceLemmas
 mod JoinLemmas
 mod BothLemmas

@@ -1,11 +1,12 @@
 -- Marks by place: what is set at the places of documents, and how many are set.
-use Rattle.std.proofs.Common.{◌≡◌, ℕ, zero, suc, ◌+◌, ◌<◌, List, [], ◌∷◌, ◌++◌, length, Bool, true, false, ◌||◌, cond, get_or, replicate, refl, sym, ap, ◌∙◌, arith, take, map, set, append_assoc, zero-add}
+use Rattle.std.proofs.Common.{◌≡◌, ℕ, zero, suc, ◌+◌, ◌<◌, ◌≤◌, List, [], ◌∷◌, ◌++◌, length, Bool, true, false, ◌||◌, cond, get_or, replicate, refl, sym, ap, ◌∙◌, arith, take, map, set, append_assoc, zero-add}
 use Rattle.std.specs.List.{count_by, fold}
-use Rattle.std.proofs.lemmas.List.{set_at, take_more}
+use Rattle.std.proofs.lemmas.List.{get_or-map, length-take-le, set_at, take_more}
 use Rattle.std.proofs.lemmas.List.Sums.{sum_by-cons}
 use Rattle.fan_base.specs.declared.doc.Doc.{Doc}
 use Rattle.shard_index.specs.Places.{places_from, places_where}
 use Rattle.shard_index.specs.Totals.{marked_at}
+use Rattle.shard_index.proofs.PlaceLemmas.{places-push}
 
 length-set : (xs : List Bool) (i : ℕ) (v : Bool) → length (set xs i v) ≡ length xs
 length-set [] i v = refl
@@ -75,3 +76,15 @@ pub count-marked : (mark : Doc → Bool) (docs : List Doc) → count_by (λ b. b
 count-marked mark [] = refl
 count-marked mark (d ∷ ds) =
     sum_by-cons (λ b. cond b 1 0) (mark d) (map mark ds) ∙ (ap (λ n. cond (mark d) 1 0 + n) (count-marked mark ds) ∙ sym (sum_by-cons (λ e. cond (mark e) 1 0) d ds))
+
+-- the places of marks, one mark more
+pub places-more : (test : Doc → Bool) (docs : List Doc) (i : ℕ) (mark d : Bool) → i < length docs → mark ≡ get_or (map test docs) i d
+    → places_where test (take (i + 1) docs) ≡ cond mark (places_where test (take i docs) ++ i ∷ []) (places_where test (take i docs))
+places-more test [] i mark d within is = absurd (omega (arith, within))
+places-more test (first ∷ rest) i mark d within is =
+    let docs : List Doc = first ∷ rest in
+    let doc : Doc = get_or docs i first in
+    let here : test doc ≡ mark = sym (is ∙ get_or-map test docs i first d within) in
+    let many : length (take i docs) ≡ i = length-take-le i docs (let h : i ≤ length docs = omega (arith, within) in h) in
+    ap (places_where test) (take_more docs i first within) ∙ (places-push test (take i docs) doc
+    ∙ (λ k. cond (here k) (places_where test (take i docs) ++ many k ∷ []) (places_where test (take i docs))))

@@ -1,4 +1,4 @@
-ghost use Rattle.std.specs.Prelude.{◌≡◌, ◌+◌, ◌*◌, ◌<◌, ◌≤◌, ◌^◌, ◌&&◌, ◌||◌, ℕ, All, Bool, List, IfOk, length, map, not, take, true, zip, if◌then◌else◌};
+ghost use Rattle.std.specs.Prelude.{◌≡◌, ◌+◌, ◌*◌, ◌<◌, ◌≤◌, ◌^◌, ◌&&◌, ◌||◌, ℕ, All, Bool, List, IfOk, IfSome, length, map, not, take, true, zip, if◌then◌else◌};
 ghost use Rattle.fan_base.specs.declared.doc.Doc.{Doc};
 ghost use Rattle.std.specs.List.{AllByRecursion};
 ghost use Rattle.query_model.specs.Answers.{having, hits_of, holding, times_in};
@@ -17,8 +17,8 @@ use crate::best::ascend;
 use crate::counts::Counts;
 use crate::front::below;
 use crate::hits::hits;
-use crate::leaves::two_words;
-use crate::marks::{mark_at, no_marks};
+use crate::leaves::{is_long, two_words};
+use crate::marks::{mark_at, marked, no_marks};
 use crate::narrow::narrow;
 use crate::scored::{first_scores, with_places};
 use crate::selection::{Places, Selection, both};
@@ -29,6 +29,9 @@ use query_model::Hits;
 use std::alloc::{AllocError, Global};
 use std::sync::Arc;
 use word_table::{Dictionary, NumberedDoc, Sorted};
+
+/// From so many choices one behind the other on, marks for all documents are made where all are words.
+const MANY: u32 = 16;
 
 /// An index of documents in the order of their lines: their ids, and for each word where it stands. It keeps no document.
 /// Each question is asked of the first `front` of the documents.
@@ -113,7 +116,8 @@ impl Index {
         front: usize,
         e: &Expr,
     ) -> Result<Selection<'s>, AllocError>
-        requires { (docs : List Doc) × Indexes self.now docs }
+        requires docs { (docs : List Doc) × Indexes self.now docs }
+        requires front { front ≤ length self.now.ids.items }
         ensures { (docs : List Doc) → Indexes self.now docs → IfOk result (λ selection. Selects selection (holds_in e.now) (take front docs)) }
     {
         match e.node() {
@@ -128,10 +132,57 @@ impl Index {
                 ),
             },
             Node::Either(a, b) => {
+                if is_long(e, MANY)
+                    && let Some(selection) = self.select_words(alloc, front, e)?
+                {
+                    return Ok(selection);
+                }
                 let a = self.select(alloc, front, a)?.complement();
                 let b = self.select(alloc, front, b)?.complement();
                 Ok(both(alloc, &a, &b)?.complement())
             }
+        }
+    }
+
+    /// The documents with one of the words of a choice of words, or none where the expression is another. Marks for all documents are made,
+    /// so that each word's places are gone over once: to join them word by word would copy all that was joined each time.
+    fn select_words<'s>(
+        &'s self,
+        alloc: Global,
+        front: usize,
+        e: &Expr,
+    ) -> Result<Option<Selection<'s>>, AllocError>
+        requires docs { (docs : List Doc) × Indexes self.now docs }
+        requires front { front ≤ length self.now.ids.items }
+        ensures { (docs : List Doc) → Indexes self.now docs
+            → IfOk result (λ words. IfSome words (λ selection. Selects selection (holds_in e.now) (take front docs))) }
+    {
+        let mut marks = no_marks(alloc, front)?;
+        if !self.mark_words(front, e, &mut marks) {
+            return Ok(None);
+        }
+        let kept = marked(alloc, &marks)?;
+        Ok(Some(Selection::Those(Places::Made(kept))))
+    }
+
+    /// Marks the documents with one of the words of a choice of words, and says whether the expression is one.
+    fn mark_words(&self, front: usize, e: &Expr, marks: &mut Vec<bool>) -> bool
+        requires docs { (docs : List Doc) × Indexes self.now docs }
+        requires front { front ≤ length self.now.ids.items }
+        requires many { length marks.old.items ≡ front }
+        ensures many { length marks.new.items ≡ front }
+        ensures marks { (docs : List Doc) (mark : Doc → Bool) → Indexes self.now docs → marks.old.items ≡ map mark (take front docs) → result ≡ true
+            → marks.new.items ≡ map (λ doc. mark doc || holds_in e.now doc) (take front docs) }
+    {
+        match e.node() {
+            Node::Word(word) => {
+                mark_at(marks, self.places_with(front, word));
+                true
+            }
+            Node::Either(a, b) => {
+                self.mark_words(front, a, marks) && self.mark_words(front, b, marks)
+            }
+            _ => false,
         }
     }
 

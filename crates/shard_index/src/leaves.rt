@@ -36,3 +36,11 @@ fn leaf_in(e: &Expr) -> Option<(&Word, bool)>
         _ => None,
     }
 }
+
+/// Whether an expression is a choice with more than so many others in its first parts.
+pub fn is_long(e: &Expr, many: u32) -> bool {
+    match e.node() {
+        Node::Either(a, _) => many == 0 || is_long(a, many - 1),
+        _ => false,
+    }
+}

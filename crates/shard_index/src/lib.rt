@@ -23,7 +23,7 @@
 pub use counts::Counts;
 pub use laws::{merged_hits_are_the_whole, merged_scores_are_the_whole};
 pub use merge::{merge_hits, merge_scores, weights};
-pub use once::each_once;
+pub use once::{each_once, stand_again};
 pub use shard::Shard;
 pub use shards::Shards;
 

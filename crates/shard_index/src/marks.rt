@@ -1,5 +1,7 @@
-ghost use Rattle.std.specs.Prelude.{◌≡◌, ◌+◌, ◌<◌, All, IfOk, false, length, replicate};
+ghost use Rattle.std.specs.Prelude.{◌≡◌, ◌+◌, ◌<◌, ◌^◌, All, Bool, List, IfOk, false, length, map, replicate};
 ghost use Rattle.std.specs.List.{count_by};
+ghost use Rattle.fan_base.specs.declared.doc.Doc.{Doc};
+ghost use Rattle.shard_index.specs.Places.{places_where};
 ghost use Rattle.shard_index.specs.Totals.{marked_at};
 
 use std::alloc::{AllocError, Global};
@@ -23,4 +25,18 @@ pub fn mark_at(marks: &mut Vec<bool>, places: &[u32]) -> u64
         marks[*place as usize] = true;
     }
     new
+}
+
+/// The places that are marked, in order.
+pub fn marked(alloc: Global, marks: &[bool]) -> Result<Vec<u32>, AllocError>
+    requires { length marks.now < 2 ^ 32 }
+    ensures { (test : Doc → Bool) (docs : List Doc) → marks.now ≡ map test docs → IfOk result (λ places. places.items ≡ places_where test docs) }
+{
+    let mut places = Vec::new(alloc);
+    for i in 0..marks.len() {
+        if marks[i] {
+            places.push(i as u32)?;
+        }
+    }
+    Ok(places)
 }

@@ -84,6 +84,14 @@ fn replies_and_marks_of_worked_documents(rt: HostRuntime) -> Result<(), Fail> {
             [1, 1, 1, 0],
         ),
         (
+            LETTERS,
+            3,
+            "top 5",
+            "a b c a b c a b c a b c a b c a b c a b c a b c a b c a b c a b c a b c",
+            "1 top 3: 3=3 1=2 2=2\n",
+            [1, 1, 1, 0],
+        ),
+        (
             CATALOGUE,
             3,
             "find",

@@ -1,28 +1,31 @@
-use Rattle.std.proofs.Common.{◌≡◌, ◌<◌, ◌+◌, ◌++◌, ap, sym, ◌∙◌, length, drop, get_or, map, refl, arith}
-use Rattle.query_grammar.specs.Truth.{is_among}
+use Rattle.std.proofs.Common.{◌≡◌, ◌<◌, ◌+◌, ◌++◌, List, Bool, ap, sym, ◌∙◌, length, drop, get_or, map, refl, arith}
 use Rattle.query_model.specs.Answers.{each_once}
-use Rattle.query_parts.proofs.MergeLemmas.{once-more, once-same, rest-of, weights-more}
+use Rattle.shard_index.specs.Counting.{stand_again}
+use Rattle.shard_index.proofs.OnceLemmas.{once-more, once-same}
+use Rattle.query_parts.proofs.MergeLemmas.{weights-more}
 use Rattle.query_parts.proofs.once.weigh_once.Goals as goal
-use Rattle.query_parts.proofs.once.weigh_once.Goals.{then-not-contains+in_ok-push+in_ok-push-2, else-not-contains}
+use Rattle.query_parts.proofs.once.weigh_once.Goals.{then-not-index+in_ok-push+in_ok-push-2, else-not-index}
 
 pub loop-i-preserved : goal.loop-i-preserved
 loop-i-preserved c =
-    let within : c.loop-i.i < length c.args.words.now = omega (arith, c.loop-i-test.true) in
-    let among : c.contains.result ≡ is_among c.index-words-i.result (drop (c.loop-i.i + 1) c.args.words.now) =
-    c.contains.ensures.value ∙ ap (λ ws. is_among c.index-words-i.result ws) (rest-of c.args.words.now (c.loop-i.i + 1)) in
-    elim c.if-not-contains.branch [
-      | then-not-contains+in_ok-push+in_ok-push-2 w ↦ record {
-        words = ap (λ v. v.items ++ each_once (drop (c.loop-i.i + 1) c.args.words.now)) w.once-is
-            ∙ (ap (λ ws. ws ++ each_once (drop (c.loop-i.i + 1) c.args.words.now)) w.in_ok-push.ensures.items
-            ∙ once-more c.args.words.now c.loop-i.once.items c.loop-i.i c.index-words-i.result within c.index-words-i.is (sym among ∙ w.if-not-contains.true) c.loop-i.invariant.words);
+    let words = c.args.words.now in
+    let i = c.loop-i.i in
+    let d : Bool = c.index.result.now in
+    let within : i < length words = omega (arith, c.loop-i-test.true) in
+    let told : get_or (stand_again words) i d ≡ d = ap (λ (bs : List Bool). get_or bs i d) (sym c.in_ok-again.ensures.told) ∙ sym c.index.ensures in
+    elim c.if-not-index.branch [
+      | then-not-index+in_ok-push+in_ok-push-2 w ↦ record {
+        words = ap (λ v. v.items ++ each_once (drop (i + 1) words)) w.once-is
+            ∙ (ap (λ ws. ws ++ each_once (drop (i + 1) words)) w.in_ok-push.ensures.items
+            ∙ once-more words c.loop-i.once.items i w.index-words-i.result d within w.index-words-i.is (told ∙ w.if-not-index.true) c.loop-i.invariant.words);
         weights = λ weight are.
             ap (λ v. v.items) w.kept-is ∙ (w.in_ok-push-2.ensures.items
-            ∙ (weights-more weight c.args.words.now c.loop-i.once.items c.args.weights.now c.loop-i.kept.items c.loop-i.i (get_or c.args.weights.now c.loop-i.i 0) 0 c.index-words-i.result within c.index-words-i.is refl are (c.loop-i.invariant.weights weight are)
+            ∙ (weights-more weight words c.loop-i.once.items c.args.weights.now c.loop-i.kept.items i (get_or c.args.weights.now i 0) 0 w.index-words-i.result within w.index-words-i.is refl are (c.loop-i.invariant.weights weight are)
             ∙ ap (λ ws. map weight ws) (sym (ap (λ v. v.items) w.once-is ∙ w.in_ok-push.ensures.items))));
       }
-      | else-not-contains w ↦ record {
-        words = ap (λ v. v.items ++ each_once (drop (c.loop-i.i + 1) c.args.words.now)) w.once-is
-            ∙ once-same c.args.words.now c.loop-i.once.items c.loop-i.i c.index-words-i.result within c.index-words-i.is (sym among ∙ w.if-not-contains.false) c.loop-i.invariant.words;
+      | else-not-index w ↦ record {
+        words = ap (λ v. v.items ++ each_once (drop (i + 1) words)) w.once-is
+            ∙ once-same words c.loop-i.once.items i d within (told ∙ w.if-not-index.false) c.loop-i.invariant.words;
         weights = λ weight are. ap (λ v. v.items) w.kept-is ∙ (c.loop-i.invariant.weights weight are ∙ ap (λ ws. map weight ws) (sym (ap (λ v. v.items) w.once-is)));
       }
     ]
