@@ -95,8 +95,8 @@ one_is a b d e [] behind is = (refl, cc)
 one_is a b d e (x ∷ []) behind is = absurd (cc)
 one_is a b d e (x ∷ y ∷ m) behind is = absurd (cc)
 
-turn_takes : (queues : ℕ) (t : Turn) (before behind : List Step) (queue : ℕ) (e : Entry) → GoesOn queues t ⊎ IsLast t → steps_of queues t ≡ before ++ took queue e ∷ behind → MayTake queues before queue
-turn_takes queues (ran found q d) before behind queue e well is =
+turn_takes : (queues : ℕ) (end : Option Ending) (t : Turn) (before behind : List Step) (queue : ℕ) (e : Entry) → GoesOn queues t ⊎ IsLast end t → steps_of queues t ≡ before ++ took queue e ∷ behind → MayTake queues before queue
+turn_takes queues end (ran found q d) before behind queue e well is =
     let within = ⊎_elim (λ (g : (q < queues) × (found ≢ Some Stops)). g) (λ l. absurd l) well in
     let front = looked found ∷ empty_from_the_top queues (queues - suc q) in
     ⊎_elim
@@ -106,21 +106,21 @@ turn_takes queues (ran found q d) before behind queue e well is =
     let front_is : front ≡ before = sym (r.1 ∙ (ap (λ (l : List Step). front ++ l) one.0 ∙ append-nil front)) in
     subst (λ (l : List Step). MayTake queues l queue) front_is (subst (λ (k : ℕ). MayTake queues front k) one.1 (looks_allow queues q found within.0 within.1)))
     (split front (took q d ∷ []) before behind (took queue e) is)
-turn_takes queues (idle found) before behind queue e well is = absurd (no_take_in (looked found ∷ empty_from_the_top queues queues) before behind queue e (none_taken queues queues) is)
-turn_takes queues stopped before behind queue e well is = absurd (no_take_in (looked (Some Stops) ∷ []) before behind queue e refl is)
+turn_takes queues end (idle found) before behind queue e well is = absurd (no_take_in (looked found ∷ empty_from_the_top queues queues) before behind queue e (none_taken queues queues) is)
+turn_takes queues end stopped before behind queue e well is = absurd (no_take_in (looked (Some Stops) ∷ []) before behind queue e refl is)
 
-turns_take : (queues : ℕ) (turns : List Turn) (last : Turn) → All (GoesOn queues) turns → IsLast last → (before behind : List Step) (queue : ℕ) (e : Entry)
+turns_take : (queues : ℕ) (end : Option Ending) (turns : List Turn) (last : Turn) → All (GoesOn queues) turns → IsLast end last → (before behind : List Step) (queue : ℕ) (e : Entry)
     → flat_map (steps_of queues) turns ++ steps_of queues last ≡ before ++ took queue e ∷ behind → MayTake queues before queue
-turns_take queues [] last each ends before behind queue e is = turn_takes queues last before behind queue e (inr ends) is
-turns_take queues (t ∷ ts) last each ends before behind queue e is =
+turns_take queues end [] last each ends before behind queue e is = turn_takes queues end last before behind queue e (inr ends) is
+turns_take queues end (t ∷ ts) last each ends before behind queue e is =
     let rest = flat_map (steps_of queues) ts ++ steps_of queues last in
     let whole : steps_of queues t ++ rest ≡ before ++ took queue e ∷ behind = sym (append_assoc (steps_of queues t) (flat_map (steps_of queues) ts) (steps_of queues last)) ∙ is in
     ⊎_elim
-    (λ (r : (m : List Step) × (steps_of queues t ≡ before ++ took queue e ∷ m)). turn_takes queues t before r.0 queue e (inl (All-head (GoesOn queues) t ts each)) r.1)
+    (λ (r : (m : List Step) × (steps_of queues t ≡ before ++ took queue e ∷ m)). turn_takes queues end t before r.0 queue e (inl (All-head (GoesOn queues) t ts each)) r.1)
     (λ (r : (m : List Step) × (before ≡ steps_of queues t ++ m) × (rest ≡ m ++ took queue e ∷ behind)).
     subst (λ (l : List Step). MayTake queues l queue) (sym r.1)
-    (may_more queues queue (steps_of queues t) r.0 (turns_take queues ts last (All-tail (GoesOn queues) t ts each) ends r.0 behind queue e r.2)))
+    (may_more queues queue (steps_of queues t) r.0 (turns_take queues end ts last (All-tail (GoesOn queues) t ts each) ends r.0 behind queue e r.2)))
     (split (steps_of queues t) rest before behind (took queue e) whole)
 
-pub takes_from_the_highest : (queues : ℕ) (steps : List Step) → Worked queues steps → TakesFromTheHighest queues steps
-takes_from_the_highest queues steps worked = record { each = λ before behind queue e is. turns_take queues worked.turns worked.last worked.each worked.ends before behind queue e (sym worked.list ∙ is) }
+pub takes_from_the_highest : (queues : ℕ) (end : Option Ending) (steps : List Step) → Worked queues end steps → TakesFromTheHighest queues steps
+takes_from_the_highest queues end steps worked = record { each = λ before behind queue e is. turns_take queues end worked.turns worked.last worked.each worked.ends before behind queue e (sym worked.list ∙ is) }

@@ -1,5 +1,5 @@
 -- What contracts see of the record of a run.
-use Rattle.std.specs.Prelude.{◌≡◌, ℕ, List, [], ◌∷◌, map, filter, ◌==◌}
+use Rattle.std.specs.Prelude.{◌≡◌, ℕ, List, [], ◌∷◌, map}
 use Rattle.fan_base.specs.declared.number.ExecId.{ExecId}
 use Rattle.fan_base.specs.declared.number.JobId.{JobId}
 use Rattle.fan_base.specs.declared.number.Mark.{Mark}
@@ -33,7 +33,3 @@ AreRunsOf (t ∷ ts) (r ∷ rs) = IsRunOf t r × AreRunsOf ts rs
 -- the jobs and marks of the records, in order
 abbrev pub ran_of : List Record → List (JobId × Mark)
 ran_of records = map (λ r. (r.job, r.mark)) records
-
--- the records of one queue, in order
-abbrev pub records_in : ℕ → List Record → List Record
-records_in queue records = filter (λ r. r.queue == queue) records

@@ -58,19 +58,19 @@ GoesOn queues (ran found queue e) = (queue < queues) × (found ≢ Some Stops)
 GoesOn queues (idle found) = found ≡ None
 GoesOn queues stopped = ⊥
 
--- with this turn a worker ends: the look had found a join, and then each queue was found empty; or it had found a stop
-abbrev pub IsLast : Turn → Type 0
-IsLast (ran found queue e) = ⊥
-IsLast (idle found) = found ≡ Some Joins
-IsLast stopped = Unit {0}
+-- with this turn a worker ends, which found this end begun: the look had found a join, and then each queue was found empty; or it had found a stop
+abbrev pub IsLast : Option Ending → Turn → Type 0
+IsLast end (ran found queue e) = ⊥
+IsLast end (idle found) = (end ≡ Some Joins) × (found ≡ Some Joins)
+IsLast end stopped = end ≡ Some Stops
 
--- all that a worker did over so many queues: turns after which it went on, and the turn with which it ended
-pub record Worked (queues : ℕ) (steps : List Step) : Type 0 where
+-- all that a worker did over so many queues: turns after which it went on, and the turn with which it ended, whose look found this end
+pub record Worked (queues : ℕ) (end : Option Ending) (steps : List Step) : Type 0 where
   pub turns : List Turn
   pub last : Turn
   pub list : steps ≡ flat_map (steps_of queues) turns ++ steps_of queues last
   pub each : All (GoesOn queues) turns
-  pub ends : IsLast last
+  pub ends : IsLast end last
 
 -- behind the last take among these steps there is this one
 pub record IsSinceTheLastTake (steps : List Step) (step : Step) : Type 0 where

@@ -1,5 +1,6 @@
 // Laws of passes, histories and accounts. Each body is empty: the contract is the law.
-ghost use Rattle.std.specs.Prelude.{ℕ, List, take};
+ghost use Rattle.std.specs.Prelude.{ℕ, List, Option, take};
+ghost use Rattle.pool_model.specs.declared.task.Ending.{Ending};
 ghost use Rattle.pool_model.specs.History.{Event, PoolHistory, accepts, outs};
 ghost use Rattle.pool_model.specs.Records.{Record};
 ghost use Rattle.pool_model.specs.Seen.{PoolId, PassSeen, Returned};
@@ -42,5 +43,5 @@ pub fn passes_in_order_are_all()
 /// In all that a worker did, each take follows, behind the take before it, a look at the mark that found no stop, and for each
 /// higher queue a pop that found it empty.
 pub fn takes_follow_empty_looks()
-    ensures { (queues : ℕ) (steps : List Step) → Worked queues steps → TakesFromTheHighest queues steps }
+    ensures { (queues : ℕ) (end : Option Ending) (steps : List Step) → Worked queues end steps → TakesFromTheHighest queues steps }
 {}

@@ -1,6 +1,7 @@
 // Pools on one thread and on several.
-ghost use Rattle.std.specs.Prelude.{◌≡◌, ◌⊎◌, ◌+◌, ◌<◌, ◌≤◌, ◌∷◌, ◌++◌, [], length, All};
+ghost use Rattle.std.specs.Prelude.{◌≡◌, ◌⊎◌, ◌+◌, ◌<◌, ◌≤◌, ℕ, ◌∷◌, ◌++◌, [], length, All};
 ghost use Rattle.pool_model.specs.Passes.{AreAllPasses, AreAllEnds, adds_of};
+ghost use Rattle.pool_model.specs.Seen.{PoolId};
 ghost use Rattle.prio_pool.specs.Made.{new_ends, new_passes, new_workers};
 
 use fan_base::{ExecId, JobId, Mark, OpenGate, Parcel, Refused};
@@ -376,11 +377,10 @@ fn only_of<X, R: Abort>(rt: &R, mut list: Vec<X>) -> X
 }
 
 // The one pass of a new pool with one adder.
-fn only_pass<J: Headed, R: Abort>(rt: &R, pool: &Pool<J>, adders: Vec<PoolPass<J>>) -> PoolPass<J>
-    requires { adders.items ≡ new_passes pool.now.id 0 1 }
-    ensures { (result.pool ≡ pool.now.id) × (adds_of result ≡ []) }
+fn only_pass<J: Headed, R: Abort>(rt: &R, adders: Vec<PoolPass<J>>) -> PoolPass<J>
+    requires { length adders.items ≡ 1 }
+    ensures { (id : PoolId) → adders.items ≡ new_passes id 0 1 → (result.pool ≡ id) × (adds_of result ≡ []) }
 {
-    let _ = pool;
     new_passes_are_unused();
     only_of(rt, adders)
 }
@@ -388,15 +388,12 @@ fn only_pass<J: Headed, R: Abort>(rt: &R, pool: &Pool<J>, adders: Vec<PoolPass<J
 // The workers' passes of a new pool, which are so many.
 fn workers_of<J: Headed, R: Abort>(
     rt: &R,
-    pool: &Pool<J>,
     workers: Vec<WorkerPass<J>>,
     count: u32,
 ) -> Vec<WorkerPass<J>>
-    requires { workers.items ≡ new_workers pool.now.id 0 count }
-    ensures all { All (λ w. w.pool ≡ pool.now.id) result.items }
+    ensures all { (id : PoolId) → workers.items ≡ new_workers id 0 count → All (λ w. w.pool ≡ id) result.items }
     ensures count { length result.items ≡ count }
 {
-    let _ = pool;
     new_passes_are_unused();
     assert!(rt; workers.len() == count as usize);
     workers
@@ -405,17 +402,12 @@ fn workers_of<J: Headed, R: Abort>(
 // The helpers' passes of a new pool with so many workers, which are so many.
 fn helpers_of<J: Headed, R: Abort>(
     rt: &R,
-    pool: &Pool<J>,
     helpers: Vec<HelperPass<J>>,
-    workers: u32,
     count: u32,
 ) -> Vec<HelperPass<J>>
-    requires { helpers.items ≡ new_ends pool.now.id workers count }
-    ensures all { All (λ h. h.pool ≡ pool.now.id) result.items }
+    ensures all { (id : PoolId) (workers : ℕ) → helpers.items ≡ new_ends id workers count → All (λ h. h.pool ≡ id) result.items }
     ensures count { length result.items ≡ count }
 {
-    let _ = pool;
-    let _ = workers;
     new_passes_are_unused();
     assert!(rt; helpers.len() == count as usize);
     helpers
@@ -503,9 +495,9 @@ fn open_pool<J: Headed, R: Abort>(rt: &R, alloc: Global, workers: u32, helpers: 
         workers: works,
         helpers: helps,
     } = Pool::new(alloc, ExecId(7), 3, 1, workers, helpers, 0).expect(rt, "memory");
-    let pass = only_pass(rt, &pool, adders);
-    let works = workers_of(rt, &pool, works, workers);
-    let helps = helpers_of(rt, &pool, helps, workers, helpers);
+    let pass = only_pass(rt, adders);
+    let works = workers_of(rt, works, workers);
+    let helps = helpers_of(rt, helps, helpers);
     Opened {
         pool,
         adding: Adding { owner, keep, pass },

@@ -171,8 +171,8 @@ so_far_more queues steps more t so_far well is = record {
   each = All-push (GoesOn queues) so_far.turns t so_far.each well;
 }
 
-pub worked_all : (queues : ℕ) (steps more : List Step) (t : Turn) → WorkedSoFar queues steps → IsLast t → more ≡ steps ++ steps_of queues t → Worked queues more
-worked_all queues steps more t so_far ends is = record {
+pub worked_all : (queues : ℕ) (end : Option Ending) (steps more : List Step) (t : Turn) → WorkedSoFar queues steps → IsLast end t → more ≡ steps ++ steps_of queues t → Worked queues end more
+worked_all queues end steps more t so_far ends is = record {
   turns = so_far.turns;
   last = t;
   list = is ∙ ap (λ (l : List Step). l ++ steps_of queues t) so_far.list;

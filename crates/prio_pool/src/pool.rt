@@ -103,7 +103,7 @@ impl<J: Headed> Pool<J> {
         }
     }
 
-    /// Works for the pool: takes the first task of the highest queue that has one, runs it between the two calls of the
+    /// Works for the pool: takes the first task of the highest queue that it doesn't find empty, runs it between the two calls of the
     /// gate, and goes on, until the pool is stopped, or is joined and each queue is found empty. It sleeps while it finds no
     /// task.
     pub fn work<W, G: Gate, R: Wait>(
@@ -119,7 +119,7 @@ impl<J: Headed> Pool<J> {
         ensures pool { (result.pool ≡ pass.pool) × (result.number ≡ pass.number) }
         ensures ran { Leads J.runs world.old (ran_of result.records) world.new }
         ensures ran_taken { RanWhatItTook result }
-        ensures worked { Worked (length self.now.id.queues) (steps_by result) }
+        ensures worked { Worked (length self.now.id.queues) result.found (steps_by result) }
         ensures found { result.found ≢ None }
     {
         let WorkerPass { mut takers, parker } = pass;
@@ -154,7 +154,7 @@ impl<J: Headed> Pool<J> {
         unreachable!()
     }
 
-    /// Takes the first task of the highest queue that has one, and runs it between the two calls of the gate.
+    /// Takes the first task of the highest queue that it doesn't find empty, and runs it between the two calls of the gate.
     pub fn help<W, G: Gate, R: Wait>(
         &self,
         rt: &R,

@@ -73,7 +73,7 @@ impl<J: Headed> Takers<J> {
         Some(task)
     }
 
-    /// Takes the first task of the highest queue that has one. It looks at the queues from the highest down.
+    /// Takes the first task of the highest queue that it doesn't find empty. It looks at the queues from the highest down.
     pub fn next<R: Wait>(
         &mut self,
         rt: &R,

@@ -24,7 +24,7 @@ pub enum Turned {
     Stopped,
 }
 
-/// Looks at the mark, takes the first task of the highest queue that has one, and runs it.
+/// Looks at the mark, takes the first task of the highest queue that it doesn't find empty, and runs it.
 pub fn turn<J: Job<W>, W, G: Gate, R: Wait>(
     rt: &R,
     pool: (&Vec<TaskQueue<Placed<J>>>, &EndMark, &Sleepers),

@@ -1,7 +1,7 @@
 // The looks of one worker or helper, and the one function that pops.
 ghost use Rattle.std.specs.Prelude.{◌≡◌, [], ◌∷◌, ◌++◌};
 ghost use Rattle.crossbeam_queue.specs.SegTies.{IsSegPassOf};
-ghost use Rattle.task_queue.specs.Looks.{look_of, pop_seen};
+ghost use Rattle.task_queue.specs.Looks.{mark_seen, pop_seen};
 ghost use Rattle.task_queue.specs.Steps.{Popped, MayPop};
 
 use crate::mark::Watch;
@@ -10,18 +10,19 @@ use crate::rule::{Line, Pass, QueueRule, Queued};
 use crate::steps::Pop;
 use crate::view::View;
 use job_trait::Headed;
-use queue_looks::Trail;
+use queue_looks::{Noted, Trail};
 use std::marker::Model;
+use std::snapshot::Snapshot;
 use std::sync::Wait;
 
 /// What is noted of a look at a queue or at the mark.
-pub(crate) type Noted<J> = queue_looks::Noted<Pass<J>, Watch>;
+type NotedLook<J> = Noted<Pass<J>, Watch>;
 
 /// All looks of one worker or helper, at queues and at the mark, oldest first. Contracts see each: at which queue or mark it was,
 /// and what it found. It has no bytes, may be dropped, and only a pop and a look at the mark make it longer.
 #[derive(Drop)]
 pub struct Looks<J> {
-    trail: Trail<Noted<J>>,
+    trail: Trail<NotedLook<J>>,
 }
 
 impl<J> Model for Looks<J> {
@@ -44,10 +45,11 @@ impl<J> Looks<J> {
         }
     }
 
-    // One more.
-    pub(crate) fn note(&mut self, noted: Noted<J>)
-        ensures { self.new ≡ self.old ++ look_of noted ∷ [] }
+    // A look at the mark more. What a pop found is noted by the pop alone.
+    pub(crate) fn note(&mut self, watch: Snapshot<Watch>)
+        ensures { self.new ≡ self.old ++ mark_seen watch.value.mark watch.value.found ∷ [] }
     {
+        let noted: NotedLook<J> = Noted::Looked(watch);
         self.trail = self.trail.and(&noted);
     }
 }

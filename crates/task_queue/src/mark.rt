@@ -8,7 +8,6 @@ use atomic_table::{Join, Play, Seat, Split, Table, TableRule};
 use fan_base::Memory;
 use keep_alive::{Joined, KeepAlive};
 use pool_model::Ending;
-use queue_looks::Noted;
 use std::alloc::{AllocError, Global};
 use std::marker::Model;
 use std::snapshot::Snapshot;
@@ -221,7 +220,7 @@ impl EndMark {
         ensures noted { looks.new ≡ looks.old ++ mark_seen self.now.mark result ∷ [] }
     {
         let found = self.load(watch);
-        looks.note(Noted::Looked(Snapshot::of(&*watch)));
+        looks.note(Snapshot::of(&*watch));
         found
     }
 

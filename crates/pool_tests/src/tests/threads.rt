@@ -4,6 +4,7 @@ ghost use Rattle.pool_model.specs.Passes.{AreAllPasses, AreAllEnds, adds_of};
 
 use super::*;
 use fan_base::Gate;
+use pool_model::Ticket;
 use std::sync::atomic::{AtomicU64, Ordering};
 use std::thread;
 
@@ -367,8 +368,8 @@ fn no_task_is_slept_through(rt: HostRuntime) {
     }
 }
 
-// Stops the pool. Each of a thousand tasks has to have a record, with both calls of the gate, or to be handed back; where the gate held the four,
-// none was taken since.
+// Stops the pool. Each of a thousand tickets has to have a record, with both calls of the gate, or to be handed back, once; where the gate held
+// the four, none was taken since.
 fn end_halted<J: Numbered, R: Abort + Wait>(
     rt: &R,
     alloc: Global,
@@ -388,9 +389,44 @@ fn end_halted<J: Numbered, R: Abort + Wait>(
         same(rt, records, 404);
     }
     same(rt, counts.passed(), (records as u64, 0));
-    let mut all = ids(rt, alloc, ran);
-    put_back_ids(rt, &mut all, returned);
-    check_once(rt, alloc, all);
+    check_once(rt, alloc, indexes(rt, alloc, ran, returned));
+}
+
+// The tickets' indexes of what ran and of what was handed back. Each is of the one adder, and is the id of its task.
+fn indexes<J: Numbered, R: Abort>(
+    rt: &R,
+    alloc: Global,
+    mut ran: Runs,
+    mut returned: Returned<J>,
+) -> Vec<u64> {
+    let mut indexes = Vec::new(alloc);
+    for _ in 0..ran.len() {
+        let record = ran.pop().expect(rt, "a record");
+        indexes
+            .push(index_of(rt, record.ticket(), record.job().0))
+            .expect(rt, "memory");
+    }
+    for _ in 0..returned.len() {
+        let Some((ticket, job)) = returned.pop() else {
+            rt.panic("a task")
+        };
+        indexes
+            .push(index_of(rt, ticket, job.taken_apart()))
+            .expect(rt, "memory");
+    }
+    indexes
+}
+
+fn index_of<R: Abort>(rt: &R, ticket: Ticket, id: u64) -> u64 {
+    same(
+        rt,
+        ticket,
+        Ticket {
+            adder: 0,
+            index: id,
+        },
+    );
+    ticket.index
 }
 
 // The gate lets 400 tasks begin, and holds each of the four workers at its next one until the stop has begun; or it holds none.

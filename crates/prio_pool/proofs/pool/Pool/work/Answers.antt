@@ -63,5 +63,5 @@ returns-in-Some-Joins-clause-worked g c =
     let worked = subst (λ (k : ℕ). WorkedSoFar k (steps_in old.looks)) (ap (λ (p : PoolId). length p.queues) own) i.worked in
     let turn : Turn = idle c.in-Idle.ending in
     let ends : c.in-Idle.ending ≡ Some Joins = search rules in
-    worked_all m (steps_in old.looks) (steps_in new.looks) turn worked ends
+    worked_all m new.found (steps_in old.looks) (steps_in new.looks) turn worked (d.found_is ∙ ends, ends)
     (subst (λ (k : ℕ). steps_in new.looks ≡ steps_in old.looks ++ steps_of k turn) as_many d.turn)
