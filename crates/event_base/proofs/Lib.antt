@@ -10,4 +10,5 @@ mod Executors
 mod SameBase
 mod Emptied
 mod Looked
+pub mod Crossings
 pub mod Messages

@@ -1,12 +1,14 @@
 -- The front and the workers, from their start to their end.
-use Rattle.std.proofs.Common.{◌≡◌, ℕ, List, [], ◌∷◌, ◌++◌, false, true, map, refl, sym, ap, ◌∙◌, subst, All}
+use Rattle.std.proofs.Common.{◌≡◌, ℕ, List, [], ◌∷◌, ◌++◌, false, true, map, refl, sym, ap, ◌∙◌, subst, All, arith}
 use Rattle.std.specs.Prelude.{Option, get_or}
 use Rattle.std.proofs.lemmas.List.Elements.{All-append, All-cons, All-nil}
+use Rattle.std.proofs.lemmas.List.Sums.{sum_by-append}
 use Rattle.fan_model.specs.Answered.{answered_in, is_stopped}
 use Rattle.fan_model.specs.Report.{Asking, IsPoolReport}
 use Rattle.fan_model.specs.Tasks.{Run}
 use Rattle.job_trait.specs.Marks.{IsDone}
-use Rattle.pool_model.specs.Passes.{AreAllEnds, adds_of}
+use Rattle.pool_model.specs.Orders.{IsSameInAnyOrder}
+use Rattle.pool_model.specs.Passes.{AreAllEnds, adds_of, tasks_of}
 use Rattle.pool_model.specs.Records.{Record}
 use Rattle.pool_model.specs.Seen.{EndSeen, PoolSeen, task_of}
 use Rattle.prio_pool.specs.Made.{new_end, new_pass}
@@ -33,6 +35,12 @@ use Rattle.fanout.specs.declared.front.SideRoom.{SideRoom}
 use Rattle.fanout.specs.declared.front.SideEnd.{SideEnd}
 use Rattle.fanout.specs.First.{IsFirstEnd, IsFirstStart}
 use Rattle.fanout.specs.Fronts.{IsSideEnd, IsSideStart, NoneRefused}
+
+-- behind the first ones those and others, which are the second ones in any order
+both_of : {X : Type 0} (first second xs others all : List X) → IsSameInAnyOrder (xs ++ others) second → IsSameInAnyOrder (first ++ second) all → IsSameInAnyOrder (first ++ xs ++ others) all
+both_of first second xs others all same whole = record {
+  sums = λ w. omega (arith, sum_by-append w (first ++ xs) others, sum_by-append w first xs, sum_by-append w xs others, same.sums w, sum_by-append w first second, whole.sums w);
+}
 
 module _ {N : Type 0} where
   pub helper_is : (asked : Asking) (ids : RunIds) (start : FrontStart N) (pool : PoolSeen) (slots : List (WorkerSlot TaskSeen (WorldSeen N))) (room : SideRoom N) → IsSideStart asked ids start pool slots room → start.helper ≡ new_end pool.id ids.workers
@@ -72,9 +80,11 @@ module _ {N : Type 0} where
     left = e.some.left;
     first = ap (λ (runs : List Run). runs ++ e.some.left) e.some.are ∙ e.some.whole;
     ran = a.all.tasks;
-    others = map (task_of (task_head asked)) a.back;
+    back = a.kept.ran;
+    others = a.kept.others;
     records = a.all.runs;
-    all = a.all.all;
+    returned = a.kept.runs;
+    all = both_of a.all.tasks (map (task_of (task_head asked)) a.back) a.kept.ran a.kept.others (tasks_of (seen_of mid.ending).passes) a.kept.all a.all.all;
     few = a.few;
   }
 

@@ -1,4 +1,36 @@
 //! Documents and queries in, replies out: `folly_query run` reads standard input and writes the replies to standard output.
+//! `folly_query gen` answers an input that is made up from a seed, and writes the line that sums up the replies.
+//!
+//! The program is this project's own, and no header of Folly's has it; it does its work through the runtime (`fanout`).
+//! docs/QUERIES.md has its words, texts and exit statuses for users.
+//!
+//! ```text
+//! main: the real source, sink and gate --query_main--> Report: the status, the pool, the queues, the cores
+//!
+//! words   no command: Usage, and nothing is read or written
+//! run     source --read_all--> bytes --read_lines--> table --with_shards--> lines without words, shards --fan_run_named--> sink
+//!            | ReadFault, TooLarge  | BadInput: the error line is written                         Done | WriteFault
+//! gen     seed --generate--> table, answered the same way into memory --summary_text--> sink      Done | WriteFault
+//! any     Memory, where there was too little
+//!
+//! status  Done 0, Memory 1, Usage 2, BadInput 3, ReadFault 4, WriteFault 5, TooLarge 6
+//! ```
+//!
+//! The promises, by clause of `query_main`, on content where source and sink tell it:
+//! * usage exactly where the words are no command, and then nothing is read or written (`usage`, `untouched`); nothing is
+//!   written where a read fails or there is too much (`unwritten`);
+//! * what the status of a run says of what was read, written and reported: on Done all was read, the sink gained exactly the
+//!   output, and the report is that of a run over this input (`ends`, by `EndsAs`, specs/Endings.antt);
+//! * which status a run comes to, by its bytes, unless memory runs out (`comes`);
+//! * of `gen`: on Done exactly the summary line, and the report of a run over that input (`sums_up`); the source is left as it
+//!   was (`unread`);
+//! * where the words or the input are refused, a read fails or there is too much, no pool, no queues and no cores are reported
+//!   (`nothing`), and without a pool no queues and no cores (`unmade`); where there is a pool, whatever the status, it was
+//!   stopped exactly where the words ask for it, and of a stopped one each record of what it ran or handed back is of one of
+//!   the first early tasks, no two of one (`pool`, `made_up_pool`).
+//!
+//! That a run ends, which thread did what, how many workers there are, and when a reply is written is in no clause; README.md
+//! has what of this is tested.
 #![tactic(auto)]
 
 ghost use Rattle.std.specs.Prelude.{◌≡◌};

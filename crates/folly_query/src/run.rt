@@ -62,7 +62,7 @@ pub fn query_main<S: Source, K: Sink + Send, G: Gate, R: Threads + Wait + Sync>(
     ensures unmade { result.pool ≡ None → TellsNothing result }
 
     // There is a pool only where words and input are accepted. Where there is one, whatever the status, it was stopped exactly where the settings ask
-    // for it, and of a stopped one each record of what it ran is of one of the first early tasks, no two of one.
+    // for it, and of a stopped one each record of what it ran or handed back is of one of the first early tasks, no two of one.
     ensures pool { (settings : Settings) → IsCommand words.now (Command.Run settings) → IfSome result.pool (TellsPool settings
         (shown (S.left source.old) (S.faults source.old)) (shown (S.left source.new) (S.faults source.new))) }
     ensures made_up_pool { (generation : Generation) (settings : Settings) → IsCommand words.now (Command.Generate generation settings) →

@@ -18,12 +18,14 @@ use Rattle.fan_parts.specs.Facts.{IsAskOf, IsAnswerAt}
 use Rattle.fan_parts.specs.Seen.{AskSeen}
 use Rattle.query_opening.specs.Turns.{IsAskAt, IsBegun}
 
-all_get : {X : Type 0} (P : X → Type 0) (xs : List X) (k : ℕ) (x : X) → All P xs → slice_get xs k ≡ Some x → P x
+-- what holds of each item holds of the one at a place
+pub all_get : {X : Type 0} (P : X → Type 0) (xs : List X) (k : ℕ) (x : X) → All P xs → slice_get xs k ≡ Some x → P x
 all_get P [] k x all e = absurd cc
 all_get P (y ∷ ys) zero x all e = let same : y ≡ x = cc in subst P same (All-head P y ys all)
 all_get P (y ∷ ys) (suc k) x all e = all_get P ys k x (All-tail P y ys all) e
 
-is_asked : (lines : List Line) (place : ℕ) (c : Coming) → All (λ (d : Coming). IsAsked lines (query_of d)) (come_in lines) → All (IsAsked lines) (left_in lines)
+-- the query that comes at a place is one of these lines
+pub is_asked : (lines : List Line) (place : ℕ) (c : Coming) → All (λ (d : Coming). IsAsked lines (query_of d)) (come_in lines) → All (IsAsked lines) (left_in lines)
     → slice_get (comings_of lines) place ≡ Some c → IsAsked lines (query_of c)
 unfolding comings_of
 is_asked lines place c some left at =

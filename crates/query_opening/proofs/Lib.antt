@@ -1,1 +1,1 @@
-mod Begun
+pub mod Begun

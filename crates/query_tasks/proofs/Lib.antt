@@ -1,2 +1,2 @@
 pub mod Helping
-mod Loops
+pub mod Loops

@@ -64,7 +64,7 @@ pub fn end_pool<'c, 't, 'i: 't, N: RunName + 'static, R: Wait>(
     ensures follows { Follows world.old world.new }
     ensures accepted { result.accepted ≡ adds_total (seen_of ending.entry).passes }
     ensures all { is_stop ending.entry ≡ true →
-        HaveAllRun (task_head N.asked) TaskRan (seen_of ending.entry).passes result.ran.records world.old world.new }
+        HaveAllRun (task_head N.asked) TaskRan (seen_of ending.entry).passes result.ran.records result.returned world.old world.new }
     ensures account { world.new.refused ≡ false → AllDone (ends.entry.items ++ helped.entry.items) → result.missed ≡ false →
         AccountsFor (seen_of ending.entry).passes result }
     ensures stopped { result.ran.stopped ≡ is_stop ending.entry }
@@ -154,7 +154,7 @@ fn stop_all<'c, 't, 'i: 't, N: RunName + 'static, R: Wait>(
     requires ends { AreAllEnds pool.id pool.workers ends.items }
     requires helped { AreAllEnds pool.id pool.helpers helped.items }
     ensures accepted { result.accepted ≡ adds_total stopping.entry.passes }
-    ensures all { HaveAllRun (task_head N.asked) TaskRan stopping.entry.passes result.ran.records world.old world.new }
+    ensures all { HaveAllRun (task_head N.asked) TaskRan stopping.entry.passes result.ran.records result.returned world.old world.new }
     ensures account { world.new.refused ≡ false → AllDone (ends.entry.items ++ helped.entry.items) → result.missed ≡ false →
         AccountsFor stopping.entry.passes result }
     ensures stopped { result.ran.stopped ≡ true }

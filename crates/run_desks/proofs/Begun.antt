@@ -1,41 +1,29 @@
 -- What is known of a turn, and of a query that is begun.
-use Rattle.std.proofs.Common.{◌≡◌, ◌≤◌, ℕ, zero, suc, ◌-◌, ◌++◌, List, [], ◌∷◌, map, sym, ap, ◌∙◌, subst, Some}
+use Rattle.std.proofs.Common.{◌≡◌, ◌≤◌, ℕ, ◌-◌, List, sym, ap, ◌∙◌, subst, Some}
 use Rattle.std.specs.List.{All, slice_get}
-use Rattle.std.proofs.lemmas.List.Elements.{All-append, All-head, All-map, All-tail}
 use Rattle.query_model.specs.declared.line.Line.{Line}
 use Rattle.query_model.specs.declared.line.Line.TheVariants as line
 use Rattle.query_model.specs.Order.{asked_in, left_in}
-use Rattle.fan_model.specs.Comings.{Coming, IsAsked, come_in, comings_of, query_of}
+use Rattle.fan_model.specs.Comings.{Coming, IsAsked, come_in, query_of}
 use Rattle.fan_model.specs.Report.{Asking}
 use Rattle.fan_parts.specs.Facts.{IsAskOf, IsCountable}
 use Rattle.fan_parts.specs.Seen.{AskSeen}
 use Rattle.front_walk.specs.Following.{IsInput}
 use Rattle.query_opening.specs.Turns.{IsBegun, IsCancelled}
+use Rattle.query_opening.proofs.Begun.{is_asked}
 use Rattle.run_plan.specs.declared.turn.BegunQuery.{BegunQuery}
 use Rattle.run_plan.specs.declared.turn.Turn.{Turn}
 use Rattle.run_plan.specs.declared.turn.Turn.TheVariants as turn
 use Rattle.run_plan.specs.Turns.{AreTurnsOf}
 use Rattle.run_desks.specs.Turns.{IsTurnAt}
 
-all_get : {X : Type 0} (P : X → Type 0) (xs : List X) (k : ℕ) (x : X) → All P xs → slice_get xs k ≡ Some x → P x
-all_get P [] k x all e = absurd cc
-all_get P (y ∷ ys) zero x all e = let same : y ≡ x = cc in subst P same (All-head P y ys all)
-all_get P (y ∷ ys) (suc k) x all e = all_get P ys k x (All-tail P y ys all) e
-
 -- the laws of the queries that come, as the call gives them
 pub record AskedLaws (lines : List Line) : Type 0 where
   pub asked : All (λ (c : Coming). IsAsked lines (query_of c)) (come_in lines)
   pub left : All (IsAsked lines) (left_in lines)
 
-is_asked : (lines : List Line) (place : ℕ) (c : Coming) → AskedLaws lines → slice_get (comings_of lines) place ≡ Some c → IsAsked lines (query_of c)
-unfolding comings_of
-is_asked lines place c laws at =
-    let P : Coming → Type 0 = λ d. IsAsked lines (query_of d) in
-    all_get P (come_in lines ++ map Coming.cancels (left_in lines)) place c
-    (All-append P (come_in lines) (map Coming.cancels (left_in lines)) laws.asked (All-map P Coming.cancels (left_in lines) laws.left)) at
-
 pub begun_is_asked : (asked : Asking) (place number at documents : ℕ) (b : IsBegun asked place number at documents) → AskedLaws asked.lines → IsAsked asked.lines b.query
-begun_is_asked asked place number at documents b laws = is_asked asked.lines place (Coming.begins b.query) laws b.comes.at
+begun_is_asked asked place number at documents b laws = is_asked asked.lines place (Coming.begins b.query) laws.asked laws.left b.comes.at
 
 pub line_of_begun : (asked : Asking) (place number at documents : ℕ) (b : IsBegun asked place number at documents) → IsAsked asked.lines b.query
     → slice_get asked.lines at ≡ Some (line.Query b.query.query)

@@ -47,17 +47,19 @@ pub record TellsNoRun (end : FanEnd) : Type 0 where
   pub queues : end.queues ≡ []
   pub cores : totals_of end.tally ≡ no_cores
 
--- What is told of the tasks of a pool that was stopped: it accepted the first of the early ones, as many as are told; each record of what it ran is of one of these, no two of one;
--- and with what was handed back and then ran there are no more records than that. The list of the other tasks is tied to nothing that is told.
+-- What is told of the tasks of a pool that was stopped: it accepted the first of the early ones, as many as are told; each record of what it ran, or of what was handed back and then
+-- ran, is of one of these, no two of one. So there are no more records than that. The list of the other tasks is tied to nothing that is told.
 pub record IsStopAccount (asked : Asking) (note : PoolNote) : Type 0 where
   pub passes : List PassSeen
   pub accepted : note.accepted ≡ adds_total passes
   pub left : List Run
   pub first : runs_added passes ++ left ≡ early_runs asked.lines asked.shards asked.stop_at
   pub ran : List Task
+  pub back : List Task
   pub others : List Task
   pub records : AreRunsOf ran note.ran.records
-  pub all : IsSameInAnyOrder (ran ++ others) (tasks_of passes)
+  pub returned : AreRunsOf back note.returned
+  pub all : IsSameInAnyOrder (ran ++ back ++ others) (tasks_of passes)
   pub few : length note.ran.records + length note.returned ≤ note.accepted
 
 -- The pool was stopped exactly where the run is to be stopped; whether memory was refused or not.

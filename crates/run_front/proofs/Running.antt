@@ -1,7 +1,7 @@
 -- The runs of queries that are begun, one query further.
 use Rattle.std.proofs.Common.{◌≡◌, ℕ, zero, suc, ◌+◌, List, [], ◌∷◌, ◌++◌, map, take, drop, length, sym, ap, subst, ◌∙◌, append-nil, append_assoc, arith, ◌≤◌, ℤ, w8, refl}
 use Rattle.std.specs.List.{range_with_len}
-use Rattle.std.specs.Result.{OnErr, OnOk}
+use Rattle.std.specs.Result.{OnOk}
 use Rattle.std.specs.Prelude.{Result, Ok, Err}
 use Rattle.std.proofs.lemmas.List.{flat_map_more, length-append, map-append}
 use Rattle.std.proofs.lemmas.List.Elements.{filter_map-append}
@@ -125,14 +125,6 @@ some_to asked exec start m n first runs within some =
 -- what some of all are holds of the same list by another name
 pub some_of : (first all other runs : List Run) → all ≡ other → AreSomeOf first all runs → AreSomeOf first other runs
 some_of first all other runs same some = subst (λ (l : List Run). AreSomeOf first l runs) same some
-
-pub on_err : {T E P : Type 0} (r : Result T E) → P → OnErr r P
-on_err (Ok x) p = tt
-on_err (Err e) p = p
-
-pub on_err_weaker : {T E P Q : Type 0} (r : Result T E) → (P → Q) → OnErr r P → OnErr r Q
-on_err_weaker (Ok x) f p = tt
-on_err_weaker (Err e) f p = f p
 
 pub added_runs : (old more new : List Add) (runs : List Run) → new ≡ old ++ more → map run_of_add more ≡ runs → map run_of_add new ≡ map run_of_add old ++ runs
 added_runs old more new runs is are = ap (map run_of_add) is ∙ (map-append run_of_add old more ∙ ap (λ (l : List Run). map run_of_add old ++ l) are)

@@ -1,4 +1,4 @@
--- A base crosses threads where its jobs may, and so does what a gathering base has come to.
+-- What a gathering base has come to crosses threads, and so do the arrivals that it awaits.
 use denote.RattleType.{RattleType}
 use denote.Ref.{NamedLft}
 use denote.Param.Send.{IsSend, view_send, recorded_send, struct_send, sendable}
@@ -9,9 +9,7 @@ use Rattle.std.proofs.vec.Vec.TheSendSync as vec_std
 use Rattle.fan_base.proofs.number.ExecId.TheSendSync as exec_fan_base
 use Rattle.core_word.proofs.tally.Tally.TheSendSync as tally_core_word
 use Rattle.notify_queue.proofs.Crossings as crossing_notify_queue
-use Rattle.event_base.proofs.agenda.Agenda.TheSendSync as agenda_event_base
-use Rattle.event_base.specs.contracts.base.EventBase as base
-use Rattle.event_base.specs.contracts.base.EventBase.TheInside as of_base
+use Rattle.event_base.proofs.Crossings as crossing_event_base
 use Rattle.fan_parts.specs.declared.run_name.RunName.{Ghosts}
 use Rattle.fan_parts.proofs.Crossings as crossing_fan_parts
 use Rattle.fan_base.proofs.outcome.Try.TheSendSync as try_fan_base
@@ -26,18 +24,9 @@ use Rattle.run_gathering.specs.contracts.table.PartTable.TheInside as of_table
 
 ruleset all = (global_std.the_field_send, global_std.the_send, vec_std.the_send, exec_fan_base.the_send, crosses, sendable)
 
-base_inside : (J : RattleType) → IsSend J → IsSend (of_base.the_row J)
-base_inside J s = recorded_send (of_base.the_field J).row _ _ (of_base.the_type J).to_one (struct_send (shape (of_base.the_type J)) (
-  search (agenda_event_base.the_send, all) depth 60 fits 20000,
-  (search (crossing_notify_queue.Receiver-send, all) depth 60 fits 20000, (search all depth 60 fits 20000, tt)),
-))
-
-pub EventBase-send : (J : RattleType) → IsSend J → IsSend (base.the_row J)
-EventBase-send J s = view_send (of_base.the_row J) _ _ _ _ (base_inside J s)
-
 pub GatherStage-send : (N : RattleType) (g : Ghosts N.Denot) → IsSend N → IsSend (stage.the_row N g)
 GatherStage-send N g n =
-    search (EventBase-send, crossing_fan_parts.GatherJob-send, crossing_fan_parts.PrintJob-send, crossing_notify_queue.SenderEnd-send, tally_core_word.the_send, all) depth 60 fits 20000
+    search (crossing_event_base.EventBase-send, crossing_fan_parts.GatherJob-send, crossing_fan_parts.PrintJob-send, crossing_notify_queue.SenderEnd-send, tally_core_word.the_send, all) depth 60 fits 20000
 
 awaited_inside : (d r i : NamedLft) (N : RattleType) (g : Ghosts N.Denot) → IsSend N → IsSend (of_awaited.the_row d r i N g)
 awaited_inside d r i N g n = recorded_send (of_awaited.the_field d r i N g).row _ _ (of_awaited.the_type d r i N g).to_one (struct_send (shape (of_awaited.the_type d r i N g)) (

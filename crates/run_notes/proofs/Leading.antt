@@ -1,17 +1,18 @@
 -- Runs that led from world to world, and the records of them.
-use Rattle.std.proofs.Common.{◌≡◌, ℕ, suc, ◌+◌, ◌<◌, ◌≤◌, Bool, true, false, List, [], ◌∷◌, ◌++◌, map, refl, sym, ap, ◌∙◌, subst, append-nil, append_assoc, arith, All}
+use Rattle.std.proofs.Common.{◌≡◌, ℕ, suc, ◌+◌, ◌<◌, ◌⊎◌, inl, inr, Bool, true, false, length, length-append, List, [], ◌∷◌, ◌++◌, map, refl, sym, ap, ◌∙◌, subst, append-nil, append_assoc, arith, All}
 use Rattle.std.proofs.lemmas.List.{map-append}
 use Rattle.std.proofs.lemmas.List.Elements.{All-nil, All-cons}
+use Rattle.std.proofs.lemmas.List.Sums.{sum_by-append}
 use Rattle.fan_base.specs.declared.number.JobId.{JobId}
 use Rattle.fan_base.specs.declared.number.Mark.{Mark}
 use Rattle.job_trait.specs.declared.job.Head.{Head}
-use Rattle.job_trait.specs.Marks.{IsDone, IsMarkOf}
+use Rattle.job_trait.specs.Marks.{IsDone}
 use Rattle.job_trait.specs.Runs.{AreMarksOf, IsKnownBackwards, Leads, Ran, Through}
 use Rattle.job_trait.proofs.Histories.{leads_more, are_marks-append}
 use Rattle.pool_model.specs.Records.{AreRunsOf, IsRunOf, Record, ran_of}
 use Rattle.pool_model.specs.Seen.{Returned, task_of}
 use Rattle.pool_model.specs.Tasks.{Task}
-use Rattle.run_notes.specs.Accounts.{AllRanBack, HaveRunSoFar, RanBack, RanBackSoFar, SomeLed}
+use Rattle.run_notes.specs.Accounts.{AllRanBack, AreRunsOfSome, HaveRunSoFar, RanBack, RanBackSoFar, SomeLed}
 use Rattle.run_notes.proofs.Accounting.{WasDone, runs_append}
 
 module _ {W : Type 0} (runs : JobId → W → Mark → W → Type 0) where
@@ -29,6 +30,21 @@ module _ {W : Type 0} (runs : JobId → W → Mark → W → Type 0) where
 
   pub known_some : (Fact : W → Type 0) → IsKnownBackwards runs Fact (λ _ mark. IsDone mark) → (w v : W) → SomeLed runs w v → Fact v → Fact w
   known_some Fact k w v led f = known_list Fact k w v led.0 led.1.through f
+
+-- one task more, whose record was kept or not
+some_more : (tasks : List Task) (records after : List Record) (t : Task) (r : Record) → AreRunsOfSome tasks records → IsRunOf t r → (after ≡ records ++ r ∷ []) ⊎ (after ≡ records) → AreRunsOfSome (tasks ++ t ∷ []) after
+some_more tasks records after t r some is (inl put) = record {
+  ran = some.ran ++ t ∷ [];
+  others = some.others;
+  runs = subst (AreRunsOf (some.ran ++ t ∷ [])) (sym put) (runs_append some.ran (t ∷ []) records (r ∷ []) some.runs (is, tt));
+  all = record { sums = λ w. omega (arith, some.all.sums w, sum_by-append w some.ran some.others, sum_by-append w (some.ran ++ t ∷ []) some.others, sum_by-append w some.ran (t ∷ []), sum_by-append w tasks (t ∷ [])) };
+}
+some_more tasks records after t r some is (inr lost) = record {
+  ran = some.ran;
+  others = some.others ++ t ∷ [];
+  runs = subst (AreRunsOf some.ran) (sym lost) some.runs;
+  all = record { sums = λ w. omega (arith, some.all.sums w, sum_by-append w some.ran some.others, sum_by-append w some.ran (some.others ++ t ∷ []), sum_by-append w some.others (t ∷ []), sum_by-append w tasks (t ∷ [])) };
+}
 
 module _ {J W : Type 0} (head : J → Head) (runs : JobId → W → Mark → W → Type 0) where
   pub back_none : (tasks : List (Returned J)) (w : W) → RanBackSoFar head runs tasks tasks [] w w
@@ -58,12 +74,17 @@ module _ {J W : Type 0} (head : J → Head) (runs : JobId → W → Mark → W �
       let same : so_far.done ≡ tasks = sym (append-nil so_far.done) ∙ (ap (λ (l : List (Returned J)). so_far.done ++ l) (sym none) ∙ so_far.list) in
       subst (λ (l : List (Returned J)). RanBack head runs l records w v) same so_far.back
 
-  pub run_none : (tasks : List (Returned J)) (w : W) → HaveRunSoFar head runs tasks tasks w w
-  run_none tasks w = record { done = []; list = refl; back = record { list = []; marks = tt; leads = record { through = refl } } }
+  pub run_none : (tasks : List (Returned J)) (records : List Record) (w : W) → records ≡ [] → HaveRunSoFar head runs tasks tasks records w w
+  run_none tasks records w none = record {
+    done = [];
+    list = refl;
+    back = record { list = []; marks = tt; leads = record { through = refl } };
+    kept = record { ran = []; others = []; runs = subst (AreRunsOf []) (sym none) tt; all = record { sums = λ weight. refl } };
+  }
 
-  pub run_more : (tasks left more : List (Returned J)) (w m v : W) (b : Returned J) (r : Record) → HaveRunSoFar head runs tasks left w m
-      → left ≡ b ∷ more → IsRunOf (task_of head b) r → runs r.job m r.mark v → HaveRunSoFar head runs tasks more w v
-  run_more tasks left more w m v b r so_far next is ran =
+  pub run_more : (tasks left more : List (Returned J)) (records after : List Record) (w m v : W) (b : Returned J) (r : Record) → HaveRunSoFar head runs tasks left records w m
+      → left ≡ b ∷ more → IsRunOf (task_of head b) r → runs r.job m r.mark v → (after ≡ records ++ r ∷ []) ⊎ (after ≡ records) → HaveRunSoFar head runs tasks more after w v
+  run_more tasks left more records after w m v b r so_far next is ran either =
       let heads : map (λ (x : Returned J). head x.job) (so_far.done ++ b ∷ []) ≡ map (λ (x : Returned J). head x.job) so_far.done ++ head b.job ∷ [] = map-append (λ (x : Returned J). head x.job) so_far.done (b ∷ []) in
       record {
         done = so_far.done ++ b ∷ [];
@@ -74,15 +95,21 @@ module _ {J W : Type 0} (head : J → Head) (runs : JobId → W → Mark → W �
               (are_marks-append (map (λ (x : Returned J). head x.job) so_far.done) (head b.job ∷ []) so_far.back.list ((r.job, r.mark) ∷ []) so_far.back.marks (is.job, is.mark, tt));
           leads = leads_more runs w m v so_far.back.list r.job r.mark so_far.back.leads ran;
         };
+        kept = subst (λ (l : List Task). AreRunsOfSome l after) (sym (map-append (task_of head) so_far.done (b ∷ []))) (some_more (map (task_of head) so_far.done) records after (task_of head b) r so_far.kept is either);
       }
 
-  pub run_all : (tasks left : List (Returned J)) (w v : W) → HaveRunSoFar head runs tasks left w v → left ≡ [] → AllRanBack head runs tasks w v
-  run_all tasks left w v so_far none =
-      let same : so_far.done ≡ tasks = sym (append-nil so_far.done) ∙ (ap (λ (l : List (Returned J)). so_far.done ++ l) (sym none) ∙ so_far.list) in
-      subst (λ (l : List (Returned J)). AllRanBack head runs l w v) same so_far.back
+  all_done : (tasks left : List (Returned J)) (records : List Record) (w v : W) (so_far : HaveRunSoFar head runs tasks left records w v) → left ≡ [] → so_far.done ≡ tasks
+  all_done tasks left records w v so_far none = sym (append-nil so_far.done) ∙ (ap (λ (l : List (Returned J)). so_far.done ++ l) (sym none) ∙ so_far.list)
+
+  pub run_all : (tasks left : List (Returned J)) (records : List Record) (w v : W) → HaveRunSoFar head runs tasks left records w v → left ≡ [] → AllRanBack head runs tasks w v
+  run_all tasks left records w v so_far none = subst (λ (l : List (Returned J)). AllRanBack head runs l w v) (all_done tasks left records w v so_far none) so_far.back
+
+  pub kept_all : (tasks left : List (Returned J)) (records : List Record) (w v : W) → HaveRunSoFar head runs tasks left records w v → left ≡ [] → AreRunsOfSome (map (task_of head) tasks) records
+  kept_all tasks left records w v so_far none = subst (λ (l : List (Returned J)). AreRunsOfSome (map (task_of head) l) records) (all_done tasks left records w v so_far none) so_far.kept
 
 -- one record more, or none more for want of memory: so many of all are missing
-pub fewer_more : (was is : Bool) (records after left rest all : ℕ) → (was ≡ true → records + left < all) → (was ≡ false → records + left ≡ all) → left ≡ suc rest
-    → (is ≡ true → was ≡ false → after ≡ records) → after ≤ suc records → is ≡ true → after + rest < all
-fewer_more true is records after left rest all fewer whole next lost few missed = omega (arith, fewer refl, next, few)
-fewer_more false is records after left rest all fewer whole next lost few missed = omega (arith, whole refl, next, lost missed refl)
+pub fewer_more : (was is : Bool) (records after : List Record) (r : Record) (left rest all : ℕ) → (was ≡ true → length records + left < all) → (was ≡ false → length records + left ≡ all) → left ≡ suc rest
+    → (is ≡ true → was ≡ false → after ≡ records) → (after ≡ records ++ r ∷ []) ⊎ (after ≡ records) → is ≡ true → length after + rest < all
+fewer_more true is records after r left rest all fewer whole next lost (inl put) missed = omega (arith, fewer refl, next, ap length put, length-append records (r ∷ []))
+fewer_more true is records after r left rest all fewer whole next lost (inr same) missed = omega (arith, fewer refl, next, ap length same)
+fewer_more false is records after r left rest all fewer whole next lost either missed = omega (arith, whole refl, next, ap length (lost missed refl))

@@ -1,8 +1,9 @@
-ghost use Rattle.std.specs.Prelude.{◌≡◌, ◌+◌, ◌<◌, ◌≤◌, ◌↔◌, ◌++◌, ◌∷◌, [], false, true, suc, length, IsTrue};
+ghost use Rattle.std.specs.Prelude.{◌≡◌, ◌⊎◌, ◌+◌, ◌<◌, ◌≤◌, ◌↔◌, ◌++◌, ◌∷◌, [], false, true, length, map, IsTrue};
 ghost use Rattle.job_trait.specs.Marks.{IsDone};
 ghost use Rattle.job_trait.specs.Runs.{IsKnownBackwards};
 ghost use Rattle.pool_model.specs.Passes.{AreAllPasses, AreAllEnds, adds_total};
-ghost use Rattle.run_notes.specs.Accounts.{AccountsFor, AllDone, AllRanBack, HaveAllRun, RanBack, SomeLed};
+ghost use Rattle.pool_model.specs.Seen.{task_of};
+ghost use Rattle.run_notes.specs.Accounts.{AccountsFor, AllDone, AllRanBack, AreRunsOfSome, HaveAllRun, RanBack, SomeLed};
 
 use crate::notes::RunRecords;
 use job_trait::{Job, WorldFact};
@@ -76,7 +77,7 @@ pub fn end_stopped<J: Job<W>, W, F: WorldFact<W>, R: Wait>(
     requires helped { AreAllEnds pool.id pool.helpers helped.items }
     requires known { IsKnownBackwards J.runs F.holds (λ _ mark. IsDone mark) }
     ensures accepted { result.accepted ≡ adds_total stopping.passes }
-    ensures all { HaveAllRun J.head J.runs stopping.passes result.ran.records world.old world.new }
+    ensures all { HaveAllRun J.head J.runs stopping.passes result.ran.records result.returned world.old world.new }
     ensures fact { F.holds world.new → F.holds world.old }
     ensures account { F.holds world.new → AllDone (ends.items ++ helped.items) → result.missed ≡ false → AccountsFor stopping.passes result }
     ensures stopped { result.ran.stopped ≡ true }
@@ -106,6 +107,7 @@ fn run_back<J: Job<W>, W, R: Wait>(
     world: &mut W,
 ) -> (RunRecords, bool)
     ensures all { AllRanBack J.head J.runs returned.old world.old world.new }
+    ensures kept { AreRunsOfSome (map (task_of J.head) returned.old) result.0 }
     ensures back { result.1 ≡ false → RanBack J.head J.runs returned.old result.0 world.old world.new }
     ensures missed { result.1 ≡ true → length result.0 < length returned.old }
     ensures whole { result.1 ≡ false → length result.0 ≡ length returned.old }
@@ -122,7 +124,7 @@ fn run_back<J: Job<W>, W, R: Wait>(
 fn keep(records: &mut RunRecords, made: RunRecord, missed: &mut bool)
     ensures kept { missed.new ≡ false → (missed.old ≡ false) × (records.new ≡ records.old ++ made ∷ []) }
     ensures lost { missed.new ≡ true → missed.old ≡ false → records.new ≡ records.old }
-    ensures few { length records.new ≤ suc (length records.old) }
+    ensures either { (records.new ≡ records.old ++ made ∷ []) ⊎ (records.new ≡ records.old) }
 {
     match records.push(made) {
         Ok(()) => {}

@@ -98,5 +98,5 @@ late_front asked turns stop place old new stops is none some =
 
 pub stop_account : {N : Type 0} (asked : Asking) (mid : FrontMid N) (left : FrontLeft N) → left.note.accepted ≡ adds_total (seen_of mid.ending).passes
     → length left.note.ran.records + length left.note.returned ≤ left.note.accepted → (behind : WorldSeen N)
-    → HaveAllRun (task_head asked) TaskRan (seen_of mid.ending).passes left.note.ran.records mid.front.world behind → IsStopAccount asked mid left
-stop_account asked mid left accepted few behind have = record { accepted = accepted; few = few; back = have.returned; all = have.all }
+    → HaveAllRun (task_head asked) TaskRan (seen_of mid.ending).passes left.note.ran.records left.note.returned mid.front.world behind → IsStopAccount asked mid left
+stop_account asked mid left accepted few behind have = record { accepted = accepted; few = few; back = have.returned; all = have.all; kept = have.kept }

@@ -1,9 +1,8 @@
 -- What comes at a place, and its turn.
 use Rattle.std.proofs.Common.{◌≡◌, ℕ, suc, ◌+◌, ◌-◌, ◌<◌, ◌≤◌, List, [], ◌∷◌, ◌++◌, length, get_or, take, drop, map, Some, refl, sym, ap, ◌∙◌, arith}
 use Rattle.std.specs.Prelude.{slice_get}
-use Rattle.std.specs.List.{All, count_by, range_with_len}
+use Rattle.std.specs.List.{count_by, range_with_len}
 use Rattle.std.proofs.lemmas.List.{append-nil, length-drop, length-map, length-take}
-use Rattle.std.proofs.lemmas.List.Elements.{All-append, All-map}
 use Rattle.std.proofs.lemmas.List.FromFn.{length-range_with_len}
 use Rattle.std.proofs.lemmas.Option.{slice_get-get_or, slice_get_within}
 use Rattle.std.proofs.Math.Seq.{take-length}
@@ -11,10 +10,10 @@ use Rattle.query_model.specs.declared.line.Line.{Line}
 use Rattle.query_model.specs.declared.line.Line.TheVariants as line
 use Rattle.query_model.specs.Documents.{queries_of}
 use Rattle.query_model.specs.Lines.{is_query}
-use Rattle.query_model.specs.Order.{Asked, asked_in, left_in}
+use Rattle.query_model.specs.Order.{Asked, asked_in}
 use Rattle.query_model.proofs.ListFacts.{drop_one_more}
 use Rattle.fan_model.specs.Answered.{answered_in}
-use Rattle.fan_model.specs.Comings.{Coming, ComesAt, IsAsked, begun_by, come_in, comings_of, query_of}
+use Rattle.fan_model.specs.Comings.{Coming, ComesAt, IsAsked, begun_by, comings_of, query_of}
 use Rattle.fan_model.specs.Report.{Asking}
 use Rattle.fan_parts.specs.Facts.{IsCountable}
 use Rattle.front_walk.specs.Following.{IsInput}
@@ -23,14 +22,7 @@ use Rattle.run_plan.specs.declared.turn.BegunQuery.{BegunQuery}
 use Rattle.run_plan.specs.declared.turn.Turn.{Turn}
 use Rattle.run_plan.specs.declared.turn.Turn.TheVariants as turn
 use Rattle.run_plan.specs.Turns.{AreTurnsOf, begun_between, begun_in, begun_query, turn_of}
-use Rattle.run_plan.proofs.Lists.{all_get, count_first, length-filter_map-le, at_map, drop_none, drop_of_take, given_between_more}
-
-pub is_asked : (lines : List Line) (place : ℕ) (c : Coming) → All (λ (d : Coming). IsAsked lines (query_of d)) (come_in lines) → All (IsAsked lines) (left_in lines)
-    → slice_get (comings_of lines) place ≡ Some c → IsAsked lines (query_of c)
-unfolding comings_of
-is_asked lines place c some left at =
-    let P : Coming → Type 0 = λ d. IsAsked lines (query_of d) in
-    all_get P (come_in lines ++ map Coming.cancels (left_in lines)) place c (All-append P (come_in lines) (map Coming.cancels (left_in lines)) some (All-map P Coming.cancels (left_in lines) left)) at
+use Rattle.run_plan.proofs.Lists.{count_first, length-filter_map-le, at_map, drop_none, drop_of_take, given_between_more}
 
 queries_counted : (lines : List Line) → count_by is_query lines ≡ length (queries_of lines)
 queries_counted [] = refl

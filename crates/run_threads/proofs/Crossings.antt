@@ -18,6 +18,7 @@ use Rattle.fan_parts.proofs.Crossings as crossing_fan_parts
 use Rattle.fan_parts.proofs.part.Part.TheSendSync as part_fan_parts
 use Rattle.fan_parts.proofs.shards.RunShards.TheSendSync as shards_fan_parts
 use Rattle.prio_pool.proofs.Crossings as crossing_prio_pool
+use Rattle.event_base.proofs.Crossings as crossing_event_base
 use Rattle.run_gathering.proofs.Crossings as crossing_run_gathering
 use Rattle.run_printing.proofs.Crossings as crossing_run_printing
 use Rattle.run_tasks.specs.contracts.task.ShardTask as task
@@ -73,7 +74,7 @@ WorkerStage-send t i N g n = recorded_send (worker_stage.the_field t i N g).row 
 
 pub GatherSlot-send : (d r i : NamedLft) (N : RattleType) (g : Ghosts N.Denot) → IsSend N → IsSend (gather_slot.the_row d r i N g)
 GatherSlot-send d r i N g n = recorded_send (gather_slot.the_field d r i N g).row _ _ (gather_slot.the_type d r i N g).to_one (struct_send (shape (gather_slot.the_type d r i N g)) (
-  search (crossing_run_gathering.EventBase-send, all) depth 60 fits 20000,
+  search (crossing_event_base.EventBase-send, all) depth 60 fits 20000,
   (
     search all depth 60 fits 20000,
     (
@@ -85,7 +86,7 @@ GatherSlot-send d r i N g n = recorded_send (gather_slot.the_field d r i N g).ro
 
 pub PrinterSlot-send : (k : NamedLft) (N K : RattleType) (g : Ghosts N.Denot) → IsSend N → IsSend K → IsSend (printer_slot.the_row k N K g)
 PrinterSlot-send k N K g n s = recorded_send (printer_slot.the_field k N K g).row _ _ (printer_slot.the_type k N K g).to_one (struct_send (shape (printer_slot.the_type k N K g)) (
-  search (crossing_run_gathering.EventBase-send, all) depth 60 fits 20000,
+  search (crossing_event_base.EventBase-send, all) depth 60 fits 20000,
   (
     search all depth 60 fits 20000,
     (search (crossing_run_printing.PrintStage-send, all) depth 60 fits 20000, (search all depth 60 fits 20000, tt)),

@@ -1,7 +1,7 @@
 use Rattle.std.proofs.Common.{◌≡◌, ◌≤◌, ℕ, map, refl, sym, ap, ◌∙◌, arith, w8}
 use mir.Val.{of_z, to_z}
 use Rattle.std.specs.List.{range_with_len}
-use Rattle.std.proofs.lemmas.Result.{on_ok_weaker}
+use Rattle.std.proofs.lemmas.Result.{on_err_weaker, on_ok_weaker}
 use Rattle.query_model.specs.Order.{Asked}
 use Rattle.fan_model.specs.Tasks.{pool_exec, queue_of, task_run}
 use Rattle.fan_parts.specs.Facts.{IsAskOf}
@@ -9,9 +9,8 @@ use Rattle.pool_model.specs.Passes.{adds_of}
 use Rattle.prio_pool.specs.Priority.{queue_in}
 use Rattle.query_tasks.specs.Starting.{adds_for}
 use Rattle.run_notes.specs.Told.{run_of_add}
-use Rattle.run_front.proofs.Running.{added_few, added_runs, on_err_weaker, queue_is, runs_more, some_more}
+use Rattle.run_front.proofs.Running.{added_few, added_runs, on_ok, queue_is, runs_more, some_more}
 use Rattle.run_front.proofs.Posting.{posted_begun}
-use Rattle.run_front.proofs.Running.{on_ok}
 use Rattle.run_front.proofs.early.early_query.Goals as goal
 
 pub prio_at-requires : goal.prio_at-requires

@@ -4,7 +4,8 @@ use Rattle.fan_model.specs.Tasks.{pool_exec, task_runs}
 use Rattle.pool_model.specs.Passes.{adds_of}
 use Rattle.run_notes.specs.Told.{run_of_add}
 use Rattle.query_tasks.proofs.Helping.{helped_more}
-use Rattle.run_front.proofs.Running.{on_err, some_of, some_to}
+use Rattle.query_tasks.proofs.Loops.{on_err}
+use Rattle.run_front.proofs.Running.{some_of, some_to}
 use Rattle.run_front.proofs.early.early_turns.Goals as goal
 
 pub returns-in_err-early_turn-clause-helped : goal.returns-in_err-early_turn-clause-helped

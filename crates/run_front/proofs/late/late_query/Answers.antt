@@ -1,15 +1,14 @@
 use Rattle.std.proofs.Common.{◌≡◌, ◌+◌, ◌++◌, ◌≤◌, ℕ, List, map, refl, sym, ap, ◌∙◌, arith}
 use Rattle.std.specs.List.{range_with_len}
-use Rattle.std.proofs.lemmas.Result.{on_ok_weaker}
+use Rattle.std.proofs.lemmas.Result.{on_err_weaker, on_ok_weaker}
 use Rattle.fan_base.specs.declared.number.ExecId.{ExecId}
 use Rattle.query_model.specs.Order.{Asked}
 use Rattle.fan_model.specs.Tasks.{Run, front_exec, queue_of, task_run}
 use Rattle.fan_parts.specs.Facts.{IsAskOf}
 use Rattle.query_tasks.specs.Starting.{runs_for}
 use Rattle.run_notes.specs.Told.{run_of_direct}
-use Rattle.run_front.proofs.Running.{on_err_weaker, runs_more, some_more}
+use Rattle.run_front.proofs.Running.{on_ok, runs_more, some_more}
 use Rattle.run_front.proofs.Posting.{posted_begun}
-use Rattle.run_front.proofs.Running.{on_ok}
 use Rattle.run_front.proofs.late.late_query.Goals as goal
 
 pub prio_at-requires : goal.prio_at-requires

@@ -4,7 +4,8 @@ use Rattle.query_opening.specs.Turns.{IsCancelled}
 use Rattle.run_notes.specs.Told.{run_of_direct}
 use Rattle.run_plan.specs.declared.turn.Turn.{Turn}
 use Rattle.run_desks.specs.Turns.{IsTurnAt}
-use Rattle.run_front.proofs.Running.{on_err, on_ok, runs_same, some_same}
+use Rattle.query_tasks.proofs.Loops.{on_err}
+use Rattle.run_front.proofs.Running.{on_ok, runs_same, some_same}
 use Rattle.std.proofs.lemmas.Result.{on_ok_weaker}
 use Rattle.run_front.proofs.Posting.{posted_cancelled}
 use Rattle.run_front.proofs.late.late_turn.Goals as goal

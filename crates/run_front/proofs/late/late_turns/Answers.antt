@@ -2,7 +2,8 @@ use Rattle.std.proofs.Common.{List, ◌+◌, map, length, ap, arith}
 use Rattle.query_model.specs.Order.{Asked}
 use Rattle.fan_model.specs.Tasks.{front_exec, task_runs}
 use Rattle.run_notes.specs.Told.{run_of_direct}
-use Rattle.run_front.proofs.Running.{on_err, some_of, some_to}
+use Rattle.query_tasks.proofs.Loops.{on_err}
+use Rattle.run_front.proofs.Running.{some_of, some_to}
 use Rattle.run_front.proofs.late.late_turns.Goals as goal
 
 pub returns-in_err-late_turn-clause-some : goal.returns-in_err-late_turn-clause-some

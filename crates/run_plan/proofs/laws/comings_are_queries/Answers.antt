@@ -1,5 +1,6 @@
 use Rattle.fan_model.specs.Comings.{Coming, query_of}
-use Rattle.run_plan.proofs.Coming.{is_asked, number_is_few}
+use Rattle.query_opening.proofs.Begun.{is_asked}
+use Rattle.run_plan.proofs.Coming.{number_is_few}
 use Rattle.run_plan.proofs.laws.comings_are_queries.Goals as goal
 
 pub returns-clause-number : goal.returns-clause-number
