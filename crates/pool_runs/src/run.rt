@@ -3,6 +3,7 @@ ghost use Rattle.pool_runs.specs.Running.{RanOnce, task_in};
 
 use crate::placed::Placed;
 use crate::record::RunRecord;
+use job_once::run_once;
 use job_trait::Job;
 use std::collections::LinkedList;
 use std::sync::Wait;
@@ -22,8 +23,6 @@ pub fn run_task<J: Job<W>, W, R: Wait>(
         job: placed,
     } = task;
     let Placed { job, place } = placed;
-    let id = job.id();
-    let exec = job.exec();
-    let mark = job.run(rt, world);
+    let (id, exec, mark) = run_once(rt, job, world);
     place.fill(RunRecord::new(ticket, queue, exec, id, mark))
 }
