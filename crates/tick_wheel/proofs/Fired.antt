@@ -34,6 +34,10 @@ module _ {A : Type 0} where
         (c.0, omega arith, c.1, get_or_default keys c.0 (0, 0) (h.order, id) c.1 ∙ c.2);
   }
 
+  -- no key
+  pub firing_none : (index : Index A) (slot : ℕ) → ListsIds index slot [] → IsFiring slot [] 0 index
+  firing_none index slot lists = firing_first index slot [] lists (IsNonDecreasingBy-short (λ (k : ℕ × ℕ). k.0) [] (omega arith))
+
   -- one key alone
   pub firing_one : (index : Index A) (slot : ℕ) (key : ℕ × ℕ) → ListsIds index slot (key ∷ []) → IsFiring slot (key ∷ []) 0 index
   firing_one index slot key lists = firing_first index slot (key ∷ []) lists (IsNonDecreasingBy-short (λ (k : ℕ × ℕ). k.0) (key ∷ []) (omega arith))

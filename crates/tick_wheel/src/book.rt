@@ -219,15 +219,23 @@ impl<T> Book<T> {
         Some(key)
     }
 
-    // The entries of a slot in the order of their scheduling: the number that each got, and its id. Most slots have none, which is told at once.
+    // Whether a slot has no entry, which is told at once.
+    pub(crate) fn is_left(&self, slot: usize) -> bool
+        requires { slot < 1024 }
+        ensures { result ≡ true → ListsIds self.now slot [] }
+    {
+        let Some(_) = self.lanes.last(slot) else {
+            return true;
+        };
+        false
+    }
+
+    // The entries of a slot in the order of their scheduling: the number that each got, and its id.
     pub(crate) fn gather(&self, alloc: Global, slot: usize) -> Result<Vec<(u64, u64)>, Memory>
         requires { slot < 1024 }
         ensures lists { IfOk result (λ found. ListsIds self.now slot found.items) }
         ensures rises { IfOk result (λ found. IsNonDecreasingBy (λ (g : ℕ × ℕ). g.0) found.items) }
     {
-        let Some(_) = self.lanes.last(slot) else {
-            return Ok(Vec::new(alloc));
-        };
         let mut found = self.lanes.gather(alloc, slot)?;
         found.sort_unstable_by_key(|key| key.0);
         Ok(found)

@@ -1,5 +1,5 @@
 //! The slot of the next tick fires: what stands in it leaves, in order of scheduling.
-ghost use Rattle.std.specs.Prelude.{◌≡◌, ℕ, ◌+◌, ◌<◌, ◌≤◌, ◌^◌, ◌%◌, ◌++◌, length, IfOk, OnErr, vec_len, vec_capacity};
+ghost use Rattle.std.specs.Prelude.{◌≡◌, ℕ, ◌+◌, ◌<◌, ◌≤◌, ◌^◌, ◌%◌, [], ◌∷◌, ◌++◌, length, OnOk, OnErr, vec_len, vec_capacity};
 ghost use Rattle.tick_wheel.specs.Firing.{IsFiring, IsPartOf, Fires};
 ghost use Rattle.tick_wheel.specs.Kept.{timers_of};
 ghost use Rattle.tick_wheel.specs.Table.{AreApart, AreAhead, AreSettled};
@@ -75,45 +75,103 @@ fn fire<T, L: Ledger>(
 
 // What these keys name leaves, in their order. Where there is no memory for the list, nothing has changed.
 fn fire_keys<T, L: Ledger>(
-    alloc: Global,
     book: &mut Book<T>,
     keys: &[(u64, u64)],
     now: u64,
+    fired: &mut Vec<T>,
     steps: &mut Steps<L>,
-) -> Result<Vec<T>, Memory>
+) -> Result<(), Memory>
     requires now { now < 2 ^ 63 }
     requires firing { IsFiring ((now + 1) % 256) keys.now 0 book.old }
     requires apart { AreApart book.old }
     requires ahead { AreAhead now book.old }
     requires settled { AreSettled (now + 1) book.old }
-    ensures ok { IfOk result (λ fired. Fires now book.old book.new steps.old steps.new fired.items) }
+    requires empty { vec_len fired.old ≡ 0 }
+    ensures ok { OnOk result (Fires now book.old book.new steps.old steps.new fired.new.items) }
     ensures refused { OnErr result (book.new ≡ book.old) }
     ensures still { OnErr result (steps.new ≡ steps.old) }
+    ensures none { OnErr result (vec_len fired.new ≡ 0) }
 {
-    let mut fired = Vec::with_capacity(alloc, keys.len())?;
-    fire(book, keys, now, &mut fired, steps);
-    Ok(fired)
+    fired.reserve(keys.len())?;
+    fire(book, keys, now, fired, steps);
+    Ok(())
 }
 
-// The slot of the next tick fires. A slot with one timer needs no list of keys. Where there is no memory, nothing has changed.
+// The only timer of the slot leaves; there is room for it.
+fn fire_only<T, L: Ledger>(
+    book: &mut Book<T>,
+    key: (u64, u64),
+    now: u64,
+    fired: &mut Vec<T>,
+    steps: &mut Steps<L>,
+)
+    requires now { now < 2 ^ 63 }
+    requires firing { IsFiring ((now + 1) % 256) (key ∷ []) 0 book.old }
+    requires apart { AreApart book.old }
+    requires ahead { AreAhead now book.old }
+    requires settled { AreSettled (now + 1) book.old }
+    requires empty { vec_len fired.old ≡ 0 }
+    requires spare { 0 < vec_capacity fired.old }
+    ensures apart { AreApart book.new }
+    ensures ahead { AreAhead (now + 1) book.new }
+    ensures part { IsPartOf book.new book.old }
+    ensures fired { fired.new.items ≡ items_of (due_at (now + 1) (timers_of book.old)) }
+    ensures rest { timers_of book.new ≡ due_later (now + 1) (timers_of book.old) }
+    ensures steps { steps.new ≡ steps.old + vec_len fired.new }
+{
+    fire_first(book, &[key], 0, now, fired, steps);
+}
+
+// The only timer of the slot leaves. Where there is no memory for the list, nothing has changed.
+fn fire_one<T, L: Ledger>(
+    book: &mut Book<T>,
+    key: (u64, u64),
+    now: u64,
+    fired: &mut Vec<T>,
+    steps: &mut Steps<L>,
+) -> Result<(), Memory>
+    requires now { now < 2 ^ 63 }
+    requires firing { IsFiring ((now + 1) % 256) (key ∷ []) 0 book.old }
+    requires apart { AreApart book.old }
+    requires ahead { AreAhead now book.old }
+    requires settled { AreSettled (now + 1) book.old }
+    requires empty { vec_len fired.old ≡ 0 }
+    ensures ok { OnOk result (Fires now book.old book.new steps.old steps.new fired.new.items) }
+    ensures refused { OnErr result (book.new ≡ book.old) }
+    ensures still { OnErr result (steps.new ≡ steps.old) }
+    ensures none { OnErr result (vec_len fired.new ≡ 0) }
+{
+    fired.reserve(1)?;
+    fire_only(book, key, now, fired, steps);
+    Ok(())
+}
+
+// The slot of the next tick fires. Most slots have no timer, and one with a single timer needs no list of keys. Where there is no memory,
+// nothing has changed.
 pub(crate) fn fire_slot<T, L: Ledger>(
     alloc: Global,
     book: &mut Book<T>,
     now: u64,
+    fired: &mut Vec<T>,
     steps: &mut Steps<L>,
-) -> Result<Vec<T>, Memory>
+) -> Result<(), Memory>
     requires now { now < 2 ^ 63 }
     requires apart { AreApart book.old }
     requires ahead { AreAhead now book.old }
     requires settled { AreSettled (now + 1) book.old }
-    ensures ok { IfOk result (λ fired. Fires now book.old book.new steps.old steps.new fired.items) }
+    requires empty { vec_len fired.old ≡ 0 }
+    ensures ok { OnOk result (Fires now book.old book.new steps.old steps.new fired.new.items) }
     ensures refused { OnErr result (book.new ≡ book.old) }
     ensures still { OnErr result (steps.new ≡ steps.old) }
+    ensures none { OnErr result (vec_len fired.new ≡ 0) }
 {
     let slot = ((now + 1) % 256) as usize;
     let Some(key) = book.only(slot) else {
+        if book.is_left(slot) {
+            return fire_keys(book, &[], now, fired, steps);
+        }
         let keys = book.gather(alloc, slot)?;
-        return fire_keys(alloc, book, &keys, now, steps);
+        return fire_keys(book, &keys, now, fired, steps);
     };
-    fire_keys(alloc, book, &[key], now, steps)
+    fire_one(book, key, now, fired, steps)
 }

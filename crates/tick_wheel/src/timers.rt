@@ -35,7 +35,7 @@ impl<T> Model for Timers<T> {
 }
 
 impl<T> Timers<T> {
-    ghost use Rattle.std.specs.Prelude.{◌≡◌, ℕ, ◌+◌, ◌<◌, ◌≤◌, ◌^◌, ◌↔◌, [], length, IsTrue, IsSome, Some, None, Ok, Err, IfOk, IfErr, OnOk, OnErr};
+    ghost use Rattle.std.specs.Prelude.{◌≡◌, ℕ, ◌+◌, ◌<◌, ◌≤◌, ◌^◌, ◌↔◌, [], length, IsTrue, IsSome, Some, None, Ok, Err, IfOk, IfErr, OnOk, OnErr, vec_len};
     ghost use Rattle.tick_wheel.specs.TimerList.{TimerList, Ticks, timer_at, scheduled, cancelled, handed_back, items_of, by_id, by_due};
     ghost use Rattle.tick_wheel.specs.Steps.{tick_bound};
 
@@ -134,11 +134,34 @@ impl<T> Timers<T> {
         ensures steps { steps.new ≤ steps.old + tick_bound self.old }
         ensures counted { IfOk result (λ items. steps.old + length items.items ≤ steps.new) }
     {
+        let mut fired = Vec::new(self.alloc);
+        if let Err(error) = self.tick_into(steps, &mut fired) {
+            fired.destroy_empty();
+            return Err(error);
+        }
+        Ok(fired)
+    }
+
+    /// As [`Timers::tick`], with a list that the caller keeps for all ticks, and that is empty: what fires takes memory only where the list has
+    /// no room for it. A refused call leaves it empty.
+    pub fn tick_into<L: Ledger>(
+        &mut self,
+        steps: &mut Steps<L>,
+        fired: &mut Vec<T>,
+    ) -> Result<(), Memory>
+        requires tick { self.old.tick < 2 ^ 63 }
+        requires empty { vec_len fired.old ≡ 0 }
+        ensures ok { OnOk result (Ticks self.old self.new fired.new.items) }
+        ensures refused { OnErr result (self.new ≡ self.old) }
+        ensures none { OnErr result (vec_len fired.new ≡ 0) }
+        ensures steps { steps.new ≤ steps.old + tick_bound self.old }
+        ensures counted { OnOk result (steps.old + length fired.new.items ≤ steps.new) }
+    {
         let tick = self.ticks + 1;
         settle(self.alloc, &mut self.book, self.ticks, steps)?;
-        let fired = fire_slot(self.alloc, &mut self.book, self.ticks, steps)?;
+        fire_slot(self.alloc, &mut self.book, self.ticks, fired, steps)?;
         self.ticks = tick;
-        Ok(fired)
+        Ok(())
     }
 
     /// Takes all timers out, in ascending order of their ids. A call that is refused for want of memory leaves all as it was.

@@ -38,7 +38,7 @@ impl Model for Wheel {
 }
 
 impl Wheel {
-    ghost use Rattle.std.specs.Prelude.{◌≡◌, ℕ, ◌+◌, ◌<◌, ◌≤◌, ◌^◌, ◌↔◌, [], length, IsTrue, IsSome, Some, None, Ok, Err, IfOk, IfErr, OnOk, OnErr, option_map};
+    ghost use Rattle.std.specs.Prelude.{◌≡◌, ℕ, ◌+◌, ◌<◌, ◌≤◌, ◌^◌, ◌↔◌, [], length, IsTrue, IsSome, Some, None, Ok, Err, IfOk, IfErr, OnOk, OnErr, option_map, vec_len};
     ghost use Rattle.tick_wheel.specs.TimerList.{TimerList, timer_at, due_at, due_later, scheduled, cancelled, by_id};
     ghost use Rattle.tick_wheel.specs.Steps.{tick_bound};
     ghost use Rattle.tick_wheel.specs.Wheel.{ids_of, due_of, TicksIds};
@@ -123,6 +123,25 @@ impl Wheel {
     {
         let ids = self.timers.tick(steps)?;
         Ok(ids)
+    }
+
+    /// As [`Wheel::tick`], with a list that the caller keeps for all ticks, and that is empty: what fires takes memory only where the list has
+    /// no room for it. A refused call leaves it empty.
+    pub fn tick_into<L: Ledger>(
+        &mut self,
+        steps: &mut Steps<L>,
+        ids: &mut Vec<u64>,
+    ) -> Result<(), Memory>
+        requires tick { self.old.tick < 2 ^ 63 }
+        requires empty { vec_len ids.old ≡ 0 }
+        ensures ok { OnOk result (TicksIds self.old self.new ids.new.items) }
+        ensures refused { OnErr result (self.new ≡ self.old) }
+        ensures none { OnErr result (vec_len ids.new ≡ 0) }
+        ensures steps { steps.new ≤ steps.old + tick_bound self.old }
+        ensures counted { OnOk result (steps.old + length ids.new.items ≤ steps.new) }
+    {
+        self.timers.tick_into(steps, ids)?;
+        Ok(())
     }
 
     /// Takes all ids out, ascending. A call that is refused for want of memory leaves all as it was.

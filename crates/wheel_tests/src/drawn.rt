@@ -75,8 +75,28 @@ fn tick_both<L: Ledger>(
         return differ(wheel.now());
     }
     let ids = wheel.tick(steps)?;
+    agree(wheel, plain, &ids)
+}
+
+// The same, into a list that is kept.
+fn tick_both_into<L: Ledger>(
+    wheel: &mut Wheel,
+    plain: &mut Plain,
+    ids: &mut Vec<u64>,
+    steps: &mut Steps<L>,
+) -> Result<(), Fail> {
+    if wheel.now() >= 1 << 63 {
+        return differ(wheel.now());
+    }
+    ids.clear();
+    wheel.tick_into(steps, ids)?;
+    agree(wheel, plain, ids)
+}
+
+// The map's tick gives these ids, too, and as many are left.
+fn agree(wheel: &Wheel, plain: &mut Plain, ids: &[u64]) -> Result<(), Fail> {
     plain.now = plain.now.wrapping_add(1);
-    for id in &ids {
+    for id in ids {
         if plain.take_due() != Some(*id) {
             return differ(plain.now);
         }
@@ -126,8 +146,9 @@ fn compare<L: Ledger>(alloc: Global, start: u64, steps: &mut Steps<L>) -> Result
     for _ in 0..50_000 {
         call_both(&mut wheel, &mut plain, &mut seed, steps)?;
     }
+    let mut ids = Vec::new(alloc);
     for _ in 0..66_000 {
-        tick_both(&mut wheel, &mut plain, steps)?;
+        tick_both_into(&mut wheel, &mut plain, &mut ids, steps)?;
     }
     let left = wheel.cancel_all()?;
     if !left.iter().eq(plain.ids.keys()) {

@@ -1,7 +1,6 @@
-use Rattle.std.proofs.Common.{ℕ, List, subst, sym, rules}
+use Rattle.std.proofs.Common.{ℕ, rules}
 use Rattle.std.proofs.lemmas.List.Sorted.{IsNonDecreasingBy-from_sort_by_key}
-use Rattle.tick_wheel.specs.Table.{ListsIds}
-use Rattle.tick_wheel.proofs.BookCalls.{none_listed, listed_permuted}
+use Rattle.tick_wheel.proofs.BookCalls.{listed_permuted}
 use Rattle.tick_wheel.proofs.book.Book.gather.Goals as goal
 
 pub returns-clause-rises : goal.returns-clause-rises
@@ -11,8 +10,3 @@ returns-clause-rises g c =
 pub returns-clause-lists : goal.returns-clause-lists
 returns-clause-lists g c =
     listed_permuted c.self.inside.table c.self.inside.lanes c.args.self.now c.self.invariant c.self.view_is c.args.slot c.in_ok-found.found.items _ c.in_ok-found.ensures c.sort_unstable_by_key.ensures.permutation
-
-pub returns-in_default-clause-lists : goal.returns-in_default-clause-lists
-returns-in_default-clause-lists g c =
-    subst (λ (items : List (ℕ × ℕ)). ListsIds c.args.self.now c.args.slot items) (sym c.new.ensures.items)
-    (none_listed c.self.inside.table c.self.inside.lanes c.args.self.now c.self.invariant c.self.view_is c.args.slot c.in_default.ensures.none)
