@@ -2,7 +2,7 @@
 use Rattle.std.proofs.Common.{◌≡◌, ℕ, zero, suc, ◌+◌, ◌*◌, ◌<◌, ◌≤◌, ◌^◌, List, [], ◌∷◌, ◌++◌, Bool, true, false, cond, ltb, length, get_or, replicate, refl, sym, ap, ◌∙◌, subst, arith, take, map, zip}
 use Rattle.std.specs.List.{All, AllByRecursion}
 use Rattle.std.specs.List.Sorted.{IsPartitionedBy}
-use Rattle.std.proofs.lemmas.List.{length-map, take-map, length-take-le}
+use Rattle.std.proofs.lemmas.List.{length-map, take-map, length-take-le, take_all}
 use Rattle.std.proofs.lemmas.Bool.{ltb-true}
 use Rattle.fan_base.specs.declared.doc.Doc.{Doc}
 use Rattle.fan_base.specs.declared.word.Word.{Word}
@@ -33,6 +33,12 @@ told-parted docs front w places times tell = (stand-where (has_word w) docs plac
 pub places-front : (docs : List Doc) (front : ℕ) (w : Word) (places times below : List ℕ) → Tell places times (standing_of w docs) → below ≡ front_of front places → below ≡ places_where (has_word w) (take front docs)
 places-front docs front w places times below tell cut =
     cut ∙ (ap (λ (ps : List ℕ). front_of front ps) (tell.once ∙ distinct-standing w docs) ∙ below-where front (has_word w) docs)
+
+-- where all documents are asked for, the whole list
+pub places-whole : (index : Index) (docs : List Doc) (front : ℕ) (w : Word) (places times : List ℕ) → Indexes index docs → front ≡ length index.ids.items → Tell places times (standing_of w docs)
+    → places ≡ places_where (has_word w) (take front docs)
+places-whole index docs front w places times stands all tell =
+    tell.once ∙ (distinct-standing w docs ∙ ap (λ ds. places_where (has_word w) ds) (sym (take_all front docs (omega (arith, all, many-ids index docs stands)))))
 
 front-no-longer : (front : ℕ) (places : List ℕ) → length (front_of front places) ≤ length places
 front-no-longer front [] = omega arith

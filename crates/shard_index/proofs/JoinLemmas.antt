@@ -1,8 +1,9 @@
 -- The joining of two ascending lists of places, one at a time, and what is kept.
-use Rattle.std.proofs.Common.{◌≡◌, ℕ, suc, ◌+◌, ◌<◌, ◌≤◌, List, [], ◌∷◌, ◌++◌, length, Bool, true, false, ◌||◌, cond, ltb, refl, sym, ap, ◌∙◌, arith, inl, inr, ◌⊎◌, append_assoc, append-nil, get_or, take, drop, ◌-◌, length-drop, drop-cons}
+use Rattle.std.proofs.Common.{◌≡◌, ℕ, suc, ◌+◌, ◌<◌, ◌≤◌, List, [], ◌∷◌, ◌++◌, length, Bool, true, false, ◌||◌, cond, leb, ltb, refl, sym, ap, ◌∙◌, arith, inl, inr, ◌⊎◌, append_assoc, append-nil, get_or, take, drop, ◌-◌, length-drop, drop-cons}
 use Rattle.std.proofs.lemmas.List.{drop_all, take_all}
+use mir.Val.{bool_byte}
 use Rattle.std.specs.List.{AllByRecursion}
-use Rattle.std.proofs.lemmas.Bool.{le-ltb, lt-ltb}
+use Rattle.std.proofs.lemmas.Bool.{leb-false, leb-true, le-ltb, lt-ltb}
 use Rattle.fan_base.specs.declared.doc.Doc.{Doc}
 use Rattle.shard_index.specs.Places.{places_from, places_where}
 use Rattle.shard_index.proofs.PlaceLemmas.{places-above}
@@ -99,6 +100,27 @@ module _ (xs ys kept kept' whole : List ℕ) (i j : ℕ) (within_x : i < length 
   pub step-both : get_or ys j 0 ≤ get_or xs i 0 → get_or xs i 0 ≤ get_or ys j 0 → kept' ≡ kept ++ get_or xs i 0 ∷ [] → kept' ++ joined (drop (i + 1) xs) (drop (j + 1) ys) ≡ whole
   step-both below above more = step (drop i xs) (drop j ys) kept kept' whole (get_or xs i 0 ∷ []) (joined (drop (i + 1) xs) (drop (j + 1) ys)) so_far
       (here ∙ joined-both (get_or xs i 0) (get_or ys j 0) (drop (i + 1) xs) (drop (j + 1) ys) below above) more
+
+  -- the lower of both, and how far each list is gone then
+  pub step-least : (up down : Bool) (i' j' least : ℕ) → leb (get_or xs i 0) (get_or ys j 0) ≡ up → leb (get_or ys j 0) (get_or xs i 0) ≡ down → i' ≡ i + bool_byte up → j' ≡ j + bool_byte down
+      → least ≡ cond (ltb (get_or ys j 0) (get_or xs i 0)) (get_or ys j 0) (get_or xs i 0) → kept' ≡ kept ++ least ∷ [] → kept' ++ joined (drop i' xs) (drop j' ys) ≡ whole
+  step-least false false i' j' least is same on also lower more =
+      let below = leb-false (get_or xs i 0) (get_or ys j 0) is in
+      let above = leb-false (get_or ys j 0) (get_or xs i 0) same in
+      absurd (omega (arith, below, above))
+  step-least true false i' j' least is same on also lower more =
+      let stay : j' ≡ j = omega (arith, also) in
+      let low : least ≡ get_or xs i 0 = lower ∙ ap (λ b. cond b (get_or ys j 0) (get_or xs i 0)) (le-ltb (get_or ys j 0) (get_or xs i 0) (leb-true (get_or xs i 0) (get_or ys j 0) is)) in
+      (λ k. kept' ++ joined (drop (on k) xs) (drop (stay k) ys)) ∙ step-first (leb-false (get_or ys j 0) (get_or xs i 0) same) (more ∙ ap (λ n. kept ++ n ∷ []) low)
+  step-least false true i' j' least is same on also lower more =
+      let stay : i' ≡ i = omega (arith, on) in
+      let above : get_or ys j 0 < get_or xs i 0 = leb-false (get_or xs i 0) (get_or ys j 0) is in
+      let low : least ≡ get_or ys j 0 = lower ∙ ap (λ b. cond b (get_or ys j 0) (get_or xs i 0)) (lt-ltb (get_or ys j 0) (get_or xs i 0) above) in
+      (λ k. kept' ++ joined (drop (stay k) xs) (drop (also k) ys)) ∙ step-second above (more ∙ ap (λ n. kept ++ n ∷ []) low)
+  step-least true true i' j' least is same on also lower more =
+      let below = leb-true (get_or xs i 0) (get_or ys j 0) is in
+      let low : least ≡ get_or xs i 0 = lower ∙ ap (λ b. cond b (get_or ys j 0) (get_or xs i 0)) (le-ltb (get_or ys j 0) (get_or xs i 0) below) in
+      (λ k. kept' ++ joined (drop (on k) xs) (drop (also k) ys)) ∙ step-both (leb-true (get_or ys j 0) (get_or xs i 0) same) below (more ∙ ap (λ n. kept ++ n ∷ []) low)
 
 -- one of the lists is used up
 pub joined-rest : (xs ys : List ℕ) → (xs ≡ []) ⊎ (ys ≡ []) → xs ++ ys ≡ joined xs ys

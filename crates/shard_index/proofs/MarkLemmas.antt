@@ -1,8 +1,9 @@
 -- Marks by place: what is set at the places of documents, and how many are set.
-use Rattle.std.proofs.Common.{◌≡◌, ℕ, zero, suc, ◌+◌, ◌<◌, ◌≤◌, List, [], ◌∷◌, ◌++◌, length, Bool, true, false, ◌||◌, cond, get_or, replicate, refl, sym, ap, ◌∙◌, arith, take, map, set, append_assoc, zero-add}
+use Rattle.std.proofs.Common.{◌≡◌, ℕ, zero, suc, ◌+◌, ◌<◌, ◌≤◌, List, [], ◌∷◌, ◌++◌, length, Bool, true, false, ◌||◌, cond, get_or, replicate, refl, sym, ap, ◌∙◌, arith, take, filter, map, set, append_assoc, zero-add}
+use mir.Val.{bool_byte}
 use Rattle.std.specs.List.{count_by, fold}
 use Rattle.std.proofs.lemmas.List.{get_or-map, length-take-le, set_at, take_more}
-use Rattle.std.proofs.lemmas.List.Sums.{sum_by-cons}
+use Rattle.std.proofs.lemmas.List.Sums.{count_by_more_no, count_by_more_yes, length-filter, sum_by-cons}
 use Rattle.fan_base.specs.declared.doc.Doc.{Doc}
 use Rattle.shard_index.specs.Places.{places_from, places_where}
 use Rattle.shard_index.specs.Totals.{marked_at}
@@ -88,3 +89,16 @@ places-more test (first ∷ rest) i mark d within is =
     let many : length (take i docs) ≡ i = length-take-le i docs (let h : i ≤ length docs = omega (arith, within) in h) in
     ap (places_where test) (take_more docs i first within) ∙ (places-push test (take i docs) doc
     ∙ (λ k. cond (here k) (places_where test (take i docs) ++ many k ∷ []) (places_where test (take i docs))))
+
+-- one mark more is counted
+pub one-count : (count i step : ℕ) (b : Bool) → count ≤ i → step ≡ bool_byte b → count + step ≤ i + 1
+one-count count i step true few is = omega (arith, few, is)
+one-count count i step false few is = omega (arith, few, is)
+
+pub counted-more : (marks : List Bool) (i count step : ℕ) (b : Bool) → i < length marks → get_or marks i false ≡ b → step ≡ bool_byte b → count ≡ count_by (λ m. m) (take i marks)
+    → count + step ≡ count_by (λ m. m) (take (i + 1) marks)
+counted-more marks i count step true low is one are = let more = count_by_more_yes (λ m. m) marks i false low is in omega (arith, more, one, are)
+counted-more marks i count step false low is one are = let more = count_by_more_no (λ m. m) marks i false low is in omega (arith, more, one, are)
+
+pub counted-where : (test : Doc → Bool) (docs : List Doc) (marks : List Bool) (count : ℕ) → marks ≡ map test docs → count ≡ count_by (λ m. m) marks → count ≡ length (filter test docs)
+counted-where test docs marks count are is = is ∙ (ap (λ ms. count_by (λ m. m) ms) are ∙ (count-marked test docs ∙ sym (length-filter test docs)))

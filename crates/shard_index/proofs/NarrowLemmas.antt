@@ -1,14 +1,16 @@
 -- Which places of one list stand in another.
-use Rattle.std.proofs.Common.{◌≡◌, ℕ, zero, suc, ◌+◌, ◌-◌, ◌<◌, ◌≤◌, List, [], ◌∷◌, ◌++◌, length, Bool, true, false, not, ◌&&◌, ◌||◌, cond, eqb, ltb, get_or, take, filter, refl, sym, ap, subst, ◌∙◌, arith}
+use Rattle.std.proofs.Common.{◌≡◌, ℕ, zero, suc, ◌+◌, ◌-◌, ◌<◌, ◌≤◌, List, [], ◌∷◌, ◌++◌, length, Bool, true, false, not, ◌&&◌, ◌||◌, cond, eqb, leb, ltb, get_or, take, filter, inl, inr, ◌⊎◌, append-nil, append_assoc, drop, set, refl, sym, ap, subst, ◌∙◌, arith}
+use mir.Val.{bool_byte}
 use Rattle.std.specs.List.{AllByRecursion}
 use Rattle.std.proofs.lemmas.Bool.Decides.{nat_tests}
-use Rattle.std.proofs.lemmas.List.{take_all, take_more, get_or_default}
+use Rattle.std.proofs.lemmas.List.{drop_all, take_all, take_more, take_more_set, take-set, get_or_default}
 use Rattle.std.proofs.lemmas.List.Elements.{filter-append}
 use Rattle.std.proofs.lemmas.List.Folds.{list_any_at, list_any_none}
-use Rattle.std.proofs.lemmas.Bool.{eq-eqb, lt-ltb, ltb-false, ltb-true}
+use Rattle.std.proofs.lemmas.Bool.{eq-eqb, leb-false, leb-true, le-ltb, lt-ltb, ltb-false, ltb-true}
 use Rattle.fan_base.specs.declared.doc.Doc.{Doc}
 use Rattle.shard_index.specs.Narrowing.{AreParted, StandWhere, has_place, passes}
 use Rattle.shard_index.specs.Places.{places_from, places_where}
+use Rattle.shard_index.proofs.JoinLemmas.{from_here}
 use Rattle.shard_index.proofs.PlaceLemmas.{places-above, neq-below}
 use Rattle.word_table.proofs.PairLemmas.{all-at}
 
@@ -146,6 +148,144 @@ kept-where places by kept wanted index at p q docs past has are stand =
     has.are ∙ (ap (λ (ps : List ℕ). filter (passes by wanted) ps) (take_all index places past ∙ are)
     ∙ kept-from 0 p (λ doc. cond wanted (q doc) (not (q doc))) (passes by wanted) docs
     (λ i d low. ap (λ (b : Bool). cond wanted b (not b)) (ap (λ n. has_place by n) (let e : 0 + i ≡ i = omega arith in e) ∙ stand.are i d low)))
+
+-- two lists, one step after another
+
+pub one-more : (at step many : ℕ) (b : Bool) → at < many → step ≡ bool_byte b → at + step ≤ many
+one-more at step many true low is = omega (arith, low, is)
+one-more at step many false low is = omega (arith, low, is)
+
+-- the next place is written where it belongs, and counted where it is kept
+pub written : (room : List ℕ) (many next x : ℕ) (b : Bool) → many < length room → next ≡ many + bool_byte b → take next (set room many x) ≡ take many room ++ cond b (x ∷ []) []
+written room many next x true low is = ap (λ n. take n (set room many x)) is ∙ take_more_set room many x low
+written room many next x false low is = ap (λ n. take n (set room many x)) (let e : next ≡ many = omega (arith, is) in e) ∙ (take-set room many x ∙ sym (append-nil (take many room)))
+
+-- no more are kept than were gone over
+pub no-further : (x y many index step on : ℕ) (b c : Bool) → ltb x y ≡ b → leb x y ≡ c → many ≤ index → step ≡ bool_byte b → on ≡ bool_byte c → many + step ≤ index + on
+no-further x y many index step on true false is same low one other =
+    let below = ltb-true x y is in
+    let above = leb-false x y same in
+    absurd (omega (arith, below, above))
+no-further x y many index step on true true is same low one other = omega (arith, low, one, other)
+no-further x y many index step on false c is same low one other = omega (arith, low, one)
+
+module _ (places by : List ℕ) where
+  moved : (kept : List ℕ) (wanted : Bool) (index at next further : ℕ) → next ≡ index → further ≡ at → HasKept places by wanted index at kept → HasKept places by wanted next further kept
+  moved kept wanted index at next further same also has =
+      subst (λ n. HasKept places by wanted n further kept) (sym same) (subst (λ n. HasKept places by wanted index n kept) (sym also) has)
+
+  -- the next of the others is below all places that are left
+  kept-past : (kept : List ℕ) (wanted : Bool) (index at : ℕ) → Ascend places → HasKept places by wanted index at kept → (index < length places → get_or by at 0 < get_or places index 0)
+      → HasKept places by wanted index (at + 1) kept
+  kept-past kept wanted index at ascend has low = record {
+    are = has.are;
+    front = λ some m from to. subst (λ n. get_or by n 0 < get_or places m 0) (let e : at ≡ at + 1 - 1 = omega arith in e) (cases (ltb index m) m refl from to);
+  }
+    where
+      cases : (b : Bool) (m : ℕ) → ltb index m ≡ b → index ≤ m → m < length places → get_or by at 0 < get_or places m 0
+      cases true m less from to = omega (arith, low (omega (arith, from, to)), ascend index m (ltb-true index m less) to)
+      cases false m less from to =
+          let same : index ≡ m = (let past = ltb-false index m less in omega (arith, past, from)) in
+          subst (λ n. get_or by at 0 < get_or places n 0) same (low (omega (arith, same, to)))
+
+  -- the next place of each list, and how far each is gone then
+  pub near-more : (kept more : List ℕ) (index at next further : ℕ) (up down : Bool) → Ascend places → AreParted by → HasKept places by true index at kept → index < length places → at < length by
+      → leb (get_or places index 0) (get_or by at 0) ≡ up → leb (get_or by at 0) (get_or places index 0) ≡ down → next ≡ index + bool_byte up → further ≡ at + bool_byte down
+      → more ≡ kept ++ cond (eqb (get_or places index 0) (get_or by at 0)) (get_or places index 0 ∷ []) [] → HasKept places by true next further more
+  near-more kept more index at next further false false ascend parted has low among is same on also are =
+      let below = leb-false (get_or places index 0) (get_or by at 0) is in
+      let above = leb-false (get_or by at 0) (get_or places index 0) same in
+      absurd (omega (arith, below, above))
+  near-more kept more index at next further true false ascend parted has low among is same on also are =
+      let x = get_or places index 0 in
+      let y = get_or by at 0 in
+      let below : x < y = leb-false y x same in
+      moved more true (index + 1) at next further on (omega (arith, also))
+      (kept-more places by kept more true false index at at ascend parted has low (omega arith) (omega (arith, among)) (λ later. absurd (omega (arith, later))) (λ within. omega (arith, below))
+      (sym ((λ k. lt-ltb at (length by) among k && eqb y x) ∙ eqb-more y x below)) (are ∙ ap (λ b. kept ++ cond b (x ∷ []) []) (neq-below x y below)))
+  near-more kept more index at next further false true ascend parted has low among is same on also are =
+      let x = get_or places index 0 in
+      let y = get_or by at 0 in
+      let above : y < x = leb-false x y is in
+      moved more true index (at + 1) next further (omega (arith, on)) also
+      (subst (λ ks. HasKept places by true index (at + 1) ks) (sym (are ∙ (ap (λ b. kept ++ cond b (x ∷ []) []) (eqb-more x y above) ∙ append-nil kept)))
+      (kept-past kept true index at ascend has (λ within. above)))
+  near-more kept more index at next further true true ascend parted has low among is same on also are =
+      let x = get_or places index 0 in
+      let y = get_or by at 0 in
+      let one : x ≡ y = (let up = leb-true x y is in let down = leb-true y x same in omega (arith, up, down)) in
+      moved more true (index + 1) (at + 1) next further on also
+      (kept-past more true (index + 1) at ascend
+      (kept-more places by kept more true true index at at ascend parted has low (omega arith) (omega (arith, among)) (λ later. absurd (omega (arith, later))) (λ within. omega (arith, one))
+      (sym ((λ k. lt-ltb at (length by) among k && eqb y x) ∙ eq-eqb y x (sym one))) (are ∙ ap (λ b. kept ++ cond b (x ∷ []) []) (eq-eqb x y one)))
+      (λ within. omega (arith, one, ascend index (index + 1) (omega arith) within)))
+
+  -- the same, where those that the others don't have are kept
+  pub past-more : (kept more : List ℕ) (index at next further : ℕ) (up down : Bool) → Ascend places → AreParted by → HasKept places by false index at kept → index < length places → at < length by
+      → leb (get_or places index 0) (get_or by at 0) ≡ up → leb (get_or by at 0) (get_or places index 0) ≡ down → next ≡ index + bool_byte up → further ≡ at + bool_byte down
+      → more ≡ kept ++ cond (ltb (get_or places index 0) (get_or by at 0)) (get_or places index 0 ∷ []) [] → HasKept places by false next further more
+  past-more kept more index at next further false false ascend parted has low among is same on also are =
+      let below = leb-false (get_or places index 0) (get_or by at 0) is in
+      let above = leb-false (get_or by at 0) (get_or places index 0) same in
+      absurd (omega (arith, below, above))
+  past-more kept more index at next further true false ascend parted has low among is same on also are =
+      let x = get_or places index 0 in
+      let y = get_or by at 0 in
+      let below : x < y = leb-false y x same in
+      moved more false (index + 1) at next further on (omega (arith, also))
+      (kept-more places by kept more false false index at at ascend parted has low (omega arith) (omega (arith, among)) (λ later. absurd (omega (arith, later))) (λ within. omega (arith, below))
+      (sym ((λ k. lt-ltb at (length by) among k && eqb y x) ∙ eqb-more y x below)) (are ∙ ap (λ b. kept ++ cond b (x ∷ []) []) (lt-ltb x y below)))
+  past-more kept more index at next further false true ascend parted has low among is same on also are =
+      let x = get_or places index 0 in
+      let y = get_or by at 0 in
+      let above : y < x = leb-false x y is in
+      moved more false index (at + 1) next further (omega (arith, on)) also
+      (subst (λ ks. HasKept places by false index (at + 1) ks) (sym (are ∙ (ap (λ b. kept ++ cond b (x ∷ []) []) (le-ltb x y (omega (arith, above))) ∙ append-nil kept)))
+      (kept-past kept false index at ascend has (λ within. above)))
+  past-more kept more index at next further true true ascend parted has low among is same on also are =
+      let x = get_or places index 0 in
+      let y = get_or by at 0 in
+      let down : y ≤ x = leb-true y x same in
+      let one : x ≡ y = (let up = leb-true x y is in omega (arith, up, down)) in
+      moved more false (index + 1) (at + 1) next further on also
+      (kept-past more false (index + 1) at ascend
+      (kept-more places by kept more false true index at at ascend parted has low (omega arith) (omega (arith, among)) (λ later. absurd (omega (arith, later))) (λ within. omega (arith, one))
+      (sym ((λ k. lt-ltb at (length by) among k && eqb y x) ∙ eq-eqb y x (sym one))) (are ∙ ap (λ b. kept ++ cond b (x ∷ []) []) (le-ltb x y down)))
+      (λ within. omega (arith, one, ascend index (index + 1) (omega arith) within)))
+
+  -- behind the last of the others no place is one of them
+  kept-left : (n : ℕ) (kept : List ℕ) (wanted : Bool) (index at : ℕ) → Ascend places → AreParted by → at ≤ length by → length by ≤ at → HasKept places by wanted index at kept → index + n ≡ length places
+      → HasKept places by wanted (length places) at (kept ++ cond wanted [] (drop index places))
+  kept-left zero kept wanted index at ascend parted within past has all =
+      moved (kept ++ cond wanted [] (drop index places)) wanted index at (length places) at (omega (arith, all)) refl
+      (subst (λ ks. HasKept places by wanted index at ks) (sym (none wanted ∙ append-nil kept)) has)
+    where
+      none : (b : Bool) → kept ++ cond b [] (drop index places) ≡ kept ++ []
+      none true = refl
+      none false = ap (λ ks. kept ++ ks) (drop_all index places (omega (arith, all)))
+  kept-left (suc n) kept wanted index at ascend parted within past has all =
+      subst (λ ks. HasKept places by wanted (length places) at ks) (again wanted)
+      (kept-left n (kept ++ cond (cond wanted false true) (get_or places index 0 ∷ []) []) wanted (index + 1) at ascend parted within past
+      (kept-more places by kept (kept ++ cond (cond wanted false true) (get_or places index 0 ∷ []) []) wanted false index at at ascend parted has (omega (arith, all)) (omega arith) within
+      (λ later. absurd (omega (arith, later))) (λ low. absurd (omega (arith, low, past)))
+      (sym (λ k. le-ltb at (length by) past k && eqb (get_or by at 0) (get_or places index 0))) refl)
+      (omega (arith, all)))
+    where
+      again : (b : Bool) → (kept ++ cond (cond b false true) (get_or places index 0 ∷ []) []) ++ cond b [] (drop (index + 1) places) ≡ kept ++ cond b [] (drop index places)
+      again true = append-nil (kept ++ [])
+      again false = append_assoc kept (get_or places index 0 ∷ []) (drop (index + 1) places) ∙ ap (λ ks. kept ++ ks) (sym (from_here places index (omega (arith, all))))
+
+  pub near-where : (kept : List ℕ) (wanted : Bool) (index at : ℕ) (p q : Doc → Bool) (docs : List Doc) → (length by ≤ at) ⊎ (length places ≤ index) → index ≤ length places → at ≤ length by
+      → HasKept places by wanted index at kept → places ≡ places_where p docs → StandWhere by q docs
+      → kept ++ cond wanted [] (drop index places) ≡ places_where (λ doc. p doc && cond wanted (q doc) (not (q doc))) docs
+  near-where kept wanted index at p q docs (inr past) low within has are stand = none wanted ∙ (append-nil kept ∙ kept-where places by kept wanted index at p q docs past has are stand)
+    where
+      none : (b : Bool) → kept ++ cond b [] (drop index places) ≡ kept ++ []
+      none true = refl
+      none false = ap (λ ks. kept ++ ks) (drop_all index places past)
+  near-where kept wanted index at p q docs (inl past) low within has are stand =
+      kept-where places by (kept ++ cond wanted [] (drop index places)) wanted (length places) at p q docs (omega arith)
+      (kept-left (length places - index) kept wanted index at (ascend-where p docs places are) stand.parted within past has (omega (arith, low))) are stand
 
 -- the places of documents that pass a test tell of their documents
 

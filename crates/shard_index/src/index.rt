@@ -17,8 +17,8 @@ use crate::best::ascend;
 use crate::counts::Counts;
 use crate::front::below;
 use crate::hits::hits;
-use crate::leaves::{is_long, two_words};
-use crate::marks::{mark_at, marked, no_marks};
+use crate::leaves::{is_long_choice, two_words};
+use crate::marks::{count_marks, mark_at, marked, no_marks};
 use crate::narrow::narrow;
 use crate::scored::{first_scores, with_places};
 use crate::selection::{Places, Selection, both};
@@ -97,8 +97,30 @@ impl Index {
     {
         match e.node() {
             Node::Word(word) => Ok(self.count_with(front, word)),
-            _ => Ok(self.select(alloc, front, e)?.count(front)),
+            _ => {
+                if is_long_choice(e, MANY)
+                    && let Some(total) = self.count_words(alloc, front, e)?
+                {
+                    return Ok(total);
+                }
+                Ok(self.select(alloc, front, e)?.count(front))
+            }
         }
+    }
+
+    /// How many of the first documents have one of the words of a choice of words, or none where the expression is another. They are
+    /// marked, and no list of them is made.
+    fn count_words(&self, alloc: Global, front: usize, e: &Expr) -> Result<Option<u64>, AllocError>
+        requires docs { (docs : List Doc) × Indexes self.now docs }
+        requires front { front ≤ length self.now.ids.items }
+        ensures { (docs : List Doc) → Indexes self.now docs
+            → IfOk result (λ words. IfSome words (λ total. total ≡ length (holding e.now (take front docs)))) }
+    {
+        let mut marks = no_marks(alloc, front)?;
+        if !self.mark_words(front, e, &mut marks) {
+            return Ok(None);
+        }
+        Ok(Some(count_marks(&marks)))
     }
 
     /// How many of the first documents have a word.
@@ -132,7 +154,7 @@ impl Index {
                 ),
             },
             Node::Either(a, b) => {
-                if is_long(e, MANY)
+                if is_long_choice(e, MANY)
                     && let Some(selection) = self.select_words(alloc, front, e)?
                 {
                     return Ok(selection);
@@ -383,12 +405,16 @@ impl Index {
         add_at(totals, places, &times[..places.len()], weight);
     }
 
-    /// The places of the documents with a word, among the first.
+    /// The places of the documents with a word, among the first. Where these are all, the list isn't looked at.
     fn places_with(&self, front: usize, word: &Word) -> &[u32]
         requires { (docs : List Doc) × Indexes self.now docs }
         ensures { (docs : List Doc) → Indexes self.now docs → result.now ≡ places_where (has_word word.now) (take front docs) }
     {
-        below(self.standing(word).0, front)
+        let places = self.standing(word).0;
+        if front == self.ids.len() {
+            return places;
+        }
+        below(places, front)
     }
 
     /// The places where a word stands, and beside each how often it stands there.

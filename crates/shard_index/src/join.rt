@@ -45,7 +45,7 @@ fn behind(places: &[u32], at: usize, place: u32) -> usize
     if is_at(places, at, place) { at + 1 } else { at }
 }
 
-/// The same, one place after another.
+/// The same, one place after another. How far each list is gone is counted without a branch: which of two places is lower can't be foreseen.
 fn all_near(alloc: Global, first: &[u32], second: &[u32]) -> Result<Vec<u32>, AllocError>
     ensures { (p q : Doc → Bool) (docs : List Doc) → first.now ≡ places_where p docs → second.now ≡ places_where q docs
         → IfOk result (λ kept. kept.items ≡ places_where (λ doc. p doc || q doc) docs) }
@@ -56,19 +56,18 @@ fn all_near(alloc: Global, first: &[u32], second: &[u32]) -> Result<Vec<u32>, Al
     'places: while i < first.len() && j < second.len() {
         let x = first[i];
         let y = second[j];
-        if x < y {
-            kept.push(x)?;
-            i += 1;
-        } else if y < x {
-            kept.push(y)?;
-            j += 1;
-        } else {
-            kept.push(x)?;
-            i += 1;
-            j += 1;
-        }
+        kept.push(least(x, y))?;
+        i += usize::from(x <= y);
+        j += usize::from(y <= x);
     }
     kept.extend_from_slice(&first[i..])?;
     kept.extend_from_slice(&second[j..])?;
     Ok(kept)
+}
+
+/// The lower of two places.
+fn least(x: u32, y: u32) -> u32
+    ensures { result ≡ (if nat_lt y x then y else x) }
+{
+    if y < x { y } else { x }
 }

@@ -37,8 +37,23 @@ fn leaf_in(e: &Expr) -> Option<(&Word, bool)>
     }
 }
 
+/// Whether an expression is a choice of words with more than so many other choices in its first parts.
+pub fn is_long_choice(e: &Expr, many: u32) -> bool {
+    is_long(e, many) && are_words(e)
+}
+
+/// Whether an expression is a word or a choice of words. The last parts are looked at first, since where one is another the first parts
+/// are asked next.
+fn are_words(e: &Expr) -> bool {
+    match e.node() {
+        Node::Word(_) => true,
+        Node::Either(a, b) => are_words(b) && are_words(a),
+        _ => false,
+    }
+}
+
 /// Whether an expression is a choice with more than so many others in its first parts.
-pub fn is_long(e: &Expr, many: u32) -> bool {
+fn is_long(e: &Expr, many: u32) -> bool {
     match e.node() {
         Node::Either(a, _) => many == 0 || is_long(a, many - 1),
         _ => false,

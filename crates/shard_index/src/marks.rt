@@ -40,3 +40,14 @@ pub fn marked(alloc: Global, marks: &[bool]) -> Result<Vec<u32>, AllocError>
     }
     Ok(places)
 }
+
+/// How many marks are set.
+pub fn count_marks(marks: &[bool]) -> u64
+    ensures { result ≡ count_by (λ mark. mark) marks.now }
+{
+    let mut count = 0;
+    for mark in marks {
+        count += u64::from(*mark);
+    }
+    count
+}

@@ -44,49 +44,45 @@ fn narrow_far(
     Ok(kept)
 }
 
-/// The places that are among the others, one step after another.
+/// The places that are among the others, one step after another. How far each list is gone is counted without a branch: which of two places
+/// is lower can't be foreseen.
 fn common_near(alloc: Global, places: &[u32], others: &[u32]) -> Result<Vec<u32>, AllocError>
     ensures { (p q : Doc → Bool) (docs : List Doc) → places.now ≡ places_where p docs → StandWhere others.now q docs
         → IfOk result (λ kept. kept.items ≡ places_where (λ doc. p doc && q doc) docs) }
 {
     let mut kept = Vec::with_capacity(alloc, places.len())?;
+    let mut i = 0;
     let mut at = 0;
-    for place in places {
-        at = first_near(others, at, *place);
-        let has = is_at(others, at, *place);
-        push_if(&mut kept, has, *place)?;
+    'places: while i < places.len() && at < others.len() {
+        let place = places[i];
+        let other = others[at];
+        push_if(&mut kept, place == other, place)?;
+        i += usize::from(place <= other);
+        at += usize::from(other <= place);
     }
     Ok(kept)
 }
 
-/// The places that aren't among the others, one step after another.
+/// The places that aren't among the others, in the same way. Each is written where the next one that is kept belongs.
 fn without_near(alloc: Global, places: &[u32], others: &[u32]) -> Result<Vec<u32>, AllocError>
     ensures { (p q : Doc → Bool) (docs : List Doc) → places.now ≡ places_where p docs → StandWhere others.now q docs
         → IfOk result (λ kept. kept.items ≡ places_where (λ doc. p doc && not (q doc)) docs) }
 {
-    let mut kept = Vec::with_capacity(alloc, places.len())?;
+    let mut kept = vec![in alloc; 0; places.len()]?;
+    let mut many = 0;
+    let mut i = 0;
     let mut at = 0;
-    for place in places {
-        at = first_near(others, at, *place);
-        let has = is_at(others, at, *place);
-        push_if(&mut kept, !has, *place)?;
+    'places: while i < places.len() && at < others.len() {
+        let place = places[i];
+        let other = others[at];
+        kept[many] = place;
+        many += usize::from(place < other);
+        i += usize::from(place <= other);
+        at += usize::from(other <= place);
     }
+    kept.truncate(many);
+    kept.extend_from_slice(&places[i..])?;
     Ok(kept)
-}
-
-/// Where the first place from an index on stands that isn't below this one.
-fn first_near(places: &[u32], from: usize, place: u32) -> usize
-    requires { from ≤ length places.now }
-    ensures order { from ≤ result }
-    ensures within { result ≤ length places.now }
-    ensures front { from < result → get_or places.now (result - 1) 0 < place }
-    ensures behind { result < length places.now → place ≤ get_or places.now result 0 }
-{
-    let mut at = from;
-    'steps: while at < places.len() && places[at] < place {
-        at += 1;
-    }
-    at
 }
 
 /// Where the first place from an index on stands that isn't below this one: by steps that double, and then by halving.
