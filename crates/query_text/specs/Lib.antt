@@ -1,4 +1,5 @@
 pub mod Cuts
+pub mod Known
 pub mod Outcomes
 pub mod Sayings
 pub mod Progress

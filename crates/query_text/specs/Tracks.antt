@@ -1,8 +1,6 @@
 -- What is known of the lines read so far.
 use Rattle.std.specs.Prelude.{◌≡◌, ℕ, ◌+◌, ◌≤◌, List, nat_le, Result}
 use Rattle.std.specs.List.{list_any, count_by, sum_by}
-use Rattle.std.specs.Ordering.{nat_cmp}
-use Rattle.std.specs.BTreeSet.{contains}
 use Rattle.query_model.specs.declared.line.Line.{Line}
 use Rattle.query_model.specs.declared.line.Line.TheVariants as line
 use Rattle.query_model.specs.declared.fault.BadKind.{BadKind}
@@ -12,10 +10,12 @@ use Rattle.query_model.specs.Results.{check}
 use Rattle.query_model.specs.Limits.{most_ticks}
 use Rattle.query_model.specs.Lines.{is_doc, is_query, has_id, ticks_of}
 use Rattle.line_table.specs.Rooms.{IsRoomForDoc}
+use Rattle.query_text.specs.Known.{NextIsAbove, is_known}
 use Rattle.query_text.specs.declared.so_far.SoFar.TheInside.{Inside}
 
 pub record Tracks (a : Inside) : Type 0 where
-  pub ids : (id : ℕ) → contains nat_cmp a.ids id ≡ list_any (has_id id) a.lines
+  pub ids : (id : ℕ) → is_known a.ids id ≡ list_any (has_id id) a.lines
+  pub above : NextIsAbove a.ids
   pub documents : a.documents ≡ count_by is_doc a.lines
   pub queries : a.queries ≡ count_by is_query a.lines
   pub ticks : a.ticks ≡ sum_by ticks_of a.lines

@@ -23,6 +23,7 @@ mod cut;
 mod expr_text;
 mod fault;
 mod fields;
+mod ids;
 mod keyword;
 mod law;
 mod line;

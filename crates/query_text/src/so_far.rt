@@ -3,19 +3,19 @@ ghost use Rattle.std.specs.List.{list_any, count_by, sum_by};
 ghost use Rattle.query_model.specs.Lines.{doc_room, query_room, is_query, has_id, is_doc, ticks_of};
 ghost use Rattle.query_text.specs.Tracks.{HasRoom, tick_room};
 
+use crate::ids::Ids;
 use fan_base::Doc;
 use line_table::LineTable;
 use query_model::limits::{MOST_DOCUMENTS, MOST_QUERIES, MOST_TASKS, MOST_TICKS};
 use query_model::{BadKind, InputFault, Limit, Line, Query};
 use std::alloc::Global;
-use std::collections::BTreeSet;
 use std::marker::Model;
 
 /// The lines read so far, and what is to be known of them where the next line is checked.
 #[derive(Drop)]
 pub struct SoFar {
     lines: LineTable,
-    ids: BTreeSet<u32>,
+    ids: Ids,
     documents: usize,
     queries: usize,
     ticks: u32,
@@ -45,7 +45,7 @@ impl SoFar {
     {
         SoFar {
             lines: LineTable::new(alloc),
-            ids: BTreeSet::new(alloc),
+            ids: Ids::new(alloc),
             documents: 0,
             queries: 0,
             ticks: 0,
@@ -64,7 +64,7 @@ impl SoFar {
     pub fn doc_room(&self, id: u32) -> Result<(), BadKind>
         ensures { result ≡ doc_room self.now id }
     {
-        if self.ids.contains(&id) {
+        if self.ids.has(id) {
             return Err(BadKind::DuplicateDoc);
         }
         if self.documents >= MOST_DOCUMENTS {
@@ -123,7 +123,7 @@ impl SoFar {
             queries,
             ticks,
         } = self;
-        ids.insert(doc.id)?;
+        ids.put(doc.id)?;
         let lines = lines.with(Line::Doc(doc))?;
         let many = lines.len();
         prove!(documents < many);

@@ -1,4 +1,4 @@
-ghost use Rattle.std.specs.Prelude.{◌≡◌};
+ghost use Rattle.std.specs.Prelude.{◌≡◌, length};
 ghost use Rattle.query_model.specs.Lines.{words_of};
 ghost use Rattle.query_text.specs.Outcomes.{Gives};
 ghost use Rattle.query_text.specs.Sayings.{word_in};
@@ -19,7 +19,7 @@ pub fn words_of(alloc: Global, mut fields: Fields<'_>) -> Result<Words, LineFaul
         if words.len() == MOST_WORDS {
             return Err(TOO_MANY_WORDS);
         }
-        match word_of(text) {
+        match word_by_size(text) {
             Ok(word) => words.push(word)?,
             Err(fault) => return Err(fault),
         }
@@ -34,6 +34,31 @@ pub fn without_spare(words: Words) -> Words
     let mut words = words.into_vec();
     words.shrink_to_fit();
     Words::from_vec(words)
+}
+
+/// The word that a text is, at most eight bytes by a case for each number of them.
+fn word_by_size(text: &[u8]) -> Result<Word, LineFault>
+    ensures { Gives result (word_in text.now) }
+{
+    match text.len() {
+        1 => word_of_size::<1>(text),
+        2 => word_of_size::<2>(text),
+        3 => word_of_size::<3>(text),
+        4 => word_of_size::<4>(text),
+        5 => word_of_size::<5>(text),
+        6 => word_of_size::<6>(text),
+        7 => word_of_size::<7>(text),
+        8 => word_of_size::<8>(text),
+        _ => word_of(text),
+    }
+}
+
+/// The word that a text of so many bytes is. A machine needs no loop for bytes whose number is known.
+fn word_of_size<const SIZE: usize>(text: &[u8]) -> Result<Word, LineFault>
+    requires { length text.now ≡ SIZE }
+    ensures { Gives result (word_in text.now) }
+{
+    word_of(&text[..SIZE])
 }
 
 /// The word that a text is.
