@@ -14,13 +14,13 @@ use Rattle.pool_model.specs.Seen.{EndSeen, PoolSeen, task_of}
 use Rattle.prio_pool.specs.Made.{new_end, new_pass}
 use Rattle.query_tasks.specs.Ends.{seen_of}
 use Rattle.query_tasks.specs.Starting.{HasHelped}
-use Rattle.run_ending.specs.Ends.{IsStopAccount as IsToldAccount}
+use Rattle.run_ending.specs.Ends.{IsJoinAccount as IsToldJoin, IsStopAccount as IsToldAccount}
 use Rattle.run_notes.specs.Accounts.{AllDone}
 use Rattle.run_notes.specs.Told.{told_of as told_by}
 use Rattle.run_phases.specs.declared.first.FrontStart.{FrontStart}
 use Rattle.run_phases.specs.declared.first.FrontMid.{FrontMid}
 use Rattle.run_phases.specs.declared.second.FrontLeft.{FrontLeft}
-use Rattle.run_phases.specs.Phases.{IsDoneBy, IsStopAccount}
+use Rattle.run_phases.specs.Phases.{IsDoneBy, IsJoinAccount, IsStopAccount}
 use Rattle.run_setup.specs.Closing.{AreWorldEnds, IsPrinterEnd}
 use Rattle.run_setup.specs.Ids.{RunIds}
 use Rattle.run_tasks.specs.declared.world.TaskEnds.{TaskEnds}
@@ -88,15 +88,28 @@ module _ {N : Type 0} where
     few = a.few;
   }
 
+  -- what is told of a pool that was joined
+  join_told : (asked : Asking) (stop : Option ℕ) (pool : PoolSeen) (start : FrontStart N) (mid : FrontMid N) (left : FrontLeft N) → IsFirstEnd asked stop pool start mid → IsJoinAccount mid left → IsToldJoin asked left.note
+  join_told asked stop pool start mid left e a = record {
+    passes = (seen_of mid.ending).passes;
+    accepted = a.accepted;
+    left = e.some.left;
+    first = ap (λ (runs : List Run). runs ++ e.some.left) e.some.are ∙ e.some.whole;
+    ran = a.all.tasks;
+    records = a.all.runs;
+    all = a.all.all;
+    none = a.none;
+  }
+
   pub side_end : (asked : Asking) (ids : RunIds) (stop : Option ℕ) (start : FrontStart N) (pool : PoolSeen) (slots : List (WorkerSlot TaskSeen (WorldSeen N))) (room : SideRoom N) (mid : FrontMid N) (ends : List EndSeen) (worlds : List (TaskEnds N)) (end : SideEnd N) → IsSideStart asked ids start pool slots room → IsFirstEnd asked stop pool start mid
       → end.worlds.items ≡ worlds → AreWorldEnds ids worlds → (NoneRefused worlds → AllDone ends)
-      → end.left.note.ran.stopped ≡ is_stopped asked.stop_at (answered_in asked.lines) → (end.left.note.ran.stopped ≡ true → IsStopAccount asked mid end.left)
+      → end.left.note.ran.stopped ≡ is_stopped asked.stop_at (answered_in asked.lines) → (end.left.note.ran.stopped ≡ true → IsStopAccount asked mid end.left) → (end.left.note.ran.stopped ≡ false → IsJoinAccount mid end.left)
       → (end.left.refused ≡ false → end.left.ends.tasks.refused ≡ false → AllDone (ends ++ mid.helper ∷ []) → IsPoolReport asked (told_by end.left.note))
       → (end.left.ends.tasks.refused ≡ false → mid.front.world.refused ≡ false)
       → AreEndsFor (map told_of mid.front.world.posters) end.left.ends.tasks.posters.items → StaysPass mid.front.world.pass end.left.ends.tasks.pass → IsDoneBy mid.front.printer end.left.ends.printer
       → IsPrinterEnd asked ids 0 end.left.ends.printer
       → IsSideEnd asked ids end
-  side_end asked ids stop start pool slots room mid ends worlds end s e is all done stops account report refused posters pass printer poster = record {
+  side_end asked ids stop start pool slots room mid ends worlds end s e is all done stops account ran report refused posters pass printer poster = record {
     worlds = subst (λ (l : List (TaskEnds N)). AreWorldEnds ids l) (sym is) all;
     tasks = record {
       posters = subst (λ (l : List _). AreEndsFor l end.left.ends.tasks.posters.items) (e.helped.follows.posters ∙ s.world.posters) posters;
@@ -106,7 +119,7 @@ module _ {N : Type 0} where
       };
     };
     poster = poster;
-    stopped = record { stops = stops; account = λ on. stop_told asked stop pool start mid end.left e (account on) };
+    stopped = record { stops = stops; account = λ on. stop_told asked stop pool start mid end.left e (account on); joined = λ off. join_told asked stop pool start mid end.left e (ran off) };
     report = λ fine tasks none. report fine tasks (All-append (λ (x : EndSeen). All (λ (r : Record). IsDone r.mark) x.records) ends (mid.helper ∷ []) (done (subst NoneRefused is none))
         (All-cons (λ (x : EndSeen). All (λ (r : Record). IsDone r.mark) x.records) mid.helper [] (helped_done start.front.world start.helper mid.front.world mid.helper e.helped (ap (λ (x : EndSeen). x.records) (helper_is asked ids start pool slots room s)) (refused tasks))
         (All-nil (λ (x : EndSeen). All (λ (r : Record). IsDone r.mark) x.records))));

@@ -4,7 +4,7 @@ use Rattle.fan_model.specs.Report.{Asking, IsPoolReport}
 use Rattle.fan_model.specs.Tasks.{pool_exec}
 use Rattle.pool_model.specs.Seen.{PoolSeen}
 use Rattle.prio_pool.specs.Made.{IsNewPool, new_workers}
-use Rattle.run_ending.specs.Ends.{IsStopTold}
+use Rattle.run_ending.specs.Ends.{IsPoolTold}
 use Rattle.run_front.specs.Fronts.{IsFrontOf}
 use Rattle.run_notes.specs.Told.{told_of}
 use Rattle.run_phases.specs.declared.first.FrontStart.{FrontStart}
@@ -39,5 +39,5 @@ module _ {N : Type 0} where
     pub worlds : AreWorldEnds ids end.worlds.items
     pub tasks : AreTaskEnds ids 0 end.left.ends.tasks
     pub poster : IsPrinterEnd asked ids 0 end.left.ends.printer
-    pub stopped : IsStopTold asked end.left.note
+    pub stopped : IsPoolTold asked end.left.note
     pub report : end.left.refused ≡ false → end.left.ends.tasks.refused ≡ false → NoneRefused end.worlds.items → IsPoolReport asked (told_of end.left.note)

@@ -2,7 +2,7 @@ ghost use Rattle.std.specs.Prelude.{◌≡◌, ◌≤◌, None, IfSome, length};
 ghost use Rattle.fan_base.specs.Outside.{shown};
 ghost use Rattle.query_model.specs.Documents.{IsWithinLimits, docs_of};
 ghost use Rattle.query_parts.specs.Parts.{AreShards};
-ghost use Rattle.run_ending.specs.Ends.{IsStopTold, Reports, TellsNoRun};
+ghost use Rattle.run_ending.specs.Ends.{IsPoolTold, Reports, TellsNoRun};
 ghost use Rattle.fanout.specs.Asked.{AreKnobs, Writes, asking_of};
 
 use crate::levels::fan_run_named;
@@ -40,7 +40,7 @@ pub fn fan_run<K: Sink + Send, G: Gate, R: Threads + Wait + Sync>(
     ensures writes { Writes input.now (shown (K.holds sink.old) (K.faults sink.old)) (shown (K.holds sink.new) (K.faults sink.new)) result.outcome }
     ensures reports { Reports (asking_of input.now.lines (length shards.now) knobs) result }
     ensures unmade { result.pool ≡ None → TellsNoRun result }
-    ensures stopped { IfSome result.pool (IsStopTold (asking_of input.now.lines (length shards.now) knobs)) }
+    ensures stopped { IfSome result.pool (IsPoolTold (asking_of input.now.lines (length shards.now) knobs)) }
 {
     fan_run_named::<Brand, K, G, R>(rt, alloc, &input.lines, shards, knobs, sink, gate)
 }

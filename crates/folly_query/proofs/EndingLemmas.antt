@@ -19,7 +19,7 @@ use Rattle.run_ending.specs.declared.end.FanEnd.{FanEnd}
 use Rattle.run_ending.specs.declared.end.FanOutcome.{FanOutcome}
 use Rattle.run_ending.specs.declared.end.FanOutcome.TheVariants as outcome
 use Rattle.run_notes.specs.declared.notes.PoolNote.{PoolNote}
-use Rattle.run_ending.specs.Ends.{IsReported, IsStopTold, Reports, ReportsAs}
+use Rattle.run_ending.specs.Ends.{IsReported, IsPoolTold, Reports, ReportsAs}
 use Rattle.fanout.specs.Asked.{Writes}
 use Rattle.folly_query.specs.declared.report.Report.{Report}
 use Rattle.folly_query.specs.declared.report.Status.{Status}
@@ -127,10 +127,10 @@ module _ (settings : Settings) (source source' sink sink' : Shown) (text : Bytes
       by outcome.WriteFault failed told = (text, all, input, accepted, failed.0, failed.1, whole told)
 
   pub tells_pool : (pool told : Option PoolNote) → pool ≡ told → ReadsAll source source' text → Accepts text settings.shards input
-      → IfSome told (IsStopTold (asked_by settings input.lines)) → IfSome pool (TellsPool settings source source')
+      → IfSome told (IsPoolTold (asked_by settings input.lines)) → IfSome pool (TellsPool settings source source')
   tells_pool pool told is all accepted stopped = subst (λ p. IfSome p (TellsPool settings source source')) (sym is) (by told stopped)
     where
-      by : (p : Option PoolNote) → IfSome p (IsStopTold (asked_by settings input.lines)) → IfSome p (TellsPool settings source source')
+      by : (p : Option PoolNote) → IfSome p (IsPoolTold (asked_by settings input.lines)) → IfSome p (TellsPool settings source source')
       by None stopped = tt
       by (Some note) stopped = (text, all, input, accepted, stopped)
 

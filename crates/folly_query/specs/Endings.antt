@@ -11,7 +11,7 @@ use Rattle.query_model.specs.Generated.{generated_input, summary_line}
 use Rattle.query_words.specs.declared.command.Generation.{Generation}
 use Rattle.query_words.specs.declared.command.Settings.{Settings}
 use Rattle.run_notes.specs.declared.notes.PoolNote.{PoolNote}
-use Rattle.run_ending.specs.Ends.{IsStopTold}
+use Rattle.run_ending.specs.Ends.{IsPoolTold}
 use Rattle.folly_query.specs.declared.report.Report.{Report}
 use Rattle.folly_query.specs.declared.report.Status.{Status}
 use Rattle.folly_query.specs.declared.report.Status.TheVariants as status
@@ -22,7 +22,7 @@ use Rattle.folly_query.specs.Reports.{TellsAll, asked_by}
 -- all was read, it is accepted, and what is told of a pool holds of the run over it
 abbrev pub TellsPool : Settings → Shown → Shown → PoolNote → Type 0
 TellsPool settings source source' note =
-    (text : Bytes) × ReadsAll source source' text × (input : Input) × Accepts text settings.shards input × IsStopTold (asked_by settings input.lines) note
+    (text : Bytes) × ReadsAll source source' text × (input : Input) × Accepts text settings.shards input × IsPoolTold (asked_by settings input.lines) note
 
 -- the sink gained this text, or a front of it where its faults rose
 abbrev pub IsWritten : Bytes → Shown → Shown → Type 0

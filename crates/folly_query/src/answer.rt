@@ -4,7 +4,7 @@ ghost use Rattle.query_model.specs.Alike.{without_words};
 ghost use Rattle.query_model.specs.Documents.{IsWithinLimits, docs_of};
 ghost use Rattle.query_parts.specs.Parts.{AreShards};
 ghost use Rattle.query_words.specs.Laws.{AreSettingsInRange};
-ghost use Rattle.run_ending.specs.Ends.{IsEndOf, IsStopTold, Reports, TellsNoRun};
+ghost use Rattle.run_ending.specs.Ends.{IsEndOf, IsPoolTold, Reports, TellsNoRun};
 ghost use Rattle.fanout.specs.Asked.{Writes};
 ghost use Rattle.folly_query.specs.Reports.{asked_by, knobs_of};
 
@@ -36,7 +36,7 @@ pub fn answer<K: Sink + Send, G: Gate, R: Threads + Wait + Sync>(
         (shown (K.holds sink.new) (K.faults sink.new)) result.outcome }
     ensures reports { Reports (asked_by settings table) result }
     ensures unmade { result.pool ≡ None → TellsNoRun result }
-    ensures stopped { IfSome result.pool (IsStopTold (asked_by settings table)) }
+    ensures stopped { IfSome result.pool (IsPoolTold (asked_by settings table)) }
 {
     answer_named::<Brand, K, G, R>(rt, alloc, table, settings, sink, gate)
 }

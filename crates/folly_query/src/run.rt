@@ -4,7 +4,7 @@ ghost use Rattle.query_words.specs.declared.command.Settings.{Settings};
 ghost use Rattle.query_words.specs.declared.command.Generation.{Generation};
 ghost use Rattle.query_words.specs.Grammar.{IsCommand, IsOutside};
 ghost use Rattle.query_words.specs.Laws.{AreSettingsInRange};
-ghost use Rattle.run_ending.specs.Ends.{IsStopTold};
+ghost use Rattle.run_ending.specs.Ends.{IsPoolTold};
 ghost use Rattle.folly_query.specs.Endings.{Comes, EndsAs, RefusesAs, SumsUpAs, TellsPool, asked_of};
 ghost use Rattle.folly_query.specs.Reports.{IsRefusal, TellsNothing};
 
@@ -62,11 +62,12 @@ pub fn query_main<S: Source, K: Sink + Send, G: Gate, R: Threads + Wait + Sync>(
     ensures unmade { result.pool ≡ None → TellsNothing result }
 
     // There is a pool only where words and input are accepted. Where there is one, whatever the status, it was stopped exactly where the settings ask
-    // for it, and of a stopped one each record of what it ran or handed back is of one of the first early tasks, no two of one.
+    // for it. Of a stopped one each record of what it ran or handed back is of one of the first early tasks, no two of one; of a joined one
+    // each task that it accepted has one record, and these are the first early ones.
     ensures pool { (settings : Settings) → IsCommand words.now (Command.Run settings) → IfSome result.pool (TellsPool settings
         (shown (S.left source.old) (S.faults source.old)) (shown (S.left source.new) (S.faults source.new))) }
     ensures made_up_pool { (generation : Generation) (settings : Settings) → IsCommand words.now (Command.Generate generation settings) →
-        IfSome result.pool (IsStopTold (asked_of generation settings)) }
+        IfSome result.pool (IsPoolTold (asked_of generation settings)) }
 {
     words_are_at_most_one_command();
     commands_are_in_range();

@@ -1,5 +1,6 @@
 //! How the pool is ended.
 ghost use Rattle.std.specs.Prelude.{◌≡◌, ◌+◌, ◌<◌, ◌≤◌, ◌++◌, [], true, false, length};
+ghost use Rattle.pool_model.specs.Accounts.{AllRun};
 ghost use Rattle.pool_model.specs.declared.task.Ending.TheVariants.{Joins as PoolJoins, Stops as PoolStops};
 ghost use Rattle.pool_model.specs.Passes.{AreAllEnds, AreAllPasses, adds_total};
 ghost use Rattle.prio_pool.specs.Begun.{HasBegun};
@@ -63,6 +64,7 @@ pub fn end_pool<'c, 't, 'i: 't, N: RunName + 'static, R: Wait>(
     requires helped { AreAllEnds pool.id pool.helpers helped.items }
     ensures follows { Follows world.old world.new }
     ensures accepted { result.accepted ≡ adds_total (seen_of ending.entry).passes }
+    ensures ran { is_stop ending.entry ≡ false → AllRun (seen_of ending.entry).passes result.ran.records }
     ensures all { is_stop ending.entry ≡ true →
         HaveAllRun (task_head N.asked) TaskRan (seen_of ending.entry).passes result.ran.records result.returned world.old world.new }
     ensures account { world.new.refused ≡ false → AllDone (ends.entry.items ++ helped.entry.items) → result.missed ≡ false →
@@ -131,6 +133,7 @@ fn join_all<'c, 't, 'i: 't, N: RunName + 'static, R: Wait>(
     requires helped { AreAllEnds pool.id pool.helpers helped.items }
     ensures led { SomeLed TaskRan world.old world.new }
     ensures accepted { result.accepted ≡ adds_total joining.entry.passes }
+    ensures all { AllRun joining.entry.passes result.ran.records }
     ensures account { world.new.refused ≡ false → AllDone (ends.entry.items ++ helped.entry.items) → AccountsFor joining.entry.passes result }
     ensures joined { (result.ran.stopped ≡ false) × (result.returned ≡ []) × (result.missed ≡ false) }
 {

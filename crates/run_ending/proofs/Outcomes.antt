@@ -15,7 +15,7 @@ use Rattle.run_ending.specs.declared.end.FanOutcome.{FanOutcome}
 use Rattle.run_ending.specs.declared.end.FanOutcome.TheVariants as outcome
 use Rattle.run_ending.specs.Outcomes.{outcome_by}
 use Rattle.run_notes.specs.declared.notes.PoolNote.{PoolNote}
-use Rattle.run_ending.specs.Ends.{IsEndOf, IsReported, IsStopTold, ReportsAs, TellsNoRun, WritesText}
+use Rattle.run_ending.specs.Ends.{IsEndOf, IsReported, IsPoolTold, ReportsAs, TellsNoRun, WritesText}
 
 -- all of a text is a front of it
 gains_front : (start now : Shown) (text : Bytes) → Gains start now text → GainsFront start now text
@@ -37,12 +37,12 @@ reports asked end true print.WriteFault told = told refl (inr refl)
 
 -- what was written is as printing says; and where all is fine, the report is whole
 pub ended : (start now : Shown) (asked : Asking) (end : FanEnd) (note : PoolNote) (fine : Bool) (o : PrintOutcome) → end.outcome ≡ outcome_by fine o → Wrote asked.lines start now o
-    → (fine ≡ true → IsDone o → IsReported asked end) → (end.pool ≡ None → TellsNoRun end) → end.pool ≡ Some note → IsStopTold asked note → IsEndOf asked start now end
+    → (fine ≡ true → IsDone o → IsReported asked end) → (end.pool ≡ None → TellsNoRun end) → end.pool ≡ Some note → IsPoolTold asked note → IsEndOf asked start now end
 ended start now asked end note fine o is wrote told unmade has stopped = record {
   writes = subst (λ (x : FanOutcome). WritesText (text_of asked.lines) start now x) (sym is) (writes start now asked fine o wrote);
   reports = subst (λ (x : FanOutcome). ReportsAs asked end x) (sym is) (reports asked end fine o told);
   unmade = unmade;
-  stopped = subst (λ (p : Option PoolNote). IfSome p (IsStopTold asked)) (sym has) stopped;
+  stopped = subst (λ (p : Option PoolNote). IfSome p (IsPoolTold asked)) (sym has) stopped;
 }
 
 -- nothing was written, and there was no pool
@@ -51,7 +51,7 @@ refused_end asked start end is none_made nothing = record {
   writes = subst (λ (x : FanOutcome). WritesText (text_of asked.lines) start start x) (sym is) (none start (text_of asked.lines));
   reports = subst (λ (x : FanOutcome). ReportsAs asked end x) (sym is) tt;
   unmade = λ none. nothing;
-  stopped = subst (λ (p : Option PoolNote). IfSome p (IsStopTold asked)) (sym none_made) tt;
+  stopped = subst (λ (p : Option PoolNote). IfSome p (IsPoolTold asked)) (sym none_made) tt;
 }
   where
     keeps : (known : Option Bytes) → Appends known known []

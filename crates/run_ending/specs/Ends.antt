@@ -1,5 +1,5 @@
 -- How a run ends, and what it tells.
-use Rattle.std.specs.Prelude.{◌≡◌, ◌+◌, ◌≤◌, List, [], ◌++◌, length, map, true, Some, None, IfSome}
+use Rattle.std.specs.Prelude.{◌≡◌, ◌+◌, ◌≤◌, List, [], ◌++◌, length, map, false, true, Some, None, IfSome}
 use Rattle.fan_base.specs.Outside.{FaultsRose, Shown}
 use Rattle.query_model.specs.Pieces.{Bytes}
 use Rattle.reply_printer.specs.Passing.{Gains, GainsFront}
@@ -62,14 +62,27 @@ pub record IsStopAccount (asked : Asking) (note : PoolNote) : Type 0 where
   pub all : IsSameInAnyOrder (ran ++ back ++ others) (tasks_of passes)
   pub few : length note.ran.records + length note.returned ≤ note.accepted
 
--- The pool was stopped exactly where the run is to be stopped; whether memory was refused or not.
-pub record IsStopTold (asked : Asking) (note : PoolNote) : Type 0 where
+-- What is told of the tasks of a pool that was joined: it accepted the first of the early ones, as many as are told; each of these has one record of a run, there are no other records,
+-- and nothing was handed back.
+pub record IsJoinAccount (asked : Asking) (note : PoolNote) : Type 0 where
+  pub passes : List PassSeen
+  pub accepted : note.accepted ≡ adds_total passes
+  pub left : List Run
+  pub first : runs_added passes ++ left ≡ early_runs asked.lines asked.shards asked.stop_at
+  pub ran : List Task
+  pub records : AreRunsOf ran note.ran.records
+  pub all : IsSameInAnyOrder ran (tasks_of passes)
+  pub none : note.returned ≡ []
+
+-- The pool was stopped exactly where the run is to be stopped, and either account; whether memory was refused or not.
+pub record IsPoolTold (asked : Asking) (note : PoolNote) : Type 0 where
   pub stops : note.ran.stopped ≡ is_stopped asked.stop_at (answered_in asked.lines)
   pub account : note.ran.stopped ≡ true → IsStopAccount asked note
+  pub joined : note.ran.stopped ≡ false → IsJoinAccount asked note
 
 -- how a run ends whose sink showed `start` before and `now` afterwards
 pub record IsEndOf (asked : Asking) (start now : Shown) (end : FanEnd) : Type 0 where
   pub writes : WritesText (text_of asked.lines) start now end.outcome
   pub reports : Reports asked end
   pub unmade : end.pool ≡ None → TellsNoRun end
-  pub stopped : IfSome end.pool (IsStopTold asked)
+  pub stopped : IfSome end.pool (IsPoolTold asked)

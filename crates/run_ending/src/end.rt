@@ -2,7 +2,7 @@ ghost use Rattle.std.specs.Prelude.{◌≡◌, Some, true};
 ghost use Rattle.fan_base.specs.Outside.{Shown};
 ghost use Rattle.fan_model.specs.Report.{Asking};
 ghost use Rattle.run_printing.specs.Ends.{IsDone, Wrote};
-ghost use Rattle.run_ending.specs.Ends.{IsEndOf, IsReported, IsStopTold};
+ghost use Rattle.run_ending.specs.Ends.{IsEndOf, IsReported, IsPoolTold};
 ghost use Rattle.run_ending.specs.Outcomes.{outcome_by};
 
 use core_word::Tally;
@@ -55,7 +55,7 @@ impl FanEnd {
         ensures pool { result.pool ≡ Some note }
         ensures queues { result.queues ≡ queues }
         ensures cores { result.tally ≡ tally }
-        ensures ends { (asked : Asking) (start now : Shown) → Wrote asked.lines start now outcome → IsStopTold asked note →
+        ensures ends { (asked : Asking) (start now : Shown) → Wrote asked.lines start now outcome → IsPoolTold asked note →
             (fine ≡ true → IsDone outcome → IsReported asked result) → IsEndOf asked start now result }
     {
         FanEnd {

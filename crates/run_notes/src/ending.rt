@@ -1,6 +1,7 @@
 ghost use Rattle.std.specs.Prelude.{◌≡◌, ◌⊎◌, ◌+◌, ◌<◌, ◌≤◌, ◌↔◌, ◌++◌, ◌∷◌, [], false, true, length, map, IsTrue};
 ghost use Rattle.job_trait.specs.Marks.{IsDone};
 ghost use Rattle.job_trait.specs.Runs.{IsKnownBackwards};
+ghost use Rattle.pool_model.specs.Accounts.{AllRun};
 ghost use Rattle.pool_model.specs.Passes.{AreAllPasses, AreAllEnds, adds_total};
 ghost use Rattle.pool_model.specs.Seen.{task_of};
 ghost use Rattle.run_notes.specs.Accounts.{AccountsFor, AllDone, AllRanBack, AreRunsOfSome, HaveAllRun, RanBack, SomeLed};
@@ -43,6 +44,7 @@ pub fn end_joined<J: Job<W>, W, F: WorldFact<W>, R: Wait>(
     requires helped { AreAllEnds pool.id pool.helpers helped.items }
     requires known { IsKnownBackwards J.runs F.holds (λ _ mark. IsDone mark) }
     ensures accepted { result.accepted ≡ adds_total joining.passes }
+    ensures all { AllRun joining.passes result.ran.records }
     ensures led { SomeLed J.runs world.old world.new }
     ensures fact { F.holds world.new → F.holds world.old }
     ensures account { F.holds world.new → AllDone (ends.items ++ helped.items) → AccountsFor joining.passes result }

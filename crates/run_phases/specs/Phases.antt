@@ -4,7 +4,7 @@ use Rattle.fan_model.specs.Report.{Asking}
 use Rattle.fan_parts.specs.declared.jobs.PrintJob.{PrintJob}
 use Rattle.fan_parts.specs.Seen.{PosterSeen}
 use Rattle.notify_queue.specs.Ends.{Sending}
-use Rattle.pool_model.specs.Accounts.{AllRunOrReturned}
+use Rattle.pool_model.specs.Accounts.{AllRun, AllRunOrReturned}
 use Rattle.pool_model.specs.Passes.{adds_of, adds_total}
 use Rattle.pool_model.specs.Seen.{PassSeen, PoolId, Returned, task_of}
 use Rattle.query_tasks.specs.Ends.{seen_of}
@@ -54,3 +54,9 @@ module _ {N : Type 0} where
     pub back : List (Returned TaskSeen)
     pub all : AllRunOrReturned (task_head asked) (seen_of mid.ending).passes left.note.ran.records back
     pub kept : AreRunsOfSome (map (task_of (task_head asked)) back) left.note.returned
+
+  -- What is told of a pool that was joined, whether memory was refused or not: as many tasks as accepted as were added; each of these has one record, and nothing was handed back.
+  pub record IsJoinAccount (mid : FrontMid N) (left : FrontLeft N) : Type 0 where
+    pub accepted : left.note.accepted ≡ adds_total (seen_of mid.ending).passes
+    pub all : AllRun (seen_of mid.ending).passes left.note.ran.records
+    pub none : left.note.returned ≡ []

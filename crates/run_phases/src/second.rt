@@ -14,7 +14,7 @@ ghost use Rattle.run_notes.specs.Accounts.{AllDone, runs_added};
 ghost use Rattle.run_notes.specs.Told.{run_of_direct, told_of as told_by};
 ghost use Rattle.run_plan.specs.Turns.{AreTurnsOf};
 ghost use Rattle.run_tasks.specs.Worlds.{AreEndsFor, Follows, StaysPass, told_of};
-ghost use Rattle.run_phases.specs.Phases.{IsDoneBy, IsLeftAsItWas, IsStopAccount, StopsAt};
+ghost use Rattle.run_phases.specs.Phases.{IsDoneBy, IsJoinAccount, IsLeftAsItWas, IsStopAccount, StopsAt};
 
 use crate::first::FrontMid;
 use fan_base::Memory;
@@ -61,6 +61,7 @@ pub fn second_phase<'c, 't, 'i: 't, N: RunName + 'static, R: Wait>(
     ensures report { result.refused ≡ false → result.ends.tasks.refused ≡ false → AllDone (ends.entry.items ++ mid.entry.helper ∷ []) → IsPoolReport N.asked (told_by result.note) }
     ensures stopped { result.note.ran.stopped ≡ is_stopped N.asked.stop_at (answered_in N.asked.lines) }
     ensures account { result.note.ran.stopped ≡ true → IsStopAccount N.asked mid.entry result }
+    ensures ran { result.note.ran.stopped ≡ false → IsJoinAccount mid.entry result }
     ensures late { result.ends.tasks.refused ≡ false →
         AreSomeOf [] (late_runs N.asked.lines N.asked.shards N.asked.bases N.asked.stop_at) (map run_of_direct result.note.direct) }
     ensures refused { result.ends.tasks.refused ≡ false → mid.entry.front.world.refused ≡ false }

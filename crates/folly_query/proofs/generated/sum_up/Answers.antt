@@ -1,7 +1,7 @@
 use Rattle.std.proofs.Common.{◌≡◌, List, Some, ap, ◌∙◌, subst}
 use Rattle.fan_base.specs.Outside.{shown}
 use Rattle.std.specs.Option.{IfSome}
-use Rattle.run_ending.specs.Ends.{IsStopTold, ReportsAs}
+use Rattle.run_ending.specs.Ends.{IsPoolTold, ReportsAs}
 use Rattle.fanout.specs.Asked.{Writes}
 use Rattle.query_model.specs.declared.line.Input.{Input}
 use Rattle.query_model.specs.declared.line.Line.{Line}
@@ -27,5 +27,5 @@ returns-in-Done g c =
           (c.bytes.ensures ∙ held before.bytes.items after.bytes.items (output input) before.faults after.faults c.new-replies.ensures.bytes writes)
           reports c.write_summary.ensures;
       unmade = λ none. record { pool = none; queues = (c.answer-outcome.ensures.unmade none).queues; cores = (c.answer-outcome.ensures.unmade none).cores };
-      stopped = subst (λ ls. IfSome c.answer-outcome.result.pool (IsStopTold (asked_by c.args.settings ls))) c.in-Ok.ensures c.answer-outcome.ensures.stopped;
+      stopped = subst (λ ls. IfSome c.answer-outcome.result.pool (IsPoolTold (asked_by c.args.settings ls))) c.in-Ok.ensures c.answer-outcome.ensures.stopped;
     }

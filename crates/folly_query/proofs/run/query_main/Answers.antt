@@ -2,7 +2,7 @@ use Rattle.std.proofs.Common.{subst}
 use Rattle.std.specs.Option.{IfSome}
 use Rattle.fan_base.specs.Outside.{shown}
 use Rattle.query_words.specs.declared.command.Command.TheVariants as command
-use Rattle.run_ending.specs.Ends.{IsStopTold}
+use Rattle.run_ending.specs.Ends.{IsPoolTold}
 use Rattle.folly_query.specs.Endings.{Comes, EndsAs, SumsUpAs, TellsPool, asked_of}
 use Rattle.folly_query.proofs.CommandLemmas.{same_generation, same_settings, same_settings_of_it}
 use Rattle.folly_query.proofs.run.query_main.Goals as goal
@@ -43,10 +43,10 @@ returns-in-Some-Generate-clause-sums_up g c = λ generation settings is.
 
 pub returns-in-Some-Generate-clause-made_up_pool : goal.returns-in-Some-Generate-clause-made_up_pool
 returns-in-Some-Generate-clause-made_up_pool g c = λ generation settings is.
-    subst (λ n. IfSome c.sum_up.result.pool (IsStopTold (asked_of n settings)))
+    subst (λ n. IfSome c.sum_up.result.pool (IsPoolTold (asked_of n settings)))
     (same_generation c.words_are_at_most_one_command.ensures c.args.words.now c.in-Some-Generate.field-0 c.in-Some-Generate.generation generation c.in-Some-Generate.settings settings
     c.in-Some-Generate.ensures.some c.in-Some-Generate.field-0-is is)
-    (subst (λ s. IfSome c.sum_up.result.pool (IsStopTold (asked_of c.in-Some-Generate.generation s)))
+    (subst (λ s. IfSome c.sum_up.result.pool (IsPoolTold (asked_of c.in-Some-Generate.generation s)))
     (same_settings_of_it c.words_are_at_most_one_command.ensures c.args.words.now c.in-Some-Generate.field-0 c.in-Some-Generate.generation generation c.in-Some-Generate.settings settings
     c.in-Some-Generate.ensures.some c.in-Some-Generate.field-0-is is)
     c.sum_up.ensures.stopped)

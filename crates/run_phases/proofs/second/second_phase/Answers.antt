@@ -37,6 +37,12 @@ returns-clause-account g c stopped =
     let on = sym ended.stopped ∙ stopped in
     stop_account g.N.RunName.asked _ _ ended.accepted (ended.few on) _ (ended.all on)
 
+pub returns-clause-ran : goal.returns-clause-ran
+returns-clause-ran g c joined =
+    let ended = c.end_pool-accepted.ensures in
+    let on = sym ended.stopped ∙ joined in
+    record { accepted = ended.accepted; all = ended.ran on; none = (ended.joined on).0 }
+
 pub returns-clause-late : goal.returns-clause-late
 returns-clause-late g c tasks = c.turns_behind-done.ensures.some (sym c.end-2.ensures.refused ∙ tasks)
 
