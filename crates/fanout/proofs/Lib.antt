@@ -1,5 +1,6 @@
-pub mod Sides
-pub mod Totals
-pub mod Starts
 pub mod Cells
+pub mod LineLemmas
 mod Running
+pub mod Sides
+pub mod Starts
+pub mod Totals

@@ -9,7 +9,6 @@ use std::test::Fail;
 use std::thread::Threads;
 
 mod gates;
-mod given;
 mod lines;
 mod reports;
 

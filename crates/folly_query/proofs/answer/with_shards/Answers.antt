@@ -1,6 +1,6 @@
 use Rattle.std.proofs.Common.{arith}
 use Rattle.query_model.specs.Documents.{docs_of}
-use Rattle.folly_query.proofs.LineLemmas.{docs_are_short}
+use Rattle.fanout.proofs.LineLemmas.{docs_are_short}
 use Rattle.folly_query.proofs.answer.with_shards.Goals as goal
 
 pub build_shards_beside-requires-clause-table : goal.build_shards_beside-requires-clause-table

@@ -1,7 +1,7 @@
 use Rattle.std.proofs.Common.{arith}
 use Rattle.query_model.specs.Documents.{docs_of}
-use Rattle.folly_query.proofs.LineLemmas.{docs_are_short}
-use Rattle.folly_query.proofs.tests.given.input_and_shards.Goals as goal
+use Rattle.fanout.proofs.LineLemmas.{docs_are_short}
+use Rattle.run_examples.proofs.answered.input_and_shards.Goals as goal
 
 pub build_shards_beside-requires-clause-table : goal.build_shards_beside-requires-clause-table
 build_shards_beside-requires-clause-table g c κs within =
