@@ -4,9 +4,9 @@ ghost use Rattle.shard_index.specs.Standing.{StandForAll, StandForSome};
 
 use crate::documents::{expression, shards_of, words_of};
 use crate::plain::PlainShard;
-use fan_base::{Doc, Docs, Numbers, Word, Words};
+use fan_base::{Doc, Docs, Numbers, Scores, Word, Words};
 use query_expr::Expr;
-use query_model::{Ask, Reply};
+use query_model::{Ask, Hits, Reply};
 use shard_index::{Counts, Shards};
 use std::alloc::Global;
 use std::test::Fail;
@@ -102,6 +102,28 @@ fn ascending_docs(alloc: Global) -> Result<Docs, Fail> {
     Ok(docs)
 }
 
+/// Whether the shards find this.
+fn finds(shards: &Shards, ask: &Ask, before: u32, wanted: &Hits) -> Result<bool, Fail>
+    requires { StandForSome shards.now }
+{
+    match shards.answer(ask, before)? {
+        Reply::Find(hits) => {
+            Ok(hits.total == wanted.total && hits.ids.as_slice() == wanted.ids.as_slice())
+        }
+        _ => Ok(false),
+    }
+}
+
+/// Whether this ranks first.
+fn ranks(shards: &Shards, ask: &Ask, before: u32, wanted: &Scores) -> Result<bool, Fail>
+    requires { StandForSome shards.now }
+{
+    match shards.answer(ask, before)? {
+        Reply::Top(scores) => Ok(scores.as_slice() == wanted.as_slice()),
+        _ => Ok(false),
+    }
+}
+
 /// The first n with the first n documents of which the shards don't find what the plain shard does.
 fn finds_differ(
     shards: &Shards,
@@ -115,13 +137,9 @@ fn finds_differ(
     let ask = Ask::Find(expression(plain.alloc, text)?);
     for before in 0..end {
         let wanted = plain.find(&e, before)?;
-        let same = match shards.answer(&ask, before)? {
-            Reply::Find(hits) => {
-                hits.total == wanted.total && hits.ids.as_slice() == wanted.ids.as_slice()
-            }
-            _ => false,
-        };
-        if !same || count_together(shards, plain, &e, before)? != wanted.total {
+        if !finds(shards, &ask, before, &wanted)?
+            || count_together(shards, plain, &e, before)? != wanted.total
+        {
             return Ok(Some(before));
         }
     }
@@ -142,11 +160,7 @@ fn tops_differ(
     let ask = Ask::Top(k, words_of(plain.alloc, text)?);
     for before in 0..end {
         let wanted = plain.top(&words, k, before)?;
-        let same = match shards.answer(&ask, before)? {
-            Reply::Top(scores) => scores.as_slice() == wanted.as_slice(),
-            _ => false,
-        };
-        if !same {
+        if !ranks(shards, &ask, before, &wanted)? {
             return Ok(Some(before));
         }
     }

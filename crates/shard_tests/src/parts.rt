@@ -8,11 +8,13 @@ use query_text::reply_line;
 use std::alloc::Global;
 use std::test::Fail;
 
-const FRUIT: &[(u32, &str)] = &[(7, "red apple"), (4, "red"), (9, "green")];
+type Documents = &'static [(u32, &'static str)];
 
-const LETTERS: &[(u32, &str)] = &[(1, "a b"), (2, "a b"), (3, "c")];
+const FRUIT: Documents = &[(7, "red apple"), (4, "red"), (9, "green")];
 
-const CATALOGUE: &[(u32, &str)] = &[
+const LETTERS: Documents = &[(1, "a b"), (2, "a b"), (3, "c")];
+
+const CATALOGUE: Documents = &[
     (101, "the quick brown fox"),
     (102, "the lazy dog"),
     (103, "quick dog training"),
@@ -48,68 +50,71 @@ fn answered(
     Ok((reply_line(alloc, 1, &reply)?, marks))
 }
 
+// Documents, what is asked of the first of them, the line of the reply, and the marks of the parts.
+const ROWS: &[(Documents, u32, &str, &str, &str, [u64; 4])] = &[
+    (FRUIT, 2, "find", "red", "1 find 2: 4 7\n", [1, 1, 0, 0]),
+    (FRUIT, 3, "find", "! red", "1 find 1: 9\n", [0, 0, 1, 0]),
+    (
+        FRUIT,
+        3,
+        "count",
+        "! red | red",
+        "1 count 3\n",
+        [1, 1, 1, 0],
+    ),
+    (FRUIT, 0, "count", "red", "1 count 0\n", [0, 0, 0, 0]),
+    (FRUIT, 1, "exists", "red", "1 exists yes\n", [1, 0, 0, 0]),
+    (FRUIT, 3, "exists", "blue", "1 exists no\n", [0, 0, 0, 0]),
+    (
+        LETTERS,
+        3,
+        "top 2",
+        "a b zzz",
+        "1 top 2: 1=2 2=2\n",
+        [1, 1, 0, 0],
+    ),
+    (LETTERS, 3, "top 5", "c", "1 top 1: 3=3\n", [0, 0, 1, 0]),
+    (LETTERS, 1, "top 5", "a a a", "1 top 1: 1=1\n", [1, 0, 0, 0]),
+    (
+        LETTERS,
+        3,
+        "top 5",
+        "c b c",
+        "1 top 3: 3=3 1=1 2=1\n",
+        [1, 1, 1, 0],
+    ),
+    (
+        LETTERS,
+        3,
+        "top 5",
+        "a b c a b c a b c a b c a b c a b c a b c a b c a b c a b c a b c a b c",
+        "1 top 3: 3=3 1=2 2=2\n",
+        [1, 1, 1, 0],
+    ),
+    (
+        CATALOGUE,
+        3,
+        "find",
+        "quick ! fox",
+        "1 find 1: 103\n",
+        [0, 0, 1, 0],
+    ),
+    (
+        CATALOGUE,
+        3,
+        "top 2",
+        "quick dog",
+        "1 top 2: 103=2 101=1\n",
+        [1, 1, 1, 0],
+    ),
+];
+
 #[test]
 fn replies_and_marks_of_worked_documents(rt: HostRuntime) -> Result<(), Fail> {
     let alloc = rt.alloc();
-    for (table, before, asked, text, line, marks) in [
-        (FRUIT, 2, "find", "red", "1 find 2: 4 7\n", [1, 1, 0, 0]),
-        (FRUIT, 3, "find", "! red", "1 find 1: 9\n", [0, 0, 1, 0]),
-        (
-            FRUIT,
-            3,
-            "count",
-            "! red | red",
-            "1 count 3\n",
-            [1, 1, 1, 0],
-        ),
-        (FRUIT, 0, "count", "red", "1 count 0\n", [0, 0, 0, 0]),
-        (FRUIT, 1, "exists", "red", "1 exists yes\n", [1, 0, 0, 0]),
-        (FRUIT, 3, "exists", "blue", "1 exists no\n", [0, 0, 0, 0]),
-        (
-            LETTERS,
-            3,
-            "top 2",
-            "a b zzz",
-            "1 top 2: 1=2 2=2\n",
-            [1, 1, 0, 0],
-        ),
-        (LETTERS, 3, "top 5", "c", "1 top 1: 3=3\n", [0, 0, 1, 0]),
-        (LETTERS, 1, "top 5", "a a a", "1 top 1: 1=1\n", [1, 0, 0, 0]),
-        (
-            LETTERS,
-            3,
-            "top 5",
-            "c b c",
-            "1 top 3: 3=3 1=1 2=1\n",
-            [1, 1, 1, 0],
-        ),
-        (
-            LETTERS,
-            3,
-            "top 5",
-            "a b c a b c a b c a b c a b c a b c a b c a b c a b c a b c a b c a b c",
-            "1 top 3: 3=3 1=2 2=2\n",
-            [1, 1, 1, 0],
-        ),
-        (
-            CATALOGUE,
-            3,
-            "find",
-            "quick ! fox",
-            "1 find 1: 103\n",
-            [0, 0, 1, 0],
-        ),
-        (
-            CATALOGUE,
-            3,
-            "top 2",
-            "quick dog",
-            "1 top 2: 103=2 101=1\n",
-            [1, 1, 1, 0],
-        ),
-    ] {
+    for (table, before, asked, text, line, marks) in ROWS {
         let ask = ask_of(alloc, asked, text)?;
-        let (reply, told) = answered(alloc, table, before, &ask)?;
+        let (reply, told) = answered(alloc, table, *before, &ask)?;
         assert_eq!(rt; reply.as_slice(), line.as_bytes(), "{asked} {text}");
         assert_eq!(rt; told.as_slice(), marks.as_slice(), "{asked} {text}");
     }

@@ -6,9 +6,11 @@ ghost use Rattle.shard_index.specs.Standing.{AreShort, Stands, StandsFor};
 
 use crate::documents::{are_short, expression, words_of};
 use crate::drawn::{ASKED, drawn_docs};
-use fan_base::{Doc, Docs, Memory};
+use fan_base::{Doc, Docs, Memory, Words};
+use query_expr::Expr;
+use query_model::Hits;
 use query_model::limits::MOST_DOCUMENTS;
-use shard_index::Shard;
+use shard_index::{Counts, Shard};
 use std::alloc::{AllocError, Global};
 use std::test::Fail;
 use word_table::{Dictionary, DocTable, numbers_stay};
@@ -50,6 +52,18 @@ fn both_shards(
     Ok((of_docs, of_table))
 }
 
+fn hits_of(shard: &Shard, e: &Expr, before: u32) -> Result<Hits, Memory>
+    requires { Stands shard.now }
+{
+    shard.find(e, before)
+}
+
+fn counts_of(shard: &Shard, words: &Words, before: u32) -> Result<Counts, Memory>
+    requires { Stands shard.now }
+{
+    shard.counts(words, before)
+}
+
 /// Whether both shards find the same before a line.
 fn find_alike(alloc: Global, own: &Shard, shared: &Shard, before: u32) -> Result<bool, Fail>
     requires own { Stands own.now }
@@ -57,8 +71,8 @@ fn find_alike(alloc: Global, own: &Shard, shared: &Shard, before: u32) -> Result
 {
     for asked in ASKED {
         let e = expression(alloc, asked)?;
-        let wanted = own.find(&e, before)?;
-        let hits = shared.find(&e, before)?;
+        let wanted = hits_of(own, &e, before)?;
+        let hits = hits_of(shared, &e, before)?;
         if hits.total != wanted.total || hits.ids.as_slice() != wanted.ids.as_slice() {
             return Ok(false);
         }
@@ -72,8 +86,8 @@ fn count_alike(alloc: Global, own: &Shard, shared: &Shard, before: u32) -> Resul
     requires shared { Stands shared.now }
 {
     let words = words_of(alloc, "a b c d e a")?;
-    let wanted = own.counts(&words, before)?;
-    let counts = shared.counts(&words, before)?;
+    let wanted = counts_of(own, &words, before)?;
+    let counts = counts_of(shared, &words, before)?;
     Ok(counts.any == wanted.any && counts.with.as_slice() == wanted.with.as_slice())
 }
 

@@ -1,8 +1,6 @@
 // What runs at the same time: a gate at which tasks wait for each other, and one at which a task waits for a reply.
-use super::{RED, args};
-use crate::report::Status;
-use crate::run::query_main;
-use fan_base::{HoldGate, JobId, LineGate, LineSink, MemSink, MemSource};
+use super::{RED, check_end, fast_sink, fast_source, number_of};
+use fan_base::{Gate, HoldGate, JobId, LineGate, LineSink, Sink};
 use std::alloc::AllocGlobal;
 use std::process::Abort;
 use std::sync::Wait;
@@ -15,21 +13,28 @@ const TURNS: u64 = 200_000_000;
 // Looks for a tenth of a second or so.
 const FEW_TURNS: u64 = 20_000_000;
 
+// Answers this input with any sink and gate, and gives the number of the status.
+fn answer_input<K: Sink + Send, G: Gate, R: AllocGlobal + Threads + Wait + Sync>(
+    rt: &R,
+    words: &str,
+    input: &[u8],
+    sink: &mut K,
+    gate: &G,
+) -> Result<u8, Fail> {
+    let mut source = fast_source(rt.alloc(), Vec::from_slice(rt.alloc(), input)?);
+    number_of(rt, words, &mut source, sink, gate)
+}
+
 // Whether the tasks of a query over two shards run at the same time.
 fn tasks_meet<R: AllocGlobal + Abort + Threads + Wait + Sync>(
     rt: &R,
     words: &str,
     turns: u64,
 ) -> Result<bool, Fail> {
-    let alloc = rt.alloc();
-    let words = args(alloc, words)?;
-    let input = Vec::from_slice(alloc, RED.as_bytes())?;
-    let mut source = MemSource::new(input, 100, Vec::new(alloc));
-    let mut sink = MemSink::new(alloc, 1000, 1000, Vec::new(alloc))?;
+    let mut sink = fast_sink(rt.alloc())?;
     let gate = HoldGate::new(JobId(64), JobId(65), turns);
-    let report = query_main(rt, alloc, &words, &mut source, &mut sink, &gate);
-    assert_eq!(rt; report.status, Status::Done);
-    assert_eq!(rt; sink.bytes(), b"1 find 2: 4 7\n".as_slice());
+    let number = answer_input(rt, words, RED.as_bytes(), &mut sink, &gate)?;
+    check_end(rt, words, (number, sink.bytes()), (0, b"1 find 2: 4 7\n"));
     Ok(gate.met())
 }
 
@@ -51,16 +56,13 @@ fn line_comes<R: AllocGlobal + Abort + Threads + Wait + Sync>(
     waits: JobId,
     turns: u64,
 ) -> Result<bool, Fail> {
-    let alloc = rt.alloc();
-    let words = args(alloc, "run")?;
-    let input = Vec::from_slice(alloc, b"doc 7 red apple\ndoc 4 red\nfind red\ncount red\n")?;
-    let mut source = MemSource::new(input, 100, Vec::new(alloc));
     let gate = LineGate::new(JobId(67), waits, turns);
-    let mut sink = LineSink::new(&gate, MemSink::new(alloc, 1000, 1000, Vec::new(alloc))?);
-    let report = query_main(rt, alloc, &words, &mut source, &mut sink, &gate);
-    assert_eq!(rt; report.status, Status::Done);
+    let mut sink = LineSink::new(&gate, fast_sink(rt.alloc())?);
+    let input = b"doc 7 red apple\ndoc 4 red\nfind red\ncount red\n";
+    let number = answer_input(rt, "run", input, &mut sink, &gate)?;
     let written = sink.into_inner();
-    assert_eq!(rt; written.bytes(), b"1 find 2: 4 7\n2 count 2\n".as_slice());
+    let expected = (0, b"1 find 2: 4 7\n2 count 2\n".as_slice());
+    check_end(rt, "run", (number, written.bytes()), expected);
     Ok(gate.met())
 }
 

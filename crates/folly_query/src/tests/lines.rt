@@ -1,13 +1,12 @@
 // Lines that are refused where they stand alone as the input.
-use super::status_of;
-use fan_base::{MemSink, MemSource};
+use super::{check_input, slow_sink};
 use std::alloc::{AllocGlobal, Global};
 use std::process::Abort;
 use std::sync::Wait;
 use std::test::Fail;
 use std::thread::Threads;
 
-const REFUSED: [(&[u8], &str); 37] = [
+const REFUSED: &[(&[u8], &str)] = &[
     (b"find a\x80", "bad byte"),
     (b"find a\x00", "bad byte"),
     (b"findx a", "unknown command"),
@@ -47,19 +46,26 @@ const REFUSED: [(&[u8], &str); 37] = [
     (b"exists", "bad expression"),
 ];
 
+// Heads of lines with so many words behind them.
+const TOO_LONG: &[(&[u8], usize, &str)] = &[
+    (b"doc 1", 1_001, "too many words"),
+    (b"top 1", 1_001, "too many words"),
+    (b"find", 1_025, "expression too long"),
+];
+
+// What is written of a first line that is refused with this text.
+fn error_line(alloc: Global, text: &str) -> Result<String, Fail> {
+    Ok(format!(in alloc; "error line 1: {text}\n")?)
+}
+
 fn check_refused<R: AllocGlobal + Abort + Threads + Wait + Sync>(
     rt: &R,
     line: Vec<u8>,
     text: &str,
 ) -> Result<(), Fail> {
-    let alloc = rt.alloc();
-    let wanted = format!(in alloc; "error line 1: {text}\n")?;
-    let mut source = MemSource::new(line, 70_000, Vec::new(alloc));
-    let mut sink = MemSink::new(alloc, 1000, 10, Vec::new(alloc))?;
-    let status = status_of(rt, "run", &mut source, &mut sink)?;
-    assert_eq!(rt; status.number(), 3, "{text}");
-    assert_eq!(rt; sink.bytes(), wanted.as_bytes(), "{text}");
-    Ok(())
+    let wanted = error_line(rt.alloc(), text)?;
+    let sink = slow_sink(rt.alloc())?;
+    check_input(rt, "run", line, sink, (3, wanted.as_bytes()))
 }
 
 // A head, and so many times ` a` behind it.
@@ -76,12 +82,8 @@ fn lines_are_refused_alone(rt: HostRuntime) -> Result<(), Fail> {
     for (line, text) in REFUSED {
         check_refused(&rt, line.to_vec(rt.alloc())?, text)?;
     }
-    for (head, times, text) in [
-        (b"doc 1".as_slice(), 1_001, "too many words"),
-        (b"top 1", 1_001, "too many words"),
-        (b"find", 1_025, "expression too long"),
-    ] {
-        check_refused(&rt, line_of(rt.alloc(), head, times)?, text)?;
+    for (head, times, text) in TOO_LONG {
+        check_refused(&rt, line_of(rt.alloc(), head, *times)?, text)?;
     }
     Ok(())
 }

@@ -1,10 +1,12 @@
 // What runs report.
-use super::{MANY_RED, RED, args};
+use super::{
+    MANY_RED, RED, check_end, fast_sink, fast_source, report_of, same, slow_sink, slow_source,
+};
 use crate::report::{Report, Status};
-use crate::run::query_main;
+use core_word::Tally;
 use fan_base::{ExecId, JobId, Mark, MemSink, MemSource, OpenGate};
-use prio_pool::{DirectRecord, RunRecord};
-use run_notes::PoolNote;
+use prio_pool::{DirectRecord, RunRecord, Runs};
+use run_notes::{DirectRecords, Notes, PoolNote, RunRecords};
 use std::alloc::{AllocGlobal, Global};
 use std::process::Abort;
 use std::sync::Wait;
@@ -14,17 +16,11 @@ use std::thread::Threads;
 /// The tasks of a query: the first one's job, the queue of all, and their marks by shard.
 type Tasks = (u64, u32, &'static [u64]);
 
-/// What is told of a task.
-#[derive(Clone, Copy, Debug, PartialEq, Eq)]
-struct Task {
-    job: JobId,
-    queue: u32,
-    exec: ExecId,
-    mark: Mark,
-}
+/// What is told of a task: its job, its queue, the executor that ran it, and its mark.
+type Task = (JobId, u32, ExecId, Mark);
 
 /// A run that ends well, and what it must report.
-#[derive(Clone, Copy, Debug)]
+#[derive(Clone, Copy)]
 struct ReportRow {
     words: &'static str,
     input: &'static str,
@@ -37,7 +33,7 @@ struct ReportRow {
     /// How many messages each queue had, by executor from 1 on.
     puts: &'static [u64],
     /// How many cores were made, handed over, forwarded, freed and used again.
-    cores: [u64; 5],
+    cores: &'static [u64],
 }
 
 const CANCELLED: &str = "cancel 1\nafter 5 find a\ncancel 1\ncancel 1\ncount a\n";
@@ -79,213 +75,215 @@ const MANY_TASKS: &[Tasks] = &[
 
 const RED_TASKS: &[Tasks] = &[(64, 1, &[1, 1, 0, 0])];
 
-/// Over the default settings.
-fn usual_row(
-    input: &'static str,
-    output: &'static str,
-    early: &'static [Tasks],
-    puts: &'static [u64],
-    cores: [u64; 5],
-) -> ReportRow {
-    ReportRow {
-        words: "run",
-        input,
-        output,
-        early,
-        late: &[],
-        is_stopped: false,
-        puts,
-        cores,
-    }
-}
-
-/// A run that is stopped before its first task.
-fn stopped_row(
-    words: &'static str,
-    input: &'static str,
-    output: &'static str,
-    late: &'static [Tasks],
-    puts: &'static [u64],
-    cores: [u64; 5],
-) -> ReportRow {
-    ReportRow {
-        words,
-        late,
-        is_stopped: true,
-        ..usual_row(input, output, &[], puts, cores)
-    }
-}
-
-fn everyday() -> ReportRow {
-    usual_row(
-        "# catalogue\ndoc 101 the quick brown fox\ndoc 102 the lazy dog\ndoc 103 quick dog training\nhi find quick !fox\ncount the dog\nafter 3 top 2 quick dog\nexists cat\ntick 5\nfind the\n",
-        "1 find 1: 103\n2 count 1\n4 exists no\n3 top 2: 103=2 101=1\n5 find 2: 101 102\n",
-        EVERYDAY_TASKS,
-        &[12, 8, 5],
-        [26, 25, 1, 26, 20],
-    )
-}
+const EVERYDAY: ReportRow = ReportRow {
+    words: "run",
+    input: "# catalogue\ndoc 101 the quick brown fox\ndoc 102 the lazy dog\ndoc 103 quick dog training\nhi find quick !fox\ncount the dog\nafter 3 top 2 quick dog\nexists cat\ntick 5\nfind the\n",
+    output: "1 find 1: 103\n2 count 1\n4 exists no\n3 top 2: 103=2 101=1\n5 find 2: 101 102\n",
+    early: EVERYDAY_TASKS,
+    late: &[],
+    is_stopped: false,
+    puts: &[12, 8, 5],
+    cores: &[26, 25, 1, 26, 20],
+};
 
 /// 1,088 tasks.
-fn many_red() -> ReportRow {
-    ReportRow {
-        words: "run --shards 64",
-        ..usual_row(
-            MANY_RED,
-            "1 find 2: 4 7\n2 find 2: 4 7\n3 find 2: 4 7\n4 find 2: 4 7\n5 find 2: 4 7\n6 find 2: 4 7\n7 find 2: 4 7\n8 find 2: 4 7\n9 find 2: 4 7\n10 find 2: 4 7\n11 find 2: 4 7\n12 find 2: 4 7\n13 find 2: 4 7\n14 find 2: 4 7\n15 find 2: 4 7\n16 find 2: 4 7\n17 find 2: 4 7\n",
-            MANY_TASKS,
-            &[576, 512, 17],
-            [1105, 1105, 0, 1105, 1088],
-        )
-    }
-}
+const MANY_RED_RUN: ReportRow = ReportRow {
+    words: "run --shards 64",
+    input: MANY_RED,
+    output: "1 find 2: 4 7\n2 find 2: 4 7\n3 find 2: 4 7\n4 find 2: 4 7\n5 find 2: 4 7\n6 find 2: 4 7\n7 find 2: 4 7\n8 find 2: 4 7\n9 find 2: 4 7\n10 find 2: 4 7\n11 find 2: 4 7\n12 find 2: 4 7\n13 find 2: 4 7\n14 find 2: 4 7\n15 find 2: 4 7\n16 find 2: 4 7\n17 find 2: 4 7\n",
+    early: MANY_TASKS,
+    late: &[],
+    is_stopped: false,
+    puts: &[576, 512, 17],
+    cores: &[1105, 1105, 0, 1105, 1088],
+};
 
-fn red() -> ReportRow {
-    usual_row(
-        RED,
-        "1 find 2: 4 7\n",
-        RED_TASKS,
-        &[4, 0, 1],
-        [5, 5, 0, 5, 4],
-    )
-}
+const RED_RUN: ReportRow = ReportRow {
+    words: "run",
+    input: RED,
+    output: "1 find 2: 4 7\n",
+    early: RED_TASKS,
+    late: &[],
+    is_stopped: false,
+    puts: &[4, 0, 1],
+    cores: &[5, 5, 0, 5, 4],
+};
 
 /// An input that is made up, of nothing.
-fn made_up() -> ReportRow {
-    ReportRow {
-        words: "gen 5 0 0",
-        ..usual_row(
-            "",
-            "documents 0 queries 0 lines 0 bytes 0 sum 0\n",
-            &[],
-            &[0, 0, 0],
-            [0; 5],
-        )
-    }
-}
+const MADE_UP: ReportRow = ReportRow {
+    words: "gen 5 0 0",
+    input: "",
+    output: "documents 0 queries 0 lines 0 bytes 0 sum 0\n",
+    early: &[],
+    late: &[],
+    is_stopped: false,
+    puts: &[0, 0, 0],
+    cores: &[0, 0, 0, 0, 0],
+};
 
-fn joined_runs() -> [ReportRow; 7] {
-    [
-        usual_row("", "", &[], &[0, 0, 0], [0; 5]),
-        made_up(),
-        red(),
-        usual_row("after 5 find a\n", "1 cancelled\n", &[], &[0, 0, 1], [0; 5]),
-        usual_row(
-            "doc 1 a b\ndoc 2 a b\ndoc 3 c\ntop 2 a b zzz\ntop 5 c\n",
-            "1 top 2: 1=2 2=2\n2 top 1: 3=3\n",
-            &[(64, 1, &[1, 1, 0, 0]), (128, 1, &[0, 0, 1, 0])],
-            &[4, 4, 2],
-            [12, 10, 2, 12, 8],
-        ),
-        usual_row(
-            "doc 5 a\nhi exists a\nlo exists b\n",
-            "1 exists yes\n2 exists no\n",
-            &[(64, 2, &[1, 0, 0, 0]), (128, 0, &[0, 0, 0, 0])],
-            &[4, 4, 2],
-            [10, 10, 0, 10, 8],
-        ),
-        everyday(),
-    ]
-}
+const JOINED_RUNS: &[ReportRow] = &[
+    ReportRow {
+        words: "run",
+        input: "",
+        output: "",
+        early: &[],
+        late: &[],
+        is_stopped: false,
+        puts: &[0, 0, 0],
+        cores: &[0, 0, 0, 0, 0],
+    },
+    MADE_UP,
+    RED_RUN,
+    ReportRow {
+        words: "run",
+        input: "after 5 find a\n",
+        output: "1 cancelled\n",
+        early: &[],
+        late: &[],
+        is_stopped: false,
+        puts: &[0, 0, 1],
+        cores: &[0, 0, 0, 0, 0],
+    },
+    ReportRow {
+        words: "run",
+        input: "doc 1 a b\ndoc 2 a b\ndoc 3 c\ntop 2 a b zzz\ntop 5 c\n",
+        output: "1 top 2: 1=2 2=2\n2 top 1: 3=3\n",
+        early: &[(64, 1, &[1, 1, 0, 0]), (128, 1, &[0, 0, 1, 0])],
+        late: &[],
+        is_stopped: false,
+        puts: &[4, 4, 2],
+        cores: &[12, 10, 2, 12, 8],
+    },
+    ReportRow {
+        words: "run",
+        input: "doc 5 a\nhi exists a\nlo exists b\n",
+        output: "1 exists yes\n2 exists no\n",
+        early: &[(64, 2, &[1, 0, 0, 0]), (128, 0, &[0, 0, 0, 0])],
+        late: &[],
+        is_stopped: false,
+        puts: &[4, 4, 2],
+        cores: &[10, 10, 0, 10, 8],
+    },
+    EVERYDAY,
+];
 
 /// Delays, a `top` alone, and cancels.
-fn delayed_runs() -> [ReportRow; 5] {
-    [
-        usual_row(
-            "doc 1 a\nafter 2 count a\ncount b\ntick 1\ntick 1\n",
-            "2 count 0\n1 count 1\n",
-            &[(128, 1, &[0, 0, 0, 0]), (64, 1, &[1, 0, 0, 0])],
-            &[4, 4, 2],
-            [10, 10, 0, 10, 8],
-        ),
-        usual_row(
-            "doc 1 a\nafter 256 count a\ntick 255\nafter 1 count a\ntick 1\n",
-            "1 count 1\n2 count 1\n",
-            &[(64, 1, &[1, 0, 0, 0]), (128, 1, &[1, 0, 0, 0])],
-            &[4, 4, 2],
-            [10, 10, 0, 10, 8],
-        ),
-        usual_row(
-            "doc 1 a a\ndoc 2 a\ntop 9 a a\n",
-            "1 top 2: 1=2 2=1\n",
-            &[(64, 1, &[1, 1, 0, 0])],
-            &[4, 0, 1],
-            [6, 5, 1, 6, 4],
-        ),
-        usual_row(
-            "doc 1 a\nafter 2 count a\nafter 2 exists a\ncancel 1\ntick 2\ncancel 2\n",
-            "1 cancelled\n2 exists yes\n",
-            &[(128, 1, &[1, 0, 0, 0])],
-            &[0, 4, 2],
-            [5, 5, 0, 5, 4],
-        ),
-        usual_row(
-            CANCELLED,
-            "1 cancelled\n2 count 0\n",
-            &[(128, 1, &[0, 0, 0, 0])],
-            &[0, 4, 2],
-            [5, 5, 0, 5, 4],
-        ),
-    ]
-}
+const DELAYED_RUNS: &[ReportRow] = &[
+    ReportRow {
+        words: "run",
+        input: "doc 1 a\nafter 2 count a\ncount b\ntick 1\ntick 1\n",
+        output: "2 count 0\n1 count 1\n",
+        early: &[(128, 1, &[0, 0, 0, 0]), (64, 1, &[1, 0, 0, 0])],
+        late: &[],
+        is_stopped: false,
+        puts: &[4, 4, 2],
+        cores: &[10, 10, 0, 10, 8],
+    },
+    ReportRow {
+        words: "run",
+        input: "doc 1 a\nafter 256 count a\ntick 255\nafter 1 count a\ntick 1\n",
+        output: "1 count 1\n2 count 1\n",
+        early: &[(64, 1, &[1, 0, 0, 0]), (128, 1, &[1, 0, 0, 0])],
+        late: &[],
+        is_stopped: false,
+        puts: &[4, 4, 2],
+        cores: &[10, 10, 0, 10, 8],
+    },
+    ReportRow {
+        words: "run",
+        input: "doc 1 a a\ndoc 2 a\ntop 9 a a\n",
+        output: "1 top 2: 1=2 2=1\n",
+        early: &[(64, 1, &[1, 1, 0, 0])],
+        late: &[],
+        is_stopped: false,
+        puts: &[4, 0, 1],
+        cores: &[6, 5, 1, 6, 4],
+    },
+    ReportRow {
+        words: "run",
+        input: "doc 1 a\nafter 2 count a\nafter 2 exists a\ncancel 1\ntick 2\ncancel 2\n",
+        output: "1 cancelled\n2 exists yes\n",
+        early: &[(128, 1, &[1, 0, 0, 0])],
+        late: &[],
+        is_stopped: false,
+        puts: &[0, 4, 2],
+        cores: &[5, 5, 0, 5, 4],
+    },
+    ReportRow {
+        words: "run",
+        input: CANCELLED,
+        output: "1 cancelled\n2 count 0\n",
+        early: &[(128, 1, &[0, 0, 0, 0])],
+        late: &[],
+        is_stopped: false,
+        puts: &[0, 4, 2],
+        cores: &[5, 5, 0, 5, 4],
+    },
+];
 
-fn stopped_runs() -> [ReportRow; 6] {
-    [
-        ReportRow {
-            words: "run --shards 8 --workers 1 --stop-at 1",
-            early: &[(64, 1, &[1, 1, 0, 0, 0, 0, 0, 0])],
-            is_stopped: true,
-            puts: &[8, 0, 1],
-            cores: [9, 9, 0, 9, 8],
-            ..red()
-        },
-        ReportRow {
-            words: "run --stop-at 1",
-            input: "doc 7 red apple\ndoc 4 red\nfind red\ncount red\n",
-            output: "1 find 2: 4 7\n2 count 2\n",
-            late: &[(128, 1, &[1, 1, 0, 0])],
-            is_stopped: true,
-            puts: &[4, 4, 2],
-            cores: [10, 10, 0, 10, 8],
-            ..red()
-        },
-        stopped_row(
-            "run --stop-at 0",
-            "doc 1 a b\ndoc 2 a b\ndoc 3 c\ntop 2 a b zzz\ntop 5 c\n",
-            "1 top 2: 1=2 2=2\n2 top 1: 3=3\n",
-            &[(64, 1, &[1, 1, 0, 0]), (128, 1, &[0, 0, 1, 0])],
-            &[4, 4, 2],
-            [12, 10, 2, 12, 8],
-        ),
-        stopped_row(
-            "run --stop-at 0",
-            "doc 1 a\nafter 2 count a\nafter 2 exists a\ncancel 1\ntick 2\ncancel 2\n",
-            "1 cancelled\n2 exists yes\n",
-            &[(128, 1, &[1, 0, 0, 0])],
-            &[0, 4, 2],
-            [5, 5, 0, 5, 4],
-        ),
-        stopped_row(
-            "run --stop-at 0",
-            CANCELLED,
-            "1 cancelled\n2 count 0\n",
-            &[(128, 1, &[0, 0, 0, 0])],
-            &[0, 4, 2],
-            [5, 5, 0, 5, 4],
-        ),
-        ReportRow {
-            words: "run --stop-at 1",
-            is_stopped: true,
-            ..usual_row(
-                CANCELLED,
-                "1 cancelled\n2 count 0\n",
-                &[(128, 1, &[0, 0, 0, 0])],
-                &[0, 4, 2],
-                [5, 5, 0, 5, 4],
-            )
-        },
-    ]
-}
+/// Runs that are stopped.
+const STOPPED_RUNS: &[ReportRow] = &[
+    ReportRow {
+        words: "run --shards 8 --workers 1 --stop-at 1",
+        input: RED,
+        output: "1 find 2: 4 7\n",
+        early: &[(64, 1, &[1, 1, 0, 0, 0, 0, 0, 0])],
+        late: &[],
+        is_stopped: true,
+        puts: &[8, 0, 1],
+        cores: &[9, 9, 0, 9, 8],
+    },
+    ReportRow {
+        words: "run --stop-at 1",
+        input: "doc 7 red apple\ndoc 4 red\nfind red\ncount red\n",
+        output: "1 find 2: 4 7\n2 count 2\n",
+        early: RED_TASKS,
+        late: &[(128, 1, &[1, 1, 0, 0])],
+        is_stopped: true,
+        puts: &[4, 4, 2],
+        cores: &[10, 10, 0, 10, 8],
+    },
+    ReportRow {
+        words: "run --stop-at 0",
+        input: "doc 1 a b\ndoc 2 a b\ndoc 3 c\ntop 2 a b zzz\ntop 5 c\n",
+        output: "1 top 2: 1=2 2=2\n2 top 1: 3=3\n",
+        early: &[],
+        late: &[(64, 1, &[1, 1, 0, 0]), (128, 1, &[0, 0, 1, 0])],
+        is_stopped: true,
+        puts: &[4, 4, 2],
+        cores: &[12, 10, 2, 12, 8],
+    },
+    ReportRow {
+        words: "run --stop-at 0",
+        input: "doc 1 a\nafter 2 count a\nafter 2 exists a\ncancel 1\ntick 2\ncancel 2\n",
+        output: "1 cancelled\n2 exists yes\n",
+        early: &[],
+        late: &[(128, 1, &[1, 0, 0, 0])],
+        is_stopped: true,
+        puts: &[0, 4, 2],
+        cores: &[5, 5, 0, 5, 4],
+    },
+    ReportRow {
+        words: "run --stop-at 0",
+        input: CANCELLED,
+        output: "1 cancelled\n2 count 0\n",
+        early: &[],
+        late: &[(128, 1, &[0, 0, 0, 0])],
+        is_stopped: true,
+        puts: &[0, 4, 2],
+        cores: &[5, 5, 0, 5, 4],
+    },
+    ReportRow {
+        words: "run --stop-at 1",
+        input: CANCELLED,
+        output: "1 cancelled\n2 count 0\n",
+        early: &[(128, 1, &[0, 0, 0, 0])],
+        late: &[],
+        is_stopped: true,
+        puts: &[0, 4, 2],
+        cores: &[5, 5, 0, 5, 4],
+    },
+];
 
 /// The everyday run, stopped behind so many answered queries, where it has as many.
 fn everyday_stopped(words: &'static str, stop: usize) -> ReportRow {
@@ -295,8 +293,14 @@ fn everyday_stopped(words: &'static str, stop: usize) -> ReportRow {
         early,
         late,
         is_stopped: stop <= EVERYDAY_TASKS.len(),
-        ..everyday()
+        ..EVERYDAY
     }
+}
+
+/// In the order of jobs.
+fn by_job(mut tasks: Vec<Task>) -> Result<Vec<Task>, Fail> {
+    tasks.sort_by_key(|task| task.0)?;
+    Ok(tasks)
 }
 
 /// The tasks, by job.
@@ -305,82 +309,120 @@ fn wanted(alloc: Global, all: &[Tasks], exec: ExecId) -> Result<Vec<Task>, Fail>
     for &(first, queue, marks) in all {
         let mut job = first;
         for &mark in marks {
-            wanted.push(Task {
-                job: JobId(job),
-                queue,
-                exec,
-                mark: Mark::Done(mark),
-            })?;
+            wanted.push((JobId(job), queue, exec, Mark::Done(mark)))?;
             job = job.wrapping_add(1);
         }
     }
-    wanted.sort_by_key(|task| task.job)?;
-    Ok(wanted)
+    by_job(wanted)
 }
 
 fn task_of(record: &RunRecord) -> Task {
-    Task {
-        job: record.job(),
-        queue: record.queue(),
-        exec: record.exec(),
-        mark: record.mark(),
-    }
+    (record.job(), record.queue(), record.exec(), record.mark())
 }
 
 fn task_of_direct(record: &DirectRecord) -> Task {
-    Task {
-        job: record.job(),
-        queue: record.queue(),
-        exec: record.exec(),
-        mark: record.mark(),
+    (record.job(), record.queue(), record.exec(), record.mark())
+}
+
+/// Puts what the pool ran behind these tasks.
+fn push_ran(tasks: &mut Vec<Task>, mut ran: Runs) -> Result<(), Fail> {
+    for _ in 0..ran.len() {
+        if let Some(record) = ran.pop() {
+            tasks.push(task_of(&record))?;
+        }
     }
+    Ok(())
+}
+
+/// Puts what the pool handed back behind these tasks.
+fn push_returned(tasks: &mut Vec<Task>, mut returned: RunRecords) -> Result<(), Fail> {
+    for _ in 0..returned.len() {
+        if let Some(record) = returned.pop() {
+            tasks.push(task_of(&record))?;
+        }
+    }
+    Ok(())
 }
 
 /// What the pool ran and what it handed back, by job.
-fn early_tasks(alloc: Global, pool: &mut PoolNote) -> Result<Vec<Task>, Fail> {
+fn early_tasks(alloc: Global, ran: Runs, returned: RunRecords) -> Result<Vec<Task>, Fail> {
     let mut early = Vec::new(alloc);
-    for _ in 0..pool.ran.len() {
-        if let Some(record) = pool.ran.pop() {
-            early.push(task_of(&record))?;
-        }
-    }
-    for _ in 0..pool.returned.len() {
-        if let Some(record) = pool.returned.pop() {
-            early.push(task_of(&record))?;
-        }
-    }
-    early.sort_by_key(|task| task.job)?;
-    Ok(early)
+    push_ran(&mut early, ran)?;
+    push_returned(&mut early, returned)?;
+    by_job(early)
 }
 
-fn late_tasks(alloc: Global, pool: &mut PoolNote) -> Result<Vec<Task>, Fail> {
+fn late_tasks(alloc: Global, mut direct: DirectRecords) -> Result<Vec<Task>, Fail> {
     let mut late = Vec::new(alloc);
-    for _ in 0..pool.direct.len() {
-        if let Some(record) = pool.direct.pop() {
+    for _ in 0..direct.len() {
+        if let Some(record) = direct.pop() {
             late.push(task_of_direct(&record))?;
         }
     }
-    late.sort_by_key(|task| task.job)?;
-    Ok(late)
+    by_job(late)
+}
+
+fn check_tasks<R: Abort>(rt: &R, of: &str, found: Vec<Task>, expected: Vec<Task>) {
+    assert_eq!(rt; found, expected, "{of:?}");
+}
+
+fn check_numbers<R: Abort>(rt: &R, of: &str, found: &[u64], expected: &[u64]) {
+    assert_eq!(rt; found, expected, "{of:?}");
 }
 
 fn check_pool<R: AllocGlobal + Abort>(
     rt: &R,
-    mut pool: PoolNote,
+    pool: PoolNote,
     want: &ReportRow,
 ) -> Result<(), Fail> {
-    let alloc = rt.alloc();
-    let early = wanted(alloc, want.early, ExecId(0))?;
-    assert_eq!(rt; pool.accepted, early.len() as u64);
-    assert_eq!(rt; pool.ran.stopped(), want.is_stopped);
+    let PoolNote {
+        accepted,
+        ran,
+        returned,
+        direct,
+    } = pool;
+    let early = wanted(rt.alloc(), want.early, ExecId(0))?;
+    same(
+        rt,
+        want.input,
+        (accepted, ran.stopped()),
+        (early.len() as u64, want.is_stopped),
+    );
     if !want.is_stopped {
-        assert_eq!(rt; pool.returned.len(), 0);
+        same(rt, want.input, returned.len(), 0);
     }
-    assert_eq!(rt; early_tasks(alloc, &mut pool)?, early);
+    check_tasks(
+        rt,
+        want.input,
+        early_tasks(rt.alloc(), ran, returned)?,
+        early,
+    );
     // With two gathering bases and the printer's, the front's base is the fourth.
-    let late = wanted(alloc, want.late, ExecId(4))?;
-    assert_eq!(rt; late_tasks(alloc, &mut pool)?, late);
+    let late = wanted(rt.alloc(), want.late, ExecId(4))?;
+    check_tasks(rt, want.input, late_tasks(rt.alloc(), direct)?, late);
     Ok(())
+}
+
+/// How many messages each queue had: all of them were taken.
+fn check_queues<R: Abort>(rt: &R, of: &str, queues: &Notes, puts: &[u64]) {
+    same(rt, of, queues.len(), puts.len());
+    let mut base = 0u32;
+    for (note, &put) in queues.iter().zip(puts) {
+        base = base.wrapping_add(1);
+        let found = (note.exec(), note.put(), note.taken(), note.left());
+        same(rt, of, found, (ExecId(base), put, put, 0));
+    }
+}
+
+fn check_cores<R: Abort>(rt: &R, of: &str, tally: &Tally, cores: &[u64]) {
+    let found = [
+        tally.made(),
+        tally.handed(),
+        tally.forwarded(),
+        tally.freed(),
+        tally.reopened(),
+    ];
+    check_numbers(rt, of, &found, cores);
 }
 
 fn check_report<R: AllocGlobal + Abort>(
@@ -394,139 +436,140 @@ fn check_report<R: AllocGlobal + Abort>(
         queues,
         tally,
     } = report;
-    assert!(rt; pool.is_some(), "{want:?}");
+    check_queues(rt, want.input, &queues, want.puts);
+    check_cores(rt, want.input, &tally, want.cores);
+    assert!(rt; pool.is_some(), "{:?}", want.input);
     if let Some(pool) = pool {
         check_pool(rt, pool, want)?;
     }
-    assert_eq!(rt; queues.len(), want.puts.len(), "{want:?}");
-    let mut base = 0u32;
-    for (note, &put) in queues.iter().zip(want.puts) {
-        base = base.wrapping_add(1);
-        assert_eq!(rt; note.exec(), ExecId(base), "{want:?}");
-        assert_eq!(rt;
-            [note.put(), note.taken(), note.left()],
-            [put, put, 0],
-            "{want:?}"
-        );
-    }
-    let cores = [
-        tally.made(),
-        tally.handed(),
-        tally.forwarded(),
-        tally.freed(),
-        tally.reopened(),
-    ];
-    assert_eq!(rt; cores, want.cores, "{want:?}");
     Ok(())
 }
 
-/// Runs each over a source and a sink that take few bytes at a time.
-fn check_reports<R: AllocGlobal + Abort + Threads + Wait + Sync>(
+/// Runs it over a source and a sink that take few bytes at a time.
+fn check_run<R: AllocGlobal + Abort + Threads + Wait + Sync>(
+    rt: &R,
+    want: &ReportRow,
+) -> Result<(), Fail> {
+    let mut source = slow_source(rt.alloc(), want.input)?;
+    let mut sink = slow_sink(rt.alloc())?;
+    let report = report_of(rt, want.words, &mut source, &mut sink, &OpenGate::new())?;
+    let found = (report.status.number(), sink.bytes());
+    check_end(rt, want.input, found, (0, want.output.as_bytes()));
+    check_report(rt, report, want)
+}
+
+fn check_runs<R: AllocGlobal + Abort + Threads + Wait + Sync>(
     rt: &R,
     runs: &[ReportRow],
 ) -> Result<(), Fail> {
-    let alloc = rt.alloc();
     for want in runs {
-        let words = args(alloc, want.words)?;
-        let input = Vec::from_slice(alloc, want.input.as_bytes())?;
-        let mut source = MemSource::new(input, 5, Vec::new(alloc));
-        let mut sink = MemSink::new(alloc, 1000, 10, Vec::new(alloc))?;
-        let report = query_main(rt, alloc, &words, &mut source, &mut sink, &OpenGate::new());
-        assert_eq!(rt; report.status, Status::Done, "{want:?}");
-        assert_eq!(rt; sink.bytes(), want.output.as_bytes(), "{want:?}");
-        check_report(rt, report, want)?;
+        check_run(rt, want)?;
     }
     Ok(())
 }
 
 #[test]
 fn joined_runs_report(rt: HostRuntime) -> Result<(), Fail> {
-    check_reports(&rt, &joined_runs())
+    check_runs(&rt, JOINED_RUNS)
 }
 
 #[test]
 fn delayed_runs_report(rt: HostRuntime) -> Result<(), Fail> {
-    check_reports(&rt, &delayed_runs())
+    check_runs(&rt, DELAYED_RUNS)
 }
 
 #[test]
 fn stopped_runs_report(rt: HostRuntime) -> Result<(), Fail> {
-    check_reports(&rt, &stopped_runs())
+    check_runs(&rt, STOPPED_RUNS)
 }
+
+const STOPS: &[&str] = &[
+    "run --stop-at 0",
+    "run --stop-at 1",
+    "run --stop-at 2",
+    "run --stop-at 3",
+    "run --stop-at 4",
+    "run --stop-at 5",
+    "run --stop-at 6",
+];
 
 #[test]
 fn a_run_is_stopped_behind_each_query(rt: HostRuntime) -> Result<(), Fail> {
-    let words = [
-        "run --stop-at 0",
-        "run --stop-at 1",
-        "run --stop-at 2",
-        "run --stop-at 3",
-        "run --stop-at 4",
-        "run --stop-at 5",
-        "run --stop-at 6",
-    ];
-    for (stop, words) in words.into_iter().enumerate() {
-        check_reports(&rt, &[everyday_stopped(words, stop)])?;
+    for (stop, words) in STOPS.iter().enumerate() {
+        check_run(&rt, &everyday_stopped(words, stop))?;
     }
     Ok(())
 }
 
 #[test]
 fn a_thousand_tasks_report(rt: HostRuntime) -> Result<(), Fail> {
-    check_reports(&rt, &[many_red()])
+    check_run(&rt, &MANY_RED_RUN)
+}
+
+// The report of a run over two documents and one query, whose second write fails.
+fn failed_write<R: AllocGlobal + Abort + Threads + Wait + Sync>(rt: &R) -> Result<Report, Fail> {
+    let alloc = rt.alloc();
+    let mut source = fast_source(alloc, Vec::from_slice(alloc, RED.as_bytes())?);
+    let mut sink = MemSink::new(alloc, 1000, 10, vec![in alloc; 1; 1]?)?;
+    let report = report_of(rt, "run", &mut source, &mut sink, &OpenGate::new())?;
+    let found = (report.status.number(), sink.bytes());
+    check_end(
+        rt,
+        "failed write",
+        found,
+        (Status::WriteFault.number(), b"1 find 2: "),
+    );
+    Ok(report)
 }
 
 #[test]
 fn a_failed_write_leaves_the_report_whole(rt: HostRuntime) -> Result<(), Fail> {
-    let alloc = rt.alloc();
-    let words = args(alloc, "run")?;
-    let input = Vec::from_slice(alloc, RED.as_bytes())?;
-    let mut source = MemSource::new(input, 100, Vec::new(alloc));
-    let mut sink = MemSink::new(alloc, 1000, 10, vec![in alloc; 1; 1]?)?;
-    let report = query_main(&rt, alloc, &words, &mut source, &mut sink, &OpenGate::new());
-    assert_eq!(rt; report.status, Status::WriteFault);
-    assert_eq!(rt; sink.bytes(), b"1 find 2: ".as_slice());
-    check_report(&rt, report, &red())
+    let report = failed_write(&rt)?;
+    check_report(&rt, report, &RED_RUN)
 }
 
-// The report of words and an input that are refused, or of a source whose second read fails.
+// Words and an input that are refused, or whose second read fails, with the number of the status.
+const REFUSALS: &[(&str, &str, &[u64], u8)] = &[
+    ("", RED, &[], 2),
+    ("run x", RED, &[], 2),
+    ("run --workers 0", RED, &[], 2),
+    ("run --workers 33", RED, &[], 2),
+    ("run --bases 1 --bases 1", RED, &[], 2),
+    ("run", "find (a | b\n", &[], 3),
+    ("run", RED, &[1], 4),
+];
+
+// The report of words and an input, from a source of which these calls fail.
 fn refused<R: AllocGlobal + Threads + Wait + Sync>(
     rt: &R,
     words: &str,
     input: &str,
-    fails: Vec<u64>,
+    fails: &[u64],
 ) -> Result<Report, Fail> {
-    let alloc = rt.alloc();
-    let words = args(alloc, words)?;
-    let input = Vec::from_slice(alloc, input.as_bytes())?;
+    let input = Vec::from_slice(rt.alloc(), input.as_bytes())?;
+    let fails = Vec::from_slice(rt.alloc(), fails)?;
     let mut source = MemSource::new(input, 5, fails);
-    let mut sink = MemSink::new(alloc, 1000, 1000, Vec::new(alloc))?;
-    Ok(query_main(rt, alloc, &words, &mut source, &mut sink, &OpenGate::new()))
+    let mut sink = fast_sink(rt.alloc())?;
+    report_of(rt, words, &mut source, &mut sink, &OpenGate::new())
+}
+
+// Nothing was run.
+fn check_nothing<R: Abort>(rt: &R, of: &str, report: Report, status: u8) {
+    same(rt, of, report.status.number(), status);
+    same(
+        rt,
+        of,
+        (report.pool.is_none(), report.queues.is_empty()),
+        (true, true),
+    );
+    same(rt, of, (report.tally.made(), report.tally.freed()), (0, 0));
 }
 
 #[test]
 fn refusals_report_nothing(rt: HostRuntime) -> Result<(), Fail> {
-    let alloc = rt.alloc();
-    let rows = [
-        (2, "", RED),
-        (2, "run x", RED),
-        (2, "run --workers 0", RED),
-        (2, "run --workers 33", RED),
-        (2, "run --bases 1 --bases 1", RED),
-        (3, "run", "find (a | b\n"),
-        (4, "run", RED),
-    ];
-    for (status, words, input) in rows {
-        let mut fails = Vec::new(alloc);
-        if status == 4 {
-            fails.push(1)?;
-        }
+    for (words, input, fails, status) in REFUSALS {
         let report = refused(&rt, words, input, fails)?;
-        assert_eq!(rt; report.status.number(), status, "{words}");
-        assert!(rt; report.pool.is_none(), "{words}");
-        assert!(rt; report.queues.is_empty(), "{words}");
-        assert_eq!(rt; report.tally.made(), 0, "{words}");
-        assert_eq!(rt; report.tally.freed(), 0, "{words}");
+        check_nothing(&rt, words, report, *status);
     }
     Ok(())
 }
