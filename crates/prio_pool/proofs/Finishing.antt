@@ -1,11 +1,12 @@
 -- What a pool that has ended says to its caller.
 use Rattle.std.proofs.Common.{◌≡◌, ℕ, suc, ◌+◌, List, [], ◌∷◌, ◌++◌, length, length-append, map, Option, Some, refl, sym, ap, ◌∙◌, subst, arith}
-use Rattle.std.specs.List.{flat_map, sum_by}
+use Rattle.std.specs.List.{All, flat_map, sum_by}
 use Rattle.std.specs.declared.alloc.Global.{Global}
 use Rattle.std.proofs.lemmas.Grind.{flat_map-append}
 use Rattle.std.proofs.lemmas.List.{length-map}
 use Rattle.std.proofs.lemmas.List.Sums.{sum_by-cons}
 use Rattle.std.proofs.lemmas.List.Elements.{All-weaker}
+use Rattle.atomic_table.specs.Seated.{TableId}
 use Rattle.crossbeam_queue.specs.SegTies.{SegId}
 use Rattle.fan_base.specs.declared.number.JobId.{JobId}
 use Rattle.fan_base.specs.declared.number.Mark.{Mark}
@@ -18,12 +19,12 @@ use Rattle.pool_model.specs.History.{Event}
 use Rattle.pool_model.specs.Orders.{IsSameInAnyOrder}
 use Rattle.pool_model.specs.Passes.{adds_of, adds_total, tasks_of}
 use Rattle.pool_model.specs.Records.{Record, AreRunsOf}
-use Rattle.pool_model.specs.Seen.{PassSeen, EndSeen, Returned, at_queue, steps_by, task_of}
+use Rattle.pool_model.specs.Seen.{PoolId, PassSeen, EndSeen, Returned, at_queue, steps_by, task_of}
 use Rattle.pool_model.specs.Steps.{tasks_taken}
 use Rattle.pool_model.specs.Tasks.{Task, Add, downwards, numbered}
 use Rattle.pool_runs.specs.declared.placed.Placed.{Placed}
 use Rattle.prio_pool.specs.Ended.{CameTo, CameBack}
-use Rattle.prio_pool.specs.Gathering.{FoundAs}
+use Rattle.prio_pool.specs.Gathering.{FoundAs, IsOf}
 use Rattle.pool_runs.specs.Returning.{back_from}
 use Rattle.pool_runs.specs.Running.{Drained}
 use Rattle.prio_pool.proofs.Accounting.{all_accounted, as_many_rests, ends_ran, entries_in, histories_of, tasks_back}
@@ -153,3 +154,18 @@ module _ {J : Type 0} (head : J → Head) (whole : ℕ) (qs : List (SegId Global
           rest = subst (λ (l : List Task). AreRunsOf l more) left_is drained.ran;
           led = drained.led;
         }
+
+-- ends of a pool are ends over its queues and its mark
+pub of_these : (id : PoolId) (whole : ℕ) (qs : List (SegId Global)) (mark : TableId) (ends : List EndSeen) → id ≡ record { queues = qs; passes = whole; mark = mark } → All (λ (e : EndSeen). e.pool ≡ id) ends → All (IsOf whole qs mark) ends
+of_these id whole qs mark ends is all = All-weaker (λ (e : EndSeen). e.pool ≡ id) (IsOf whole qs mark)
+    (λ e p. record {
+      queues_are = ap (λ (x : PoolId). x.queues) (p ∙ is);
+      passes_are = ap (λ (x : PoolId). x.passes) (p ∙ is);
+      mark_is = ap (λ (x : PoolId). x.mark) (p ∙ is);
+    })
+    ends
+    all
+
+-- how many the first pass and the others added is how many all of them did
+pub total_is : (passes : List PassSeen) (first : PassSeen) (rest : List PassSeen) (own others : ℕ) → passes ≡ first ∷ rest → own ≡ length (adds_of first) → others ≡ adds_total rest → own + others ≡ adds_total passes
+total_is passes first rest own others items first_is rest_is = (λ i. first_is i + rest_is i) ∙ (sym (sum_by-cons (λ (p : PassSeen). length (adds_of p)) first rest) ∙ sym (ap adds_total items))

@@ -11,5 +11,6 @@ pub mod Merging
 pub mod Accounting
 pub mod Finishing
 pub mod Crossings
+pub mod Downward
 pub mod Unused
 pub mod Sleeping

@@ -1,7 +1,7 @@
 use Rattle.std.proofs.Common.{rules, ◌≡◌, ◌+◌, ◌-◌, [], ◌∷◌, ◌++◌, refl, ap, sym, ◌∙◌, arith}
 use Rattle.atomic_table.specs.Seated.{TableId}
 use Rattle.pool_model.specs.Seen.{PoolId}
-use Rattle.task_queue.specs.Marks.{WatchSeen}
+use Rattle.task_queue.specs.Marks.{WatchSeen, OpenSeen}
 use Rattle.prio_pool.specs.Made.{makers_of, new_takers_seen}
 use Rattle.prio_pool.proofs.Listing.{one_taker_more}
 use Rattle.prio_pool.proofs.listed.more_takers.Goals as goal
@@ -23,3 +23,44 @@ loop-number-preserved g c =
       list = pushed ∙ ((λ k. i.list k ++ is k ∷ []) ∙ sym (one_taker_more pool first n (n + 1) refl));
       seat = c.watch-watch.ensures.same ∙ i.seat;
     }
+
+pub loop-number-init : goal.loop-number-init
+loop-number-init g c =
+    let made = c.args.made in
+    let left : made.left ≡ made.left - 0 = omega arith in
+    let takers : made.takers ≡ made.takers + 0 = omega arith in
+    record {
+      makers = c.requires.makers ∙ (λ k. makers_of (record { passes = made.passes; left = left k; adders = made.adders; takers = takers k }) c.args.queues.now.items);
+      list = search rules;
+      seat = refl;
+    }
+
+pub overflow_sub-counts : goal.overflow_sub-counts
+overflow_sub-counts g c = omega (arith, c.loop-number-test.true, c.requires.few.0)
+
+pub overflow_add-counts : goal.overflow_add-counts
+overflow_add-counts g c = omega (arith, c.loop-number-test.true, c.requires.few.1)
+
+pub watch-watch-requires : goal.watch-watch-requires
+watch-watch-requires g c = record { mark = ap (λ (s : OpenSeen). s.mark) c.loop-number.invariant.seat ∙ c.requires.mark }
+
+pub new_takers-requires-clause-makers : goal.new_takers-requires-clause-makers
+new_takers-requires-clause-makers g c = c.loop-number.invariant.makers
+
+pub new_takers-requires-clause-some : goal.new_takers-requires-clause-some
+new_takers-requires-clause-some g c = omega (arith, c.loop-number-test.true, c.requires.few.0)
+
+pub new_takers-requires-clause-queues : goal.new_takers-requires-clause-queues
+new_takers-requires-clause-queues g c = c.requires.queues
+
+pub new_takers-requires-clause-watch : goal.new_takers-requires-clause-watch
+new_takers-requires-clause-watch g c = (ap (λ (w : WatchSeen). w.looks) c.watch-watch.ensures.watch, ap (λ (w : WatchSeen). w.found) c.watch-watch.ensures.watch)
+
+pub returns-in_err-takers-clause-seat : goal.returns-in_err-takers-clause-seat
+returns-in_err-takers-clause-seat g c = c.watch-watch.ensures.same ∙ c.loop-number.invariant.seat
+
+pub returns-in_err-map_err-clause-seat : goal.returns-in_err-map_err-clause-seat
+returns-in_err-map_err-clause-seat g c = c.watch-watch.ensures.same ∙ c.loop-number.invariant.seat
+
+pub returns-clause-seat : goal.returns-clause-seat
+returns-clause-seat g c = c.loop-number.invariant.seat

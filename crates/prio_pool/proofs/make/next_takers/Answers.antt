@@ -1,7 +1,7 @@
 use Rattle.std.proofs.Common.{◌≡◌, ℕ, suc, ◌+◌, ◌<◌, ◌≤◌, List, [], ◌∷◌, ◌++◌, length, map, take, set, Some, ap, sym, subst, ◌∙◌, arith}
 use Rattle.std.specs.Prelude.{slice_get}
 use Rattle.std.specs.declared.alloc.Global.{Global}
-use Rattle.std.proofs.lemmas.List.{map-append}
+use Rattle.std.proofs.lemmas.List.{map-append, length-map, length-take-le, take_all}
 use Rattle.crossbeam_queue.specs.SegTies.{SegId}
 use Rattle.task_queue.specs.Seen.{MakerSeen}
 use Rattle.prio_pool.specs.Made.{maker, one_taker, new_taker, mixed}
@@ -42,3 +42,28 @@ returns-clause-makers g c =
     let qs : List (SegId Global) = c.args.queues.now.items in
     let all : length qs ≤ c.loop-number.number = omega (arith, c.loop-number-test.false, c.len-number-end.ensures) in
     c.loop-number.invariant.makers ∙ mixed_all (maker (one_taker c.args.counts)) (maker c.args.counts) qs c.loop-number.number all
+
+pub loop-number-init : goal.loop-number-init
+loop-number-init g c = record {
+  makers = c.requires.makers;
+  list = c.in_ok-list.ensures.items;
+  room = omega (arith, c.in_ok-list.ensures.capacity, c.len.ensures);
+}
+
+pub index-requires : goal.index-requires
+index-requires g c = omega (arith, c.loop-number-test.true, c.len-number-end.ensures)
+
+pub push_reserved-requires : goal.push_reserved-requires
+push_reserved-requires g c =
+    let qs : List (SegId Global) = c.args.queues.now.items in
+    let k = c.loop-number.number in
+    let i = c.loop-number.invariant in
+    let within : k < length qs = omega (arith, c.loop-number-test.true, c.len-number-end.ensures) in
+    let before : k ≤ length qs = omega (arith, within) in
+    omega (arith, within, i.room, ap length i.list, length-map (take k qs) (new_taker c.args.counts), length-take-le k qs before)
+
+pub returns-clause-takers : goal.returns-clause-takers
+returns-clause-takers g c =
+    let qs : List (SegId Global) = c.args.queues.now.items in
+    let all : length qs ≤ c.loop-number.number = omega (arith, c.loop-number-test.false, c.len-number-end.ensures) in
+    c.loop-number.invariant.list ∙ ap (map (new_taker c.args.counts)) (take_all c.loop-number.number qs all)

@@ -3,15 +3,16 @@ use Rattle.std.specs.List.{All}
 use Rattle.std.specs.declared.alloc.Global.{Global}
 use Rattle.std.proofs.lemmas.List.Elements.{All-append, All-cons, All-head, All-tail, All-weaker}
 use Rattle.crossbeam_queue.specs.SegTies.{SegId}
-use Rattle.pool_model.specs.Endings.{RanWhatItTook}
+use Rattle.pool_model.specs.Endings.{RanWhatItTook, records_of}
+use Rattle.pool_model.specs.Records.{Record}
 use Rattle.pool_model.specs.Passes.{HasNoGap}
 use Rattle.pool_model.specs.Seen.{PoolId, PoolSeen, PassSeen, EndSeen}
-use Rattle.task_queue.specs.Marks.{WatchSeen}
+use Rattle.task_queue.specs.Marks.{WatchSeen, MarkSeen}
 use Rattle.task_queue.specs.Seen.{GatheredSeen}
 use Rattle.prio_pool.specs.Ended.{CameTo}
 use Rattle.prio_pool.specs.Gathering.{gathered_from, IsWhole, FoundAs, AllSettled}
 use Rattle.prio_pool.proofs.Accounting.{all_whole}
-use Rattle.prio_pool.proofs.Finishing.{few_rests}
+use Rattle.prio_pool.proofs.Finishing.{few_rests, of_these, total_is}
 use Rattle.prio_pool.proofs.Merging.{queues_of}
 use Rattle.prio_pool.proofs.pool.Pool.end.Goals as goal
 
@@ -136,3 +137,99 @@ returns-clause-few g c =
       settled = subst (λ (l : List GatheredSeen). AllSettled g.J.Headed.head l rests) (g3 ∙ ap (λ (l : List PassSeen). gathered_from whole l (ends ++ helped) 0 qs) (sym items)) c.settle_all-rests.ensures;
     } in
     omega (arith, few_rests g.J.Headed.head whole qs c.args.passes ends helped rests c.args.begun.found came, c.self.invariant.1)
+
+pub overflow_add-whole : goal.overflow_add-whole
+overflow_add-whole g c = omega (arith, c.self.invariant.4, c.self.invariant.5)
+
+pub overflow_add-whole-2 : goal.overflow_add-whole-2
+overflow_add-whole-2 g c = omega (arith, c.self.invariant.4, c.self.invariant.5, c.self.invariant.6)
+
+pub gather-gathered-requires : goal.gather-gathered-requires
+gather-gathered-requires g c =
+    let qs : List (SegId Global) = c.self.inside.queues.items in
+    let whole = c.self.inside.adders + c.self.inside.workers + c.self.inside.helpers in
+    let id = ap (λ (s : PoolSeen). s.id) c.self.view_is in
+    let first : PassSeen = c.in-Some.first in
+    let others : List PassSeen = c.pop_front.new.self in
+    let all = subst (All (λ (p : PassSeen). p.pool ≡ c.args.self.id)) c.in-Some.ensures.items c.requires.passes.of_pool in
+    let own = All-head (λ (p : PassSeen). p.pool ≡ c.args.self.id) first others all ∙ sym id in
+    record { queues = ap (λ (x : PoolId). x.queues) own }
+
+pub put_passes-others-requires-clause-together : goal.put_passes-others-requires-clause-together
+put_passes-others-requires-clause-together g c =
+    let qs : List (SegId Global) = c.self.inside.queues.items in
+    let whole = c.self.inside.adders + c.self.inside.workers + c.self.inside.helpers in
+    let id = ap (λ (s : PoolSeen). s.id) c.self.view_is in
+    let first : PassSeen = c.in-Some.first in
+    let others : List PassSeen = c.pop_front.new.self in
+    let all = subst (All (λ (p : PassSeen). p.pool ≡ c.args.self.id)) c.in-Some.ensures.items c.requires.passes.of_pool in
+    let own = All-head (λ (p : PassSeen). p.pool ≡ c.args.self.id) first others all ∙ sym id in
+    let g0 = c.gather-gathered.ensures.gathered ∙ ap (λ (x : PoolId). gathered_from x.passes (first ∷ []) [] 0 qs) own in
+    record { passes = first ∷ []; ends = []; is = g0 }
+
+pub put_passes-others-requires-clause-few : goal.put_passes-others-requires-clause-few
+put_passes-others-requires-clause-few g c = omega (arith, ap length c.in-Some.ensures.items, c.requires.passes.count, ap (λ (s : PoolSeen). s.adders) c.self.view_is, c.self.invariant.4)
+
+pub put_workers-requires-clause-together : goal.put_workers-requires-clause-together
+put_workers-requires-clause-together g c =
+    let qs : List (SegId Global) = c.self.inside.queues.items in
+    let whole = c.self.inside.adders + c.self.inside.workers + c.self.inside.helpers in
+    let id = ap (λ (s : PoolSeen). s.id) c.self.view_is in
+    let first : PassSeen = c.in-Some.first in
+    let others : List PassSeen = c.pop_front.new.self in
+    let all = subst (All (λ (p : PassSeen). p.pool ≡ c.args.self.id)) c.in-Some.ensures.items c.requires.passes.of_pool in
+    let own = All-head (λ (p : PassSeen). p.pool ≡ c.args.self.id) first others all ∙ sym id in
+    let g0 = c.gather-gathered.ensures.gathered ∙ ap (λ (x : PoolId). gathered_from x.passes (first ∷ []) [] 0 qs) own in
+    let g1 = c.put_passes-others.ensures.gathered (first ∷ []) [] g0 in
+    record { passes = first ∷ others; ends = []; is = g1 }
+
+pub put_workers-requires-clause-of : goal.put_workers-requires-clause-of
+put_workers-requires-clause-of g c =
+    let qs : List (SegId Global) = c.self.inside.queues.items in
+    let whole = c.self.inside.adders + c.self.inside.workers + c.self.inside.helpers in
+    let id = ap (λ (s : PoolSeen). s.id) c.self.view_is in
+    of_these c.args.self.id whole qs c.mark-2.result.now.mark c.args.ends.items (sym id ∙ sym (ap (λ (m : MarkSeen). record { queues = qs; passes = whole; mark = m.mark }) c.mark-2.ensures)) c.requires.ends.of_pool
+
+pub put_helpers-requires-clause-of : goal.put_helpers-requires-clause-of
+put_helpers-requires-clause-of g c =
+    let qs : List (SegId Global) = c.self.inside.queues.items in
+    let whole = c.self.inside.adders + c.self.inside.workers + c.self.inside.helpers in
+    let id = ap (λ (s : PoolSeen). s.id) c.self.view_is in
+    of_these c.args.self.id whole qs c.mark-3.result.now.mark c.args.helped.items (sym id ∙ sym (ap (λ (m : MarkSeen). record { queues = qs; passes = whole; mark = m.mark }) c.mark-3.ensures)) c.requires.helped.of_pool
+
+pub put_helpers-requires-clause-together : goal.put_helpers-requires-clause-together
+put_helpers-requires-clause-together g c =
+    let qs : List (SegId Global) = c.self.inside.queues.items in
+    let whole = c.self.inside.adders + c.self.inside.workers + c.self.inside.helpers in
+    let id = ap (λ (s : PoolSeen). s.id) c.self.view_is in
+    let first : PassSeen = c.in-Some.first in
+    let others : List PassSeen = c.pop_front.new.self in
+    let all = subst (All (λ (p : PassSeen). p.pool ≡ c.args.self.id)) c.in-Some.ensures.items c.requires.passes.of_pool in
+    let own = All-head (λ (p : PassSeen). p.pool ≡ c.args.self.id) first others all ∙ sym id in
+    let g0 = c.gather-gathered.ensures.gathered ∙ ap (λ (x : PoolId). gathered_from x.passes (first ∷ []) [] 0 qs) own in
+    let g1 = c.put_passes-others.ensures.gathered (first ∷ []) [] g0 in
+    record { passes = first ∷ others; ends = c.args.ends.items; is = c.put_workers.ensures.gathered (first ∷ others) [] g1 }
+
+pub put_workers-requires-clause-few : goal.put_workers-requires-clause-few
+put_workers-requires-clause-few g c = omega (arith, ap length c.new-records.ensures, c.requires.ends.count_is, ap (λ (s : PoolSeen). s.workers) c.self.view_is, c.self.invariant.5)
+
+pub put_helpers-requires-clause-few : goal.put_helpers-requires-clause-few
+put_helpers-requires-clause-few g c = omega (arith, ap length c.new-records.ensures, c.put_workers.ensures.short, c.requires.ends.count_is, ap (λ (s : PoolSeen). s.workers) c.self.view_is, c.self.invariant.5, c.requires.helped.count_is, ap (λ (s : PoolSeen). s.helpers) c.self.view_is, c.self.invariant.6)
+
+pub settle_all-rests-requires-clause-room : goal.settle_all-rests-requires-clause-room
+settle_all-rests-requires-clause-room g c = c.gather-gathered.ensures.room
+
+pub overflow_add-result : goal.overflow_add-result
+overflow_add-result g c = omega (arith, c.count-own.ensures, c.told.ensures.few, c.put_passes-others.ensures.few)
+
+pub returns-clause-most : goal.returns-clause-most
+returns-clause-most g c = omega (arith, c.count-own.ensures, c.told.ensures.few, c.put_passes-others.ensures.few)
+
+pub returns-clause-records : goal.returns-clause-records
+returns-clause-records g c =
+    let ends : List EndSeen = c.args.ends.items in
+    let helped : List EndSeen = c.args.helped.items in
+    c.put_helpers.ensures.records ∙ ap (λ (l : List Record). l ++ records_of helped) (c.put_workers.ensures.records ∙ ap (λ (l : List Record). l ++ records_of ends) c.new-records.ensures)
+
+pub returns-clause-accepted : goal.returns-clause-accepted
+returns-clause-accepted g c = total_is c.args.passes c.in-Some.first c.pop_front.new.self c.count-own.result c.put_passes-others.result c.in-Some.ensures.items c.count-own.ensures c.put_passes-others.ensures.total

@@ -4,7 +4,7 @@ use Rattle.job_trait.specs.Runs.{Ran, Leads}
 use Rattle.pool_model.specs.declared.task.Ending.TheVariants.{Joins}
 use Rattle.pool_model.specs.Records.{Record, ran_of}
 use Rattle.pool_model.specs.Seen.{PoolId, WorkerSeen}
-use Rattle.pool_model.specs.Steps.{Turn, ran, idle, steps_in, steps_of}
+use Rattle.pool_model.specs.Steps.{Turn, ran, idle, stopped, steps_in, steps_of}
 use Rattle.prio_pool.specs.Takers.{TakersSeen}
 use Rattle.prio_pool.specs.Turned.{WorkedSoFar}
 use Rattle.job_trait.proofs.Histories.{leads_more}
@@ -65,3 +65,44 @@ returns-in-Some-Joins-clause-worked g c =
     let ends : c.in-Idle.ending ≡ Some Joins = search rules in
     worked_all m new.found (steps_in old.looks) (steps_in new.looks) turn worked (d.found_is ∙ ends, ends)
     (subst (λ (k : ℕ). steps_in new.looks ≡ steps_in old.looks ++ steps_of k turn) as_many d.turn)
+
+pub invariant_of-result : goal.invariant_of-result
+invariant_of-result g c = c.in-Idle.ensures.records
+
+pub returns-in-Some-Joins-clause-pool : goal.returns-in-Some-Joins-clause-pool
+returns-in-Some-Joins-clause-pool g c =
+    let i = c.loop.invariant in
+    let t = c.in-Idle.ensures in
+    (t.same.0 ∙ (i.pool ∙ ap (λ (w : WorkerSeen). w.pool) c.pass.view_is), t.same.1 ∙ (i.number ∙ ap (λ (w : WorkerSeen). w.number) c.pass.view_is))
+
+pub returns-in-Some-Joins-clause-ran : goal.returns-in-Some-Joins-clause-ran
+returns-in-Some-Joins-clause-ran g c =
+    let d = c.in-Idle.ensures.turned in
+    subst (λ (l : List Record). Leads g.J.Job.runs c.args.world.now (ran_of l) c.turn.new.world) (sym d.list) (subst (Leads g.J.Job.runs c.args.world.now (ran_of c.loop.records)) (sym d.world) c.loop.invariant.ran)
+
+pub invariant_of-result-in-Stopped : goal.invariant_of-result-in-Stopped
+invariant_of-result-in-Stopped g c = c.in-Stopped.ensures.records
+
+pub returns-in-Stopped-clause-pool : goal.returns-in-Stopped-clause-pool
+returns-in-Stopped-clause-pool g c =
+    let i = c.loop.invariant in
+    let t = c.in-Stopped.ensures in
+    (t.same.0 ∙ (i.pool ∙ ap (λ (w : WorkerSeen). w.pool) c.pass.view_is), t.same.1 ∙ (i.number ∙ ap (λ (w : WorkerSeen). w.number) c.pass.view_is))
+
+pub returns-in-Stopped-clause-ran : goal.returns-in-Stopped-clause-ran
+returns-in-Stopped-clause-ran g c =
+    let d = c.in-Stopped.ensures.turned in
+    subst (λ (l : List Record). Leads g.J.Job.runs c.args.world.now (ran_of l) c.turn.new.world) (sym d.list) (subst (Leads g.J.Job.runs c.args.world.now (ran_of c.loop.records)) (sym d.world) c.loop.invariant.ran)
+
+pub returns-in-Stopped-clause-worked : goal.returns-in-Stopped-clause-worked
+returns-in-Stopped-clause-worked g c =
+    let i = c.loop.invariant in
+    let d = c.in-Stopped.ensures.turned in
+    let old : TakersSeen = c.loop.takers in
+    let new : TakersSeen = c.turn.new.takers in
+    let own : c.pass.inside.takers.pool ≡ c.args.self.now.id = ap (λ (w : WorkerSeen). w.pool) c.pass.view_is ∙ c.requires in
+    let m = length c.args.self.now.id.queues in
+    let as_many : length old.pool.queues ≡ m = ap (λ (p : PoolId). length p.queues) (i.pool ∙ own) in
+    let worked = subst (λ (k : ℕ). WorkedSoFar k (steps_in old.looks)) (ap (λ (p : PoolId). length p.queues) own) i.worked in
+    worked_all m new.found (steps_in old.looks) (steps_in new.looks) stopped worked d.found_is
+    (subst (λ (k : ℕ). steps_in new.looks ≡ steps_in old.looks ++ steps_of k stopped) as_many d.turn)
