@@ -1,10 +1,13 @@
 // A note that schedules itself again and again.
+ghost use Rattle.std.specs.Prelude.{◌≤◌};
 ghost use Rattle.event_base.specs.Calls.{IsReached};
+ghost use Rattle.event_base.specs.Laws.{KeepsBase};
 
 use super::note::*;
-use event_base::{Agenda, BaseEnd, LoopEnd, LoopJob, Why, calls_in_a_row};
+use event_base::{Agenda, EventBase, LoopEnd, LoopJob, Why, calls_in_a_row};
 use fan_base::Mark;
 use job_trait::Headed;
+use std::process::Abort;
 use std::sync::Wait;
 
 const TIMES: u64 = 10_000;
@@ -40,30 +43,44 @@ fn schedule_again(agenda: &mut Agenda<Note>, wanted: bool, in_the_next_round: bo
     }
 }
 
-#[test]
-fn a_note_schedules_itself_ten_thousand_times(rt: HostRuntime) {
-    let ends = place_for_one(&rt, rt.alloc());
-    let (mut base, poster) = one_poster(&rt, rt.alloc());
-    let end = poster.end(&rt);
+// All turns in one phase.
+fn turns_in_a_phase<R: Abort + Wait>(rt: &R, base: &mut EventBase<Note>)
+    requires { base.old.agenda.wheel.tick ≤ 1000 }
+    ensures { KeepsBase 0 base.old base.new }
+{
     let mut world = Turns {
         left: TIMES,
         each_in_a_round: false,
     };
-    in_loop(base.agenda(), note_on(EXEC, 40));
-    let one = round(&rt, &mut base, 0, &mut world);
-    assert_eq!(rt; (one.loops, world.left), (TIMES, 0));
+    hold(base, 40);
+    round(rt, base, 0, &mut world, (0, [0, 0, 0, TIMES]));
+    same(rt, world.left, 0);
+}
+
+// Each turn in a round of its own, up to the end of the loop.
+fn turns_in_rounds<R: Abort + Wait>(rt: &R, base: &mut EventBase<Note>)
+    ensures { KeepsBase 0 base.old base.new }
+{
     let mut world = Turns {
         left: TIMES,
         each_in_a_round: true,
     };
-    in_loop(base.agenda(), note_on(EXEC, 40));
-    let all = whole_loop(&rt, &mut base, &mut world);
+    hold(base, 40);
+    let all = whole_loop(rt, base, &mut world);
     let closed = LoopEnd {
         rounds: TIMES,
         why: Why::Closed,
     };
-    assert_eq!(rt; (all, world.left), (closed, 0));
-    let BaseEnd { queue, mut rest } = close_one(&rt, base, end, ends);
-    assert_eq!(rt; (queue.put(), queue.left()), (0, 0));
-    assert_eq!(rt; rest.pop(), None);
+    same(rt, (all, world.left), (closed, 0));
+}
+
+#[test]
+fn a_note_schedules_itself_ten_thousand_times(rt: HostRuntime) {
+    let alloc = rt.alloc();
+    let rt = &rt;
+    let (mut base, poster) = one_poster(rt, alloc);
+    let end = poster.end(rt);
+    turns_in_a_phase(rt, &mut base);
+    turns_in_rounds(rt, &mut base);
+    close_empty(rt, alloc, base, end, (0, 0, 0));
 }

@@ -3,14 +3,14 @@ ghost use Rattle.std.specs.Prelude.{◌≡◌, []};
 ghost use Rattle.base_tests.specs.Posts.{AllOn};
 
 use super::note::*;
-use event_base::{Agenda, BaseEnd, EventBase, LoopJob, Poster, Why, calls_in_a_row};
+use event_base::{Agenda, EventBase, LoopJob, Poster, Why, calls_in_a_row};
 use fan_base::{Mark, Parcel};
 use notify_queue::{Receiver, Sender, SenderEnd, Stamped, queue};
 use std::alloc::Global;
 use std::hint;
 use std::process::Abort;
 use std::sync::Wait;
-use std::thread::join;
+use std::thread::{Threads, join};
 
 const NOTES: u64 = 20_000;
 
@@ -51,19 +51,25 @@ fn wait_a_little(id: u64) {
     }
 }
 
+// After a pause, posts so many notes, each once the one before has run.
 fn post_and_wait<R: Abort + Wait>(
     rt: &R,
     mut poster: Poster<Note>,
     mut answers: Receiver<u64>,
+    pause: u64,
+    notes: u64,
 ) -> (SenderEnd<Note>, Receiver<u64>)
     requires { poster.sent ≡ [] }
     ensures end { (result.0.queue ≡ poster.queue) × (result.0.number ≡ poster.number) }
     ensures posts { AllOn (λ note. note.0.exec) EXEC result.0 }
 {
-    for id in 0..NOTES {
+    for _ in 0..pause {
+        hint::spin_loop();
+    }
+    for id in 0..notes {
         wait_a_little(id);
-        assert!(rt; post(rt, &mut poster, id));
-        assert_eq!(rt; next(rt, &mut answers), id);
+        post(rt, &mut poster, id);
+        same(rt, next(rt, &mut answers), id);
     }
     (poster.end(rt), answers)
 }
@@ -97,74 +103,44 @@ fn one_sender<R: Abort>(rt: &R, alloc: Global) -> (Receiver<u64>, Sender<u64>) {
     (receiver, sender)
 }
 
-#[test]
-fn no_note_is_slept_through(rt: HostRuntime) {
-    let alloc = rt.alloc();
-    let ends = place_for_one(&rt, alloc);
-    let (base, poster) = one_poster(&rt, alloc);
-    let (answers, sender) = one_sender(&rt, alloc);
-    let poster = wrapped(&rt, alloc, poster);
-    let answers = wrapped(&rt, alloc, answers);
-    let base = wrapped(&rt, alloc, base);
-    let world = wrapped(&rt, alloc, Answers { sender });
+// A thread that posts so many notes, and waits until each has run, beside the base.
+fn post_beside_the_base<R: Abort + Threads + Wait + Sync>(
+    rt: &R,
+    alloc: Global,
+    pause: u64,
+    notes: u64,
+) {
+    let (base, poster) = one_poster(rt, alloc);
+    let (answers, sender) = one_sender(rt, alloc);
+    let poster = wrapped(rt, alloc, poster);
+    let answers = wrapped(rt, alloc, answers);
+    let base = wrapped(rt, alloc, base);
+    let world = wrapped(rt, alloc, Answers { sender });
     let (other, ran) = join(
-        &rt,
+        rt,
         move ||
             requires { poster.sent ≡ [] }
             ensures end { (result.0.queue ≡ poster.queue) × (result.0.number ≡ poster.number) }
             ensures posts { AllOn (λ note. note.0.exec) EXEC result.0 }
-        { post_and_wait(&rt, poster.open(), answers.open()) },
-        move || run_until_closed(&rt, base.open(), world.open()),
+        { post_and_wait(rt, poster.open(), answers.open(), pause, notes) },
+        move || run_until_closed(rt, base.open(), world.open()),
     );
     let (end, answers) = other;
     let (base, world, why) = ran;
-    assert_eq!(rt; why, Why::Closed);
-    let _answers = wrapped(&rt, alloc, answers);
-    let _world = wrapped(&rt, alloc, world);
-    let BaseEnd { queue, mut rest } = close_one(&rt, base, end, ends);
-    assert_eq!(rt;
-        (queue.put(), queue.taken(), queue.left()),
-        (NOTES, NOTES, 0)
-    );
-    assert_eq!(rt; rest.pop(), None);
+    same(rt, why, Why::Closed);
+    let Answers { sender } = world;
+    let _end = sender.end(rt);
+    let _answers = wrapped(rt, alloc, answers);
+    close_empty(rt, alloc, base, end, (notes, notes, 0));
 }
 
-// Waits until the base has fallen asleep, by far, and ends without a post.
-fn end_late<R: Wait>(rt: &R, poster: Poster<Note>) -> SenderEnd<Note>
-    requires { poster.sent ≡ [] }
-    ensures end { (result.queue ≡ poster.queue) × (result.number ≡ poster.number) }
-    ensures posts { AllOn (λ note. note.0.exec) EXEC result }
-{
-    for _ in 0..A_WHILE {
-        hint::spin_loop();
-    }
-    poster.end(rt)
+#[test]
+fn no_note_is_slept_through(rt: HostRuntime) {
+    post_beside_the_base(&rt, rt.alloc(), 0, NOTES);
 }
 
-// A base that an end doesn't wake sleeps for good.
+// A thread that waits until the base has fallen asleep, by far, and ends without a post. A base that an end doesn't wake sleeps for good.
 #[test]
 fn an_end_wakes_a_base(rt: HostRuntime) {
-    let alloc = rt.alloc();
-    let ends = place_for_one(&rt, alloc);
-    let (base, poster) = one_poster(&rt, alloc);
-    let (answers, sender) = one_sender(&rt, alloc);
-    let poster = wrapped(&rt, alloc, poster);
-    let base = wrapped(&rt, alloc, base);
-    let world = wrapped(&rt, alloc, Answers { sender });
-    let (end, ran) = join(
-        &rt,
-        move ||
-            requires { poster.sent ≡ [] }
-            ensures end { (result.queue ≡ poster.queue) × (result.number ≡ poster.number) }
-            ensures posts { AllOn (λ note. note.0.exec) EXEC result }
-        { end_late(&rt, poster.open()) },
-        move || run_until_closed(&rt, base.open(), world.open()),
-    );
-    let (base, world, why) = ran;
-    assert_eq!(rt; why, Why::Closed);
-    let _answers = wrapped(&rt, alloc, answers);
-    let _world = wrapped(&rt, alloc, world);
-    let BaseEnd { queue, mut rest } = close_one(&rt, base, end, ends);
-    assert_eq!(rt; (queue.put(), queue.left()), (0, 0));
-    assert_eq!(rt; rest.pop(), None);
+    post_beside_the_base(&rt, rt.alloc(), A_WHILE, 0);
 }

@@ -2,7 +2,7 @@
 ghost use Rattle.event_base.specs.Calls.{IsReached};
 
 use super::note::*;
-use event_base::{Agenda, BaseEnd, LoopEnd, LoopJob, Why, calls_in_a_row};
+use event_base::{Agenda, LoopEnd, LoopJob, Why, calls_in_a_row};
 use fan_base::Mark;
 use job_trait::Headed;
 use std::sync::Wait;
@@ -36,17 +36,16 @@ fn again_or_end(agenda: &mut Agenda<Note>, again: bool)
 // The poster lives and posts nothing: a base that sleeps while a callback is held would sleep for good.
 #[test]
 fn a_base_does_not_sleep_while_a_callback_is_held(rt: HostRuntime) {
-    let ends = place_for_one(&rt, rt.alloc());
-    let (mut base, poster) = one_poster(&rt, rt.alloc());
+    let alloc = rt.alloc();
+    let rt = &rt;
+    let (mut base, poster) = one_poster(rt, alloc);
     let mut world = Left(3);
-    in_loop(base.agenda(), note_on(EXEC, 40));
-    let all = whole_loop(&rt, &mut base, &mut world);
+    hold(&mut base, 40);
+    let all = whole_loop(rt, &mut base, &mut world);
     let ended = LoopEnd {
         rounds: 3,
         why: Why::Terminated,
     };
-    assert_eq!(rt; (all, world.0), (ended, 0));
-    let BaseEnd { queue, mut rest } = close_one(&rt, base, poster.end(&rt), ends);
-    assert_eq!(rt; (queue.put(), queue.left()), (0, 0));
-    assert_eq!(rt; rest.pop(), None);
+    same(rt, (all, world.0), (ended, 0));
+    close_empty(rt, alloc, base, poster.end(rt), (0, 0, 0));
 }

@@ -1,5 +1,6 @@
 ghost use Rattle.std.specs.Prelude.{◌≤◌, length};
 
+use super::compare::same;
 use crate::slow::parse_slowly;
 use fan_base::{Doc, Word, WordFault, Words};
 use query_expr::{Expr, ExprFault, Node, Token, holds, parse};
@@ -60,8 +61,22 @@ fn marks_before_a_word(alloc: Global, mark: Token, count: usize) -> Result<Vec<T
     Ok(tokens)
 }
 
+// What is parsed, without what is said of it.
+fn parsed(alloc: Global, tokens: &[Token]) -> Result<Expr, ExprFault> {
+    parse(alloc, tokens)
+}
+
+// The tree of a list of tokens has to be shown so.
+fn check_tree<R: Abort>(rt: &R, alloc: Global, text: &[u8], tree: &[u8]) -> Result<(), Fail> {
+    let tokens = tokens_of(alloc, text)?;
+    let e = parsed(alloc, &tokens)?;
+    let found = shown(alloc, &e)?;
+    same(rt, found.as_slice(), tree);
+    Ok(())
+}
+
 fn fault_of(alloc: Global, tokens: &[Token]) -> Option<ExprFault> {
-    parse(alloc, tokens).err()
+    parsed(alloc, tokens).err()
 }
 
 // Lists of tokens, each with its tree.
@@ -85,9 +100,7 @@ const TREES: &[(&[u8], &[u8])] = &[
 #[test]
 fn trees_by_precedence(rt: HostRuntime) -> Result<(), Fail> {
     for (text, tree) in TREES {
-        let tokens = tokens_of(rt.alloc(), text)?;
-        let e = parse(rt.alloc(), &tokens)?;
-        assert_eq!(rt; shown(rt.alloc(), &e)?.as_slice(), *tree);
+        check_tree(&rt, rt.alloc(), text, tree)?;
     }
     Ok(())
 }
@@ -113,7 +126,7 @@ const FAULTS: &[(&[u8], ExprFault)] = &[
 fn faults_at_their_places(rt: HostRuntime) -> Result<(), Fail> {
     for (text, fault) in FAULTS {
         let tokens = tokens_of(rt.alloc(), text)?;
-        assert_eq!(rt; fault_of(rt.alloc(), &tokens), Some(*fault));
+        same(&rt, fault_of(rt.alloc(), &tokens), Some(*fault));
     }
     Ok(())
 }
@@ -126,12 +139,12 @@ fn limits_of_depth_and_length(rt: HostRuntime) -> Result<(), Fail> {
         (Token::Left, 65, Some(ExprFault::TooDeep(64))),
     ] {
         let tokens = marks_before_a_word(rt.alloc(), mark, count)?;
-        assert_eq!(rt; fault_of(rt.alloc(), &tokens), fault);
+        same(&rt, fault_of(rt.alloc(), &tokens), fault);
     }
     let mut words = vec![in rt.alloc(); token_of(b'a')?; 1_024]?;
-    assert_eq!(rt; fault_of(rt.alloc(), &words), None);
+    same(&rt, fault_of(rt.alloc(), &words), None);
     words.push(Token::Right)?;
-    assert_eq!(rt; fault_of(rt.alloc(), &words), Some(ExprFault::TooLong));
+    same(&rt, fault_of(rt.alloc(), &words), Some(ExprFault::TooLong));
     Ok(())
 }
 
@@ -145,16 +158,24 @@ const TRUTHS: &[(&[u8], bool)] = &[
     (b"a!b", true),
 ];
 
-#[test]
-fn truth_over_the_words_of_a_document(rt: HostRuntime) -> Result<(), Fail> {
-    let mut words = Words::new(rt.alloc());
+fn a_and_c(alloc: Global) -> Result<Doc, Fail> {
+    let mut words = Words::new(alloc);
     words.push(Word::new(b"a")?)?;
     words.push(Word::new(b"c")?)?;
-    let doc = Doc { id: 1, words };
+    Ok(Doc { id: 1, words })
+}
+
+fn holds_over(alloc: Global, text: &[u8], doc: &Doc) -> Result<bool, Fail> {
+    let tokens = tokens_of(alloc, text)?;
+    let e = parsed(alloc, &tokens)?;
+    Ok(holds(&e, doc))
+}
+
+#[test]
+fn truth_over_the_words_of_a_document(rt: HostRuntime) -> Result<(), Fail> {
+    let doc = a_and_c(rt.alloc())?;
     for (text, truth) in TRUTHS {
-        let tokens = tokens_of(rt.alloc(), text)?;
-        let e = parse(rt.alloc(), &tokens)?;
-        assert_eq!(rt; holds(&e, &doc), *truth);
+        same(&rt, holds_over(rt.alloc(), text, &doc)?, *truth);
     }
     Ok(())
 }
@@ -170,19 +191,31 @@ fn numbered_list(alloc: Global, length: usize, number: usize) -> Result<Vec<Toke
     Ok(tokens)
 }
 
-fn compare(rt: &impl Abort, alloc: Global, tokens: &[Token], word: Word) -> Result<(), Fail>
-    requires { length tokens.now ≤ 64 }
-{
-    match (parse(alloc, tokens), parse_slowly(alloc, tokens, word)) {
-        (Ok(quick), Ok(slow)) => {
-            assert_eq!(rt;
-                shown(alloc, &quick)?.as_slice(),
-                shown(alloc, &slow)?.as_slice()
-            );
-        }
-        (Err(quick), Err(slow)) => assert_eq!(rt; quick, slow),
-        _ => assert!(rt; false, "at {tokens:?}"),
+// The tree as it is shown, or the fault.
+fn outcome(
+    alloc: Global,
+    found: Result<Expr, ExprFault>,
+) -> Result<Result<Vec<u8>, ExprFault>, AllocError> {
+    match found {
+        Ok(e) => Ok(Ok(shown(alloc, &e)?)),
+        Err(fault) => Ok(Err(fault)),
     }
+}
+
+fn check_outcomes<R: Abort>(
+    rt: &R,
+    tokens: &[Token],
+    quick: Result<Vec<u8>, ExprFault>,
+    slow: Result<Vec<u8>, ExprFault>,
+) {
+    assert_eq!(rt; quick, slow, "at {tokens:?}");
+}
+
+fn compare<R: Abort>(rt: &R, alloc: Global, tokens: &[Token], word: Word) -> Result<(), Fail> {
+    assert!(rt; tokens.len() <= 64);
+    let slow = outcome(alloc, parse_slowly(alloc, tokens, word))?;
+    let quick = outcome(alloc, parsed(alloc, tokens))?;
+    check_outcomes(rt, tokens, quick, slow);
     Ok(())
 }
 
@@ -192,7 +225,6 @@ fn short_lists_by_the_plain_program(rt: HostRuntime) -> Result<(), Fail> {
     for (length, lists) in [(0, 1), (1, 5), (2, 25), (3, 125), (4, 625), (5, 3_125)] {
         for number in 0..lists {
             let tokens = numbered_list(rt.alloc(), length, number)?;
-            assert!(rt; tokens.len() <= 64);
             compare(&rt, rt.alloc(), &tokens, word)?;
         }
     }

@@ -1,23 +1,44 @@
+ghost use Rattle.std.specs.Prelude.{◌≤◌};
+
+use super::compare::{same, same_text};
 use query_gen::{generate, summary_text};
 use query_model::{Ask, Line, Lines, Prio, Query};
+use std::alloc::Global;
+use std::process::Abort;
 use std::test::Fail;
 
-#[test]
-fn no_documents_and_no_queries(rt: HostRuntime) -> Result<(), Fail> {
-    let lines = generate(rt.alloc(), 5, 0, 0)?.into_lines(rt.alloc())?;
-    assert!(rt; lines.is_empty());
-    let line = summary_text(rt.alloc(), 0, 0, b"")?;
-    let wanted = b"documents 0 queries 0 lines 0 bytes 0 sum 0\n".as_slice();
-    assert_eq!(rt; line.as_slice(), wanted);
+fn lines_of(alloc: Global, seed: u64, docs: u32, queries: u32) -> Result<Lines, Fail>
+    requires { docs ≤ 20000 }
+{
+    Ok(generate(alloc, seed, docs, queries)?.into_lines(alloc)?)
+}
+
+fn check_summary<R: Abort>(
+    rt: &R,
+    alloc: Global,
+    docs: u32,
+    queries: u32,
+    replies: &[u8],
+    wanted: &str,
+) -> Result<(), Fail> {
+    let line = summary_text(alloc, docs, queries, replies)?;
+    same_text(rt, line.as_slice(), wanted);
     Ok(())
 }
 
 #[test]
+fn no_documents_and_no_queries(rt: HostRuntime) -> Result<(), Fail> {
+    let lines = lines_of(rt.alloc(), 5, 0, 0)?;
+    same(&rt, lines.len(), 0);
+    let wanted = "documents 0 queries 0 lines 0 bytes 0 sum 0\n";
+    check_summary(&rt, rt.alloc(), 0, 0, b"", wanted)
+}
+
+#[test]
 fn replies_are_summed_up(rt: HostRuntime) -> Result<(), Fail> {
-    let line = summary_text(rt.alloc(), 3, 2, b"1 count 0\n2 count 1\n")?;
-    let wanted = b"documents 3 queries 2 lines 2 bytes 20 sum 1450\n".as_slice();
-    assert_eq!(rt; line.as_slice(), wanted);
-    Ok(())
+    let replies = b"1 count 0\n2 count 1\n";
+    let wanted = "documents 3 queries 2 lines 2 bytes 20 sum 1450\n";
+    check_summary(&rt, rt.alloc(), 3, 2, replies, wanted)
 }
 
 // The numbers of the document, of the query at place 8, which is a `top`, and of the ticks behind ten queries.
@@ -43,8 +64,8 @@ fn listed(query: &Query) -> Option<u32> {
 
 #[test]
 fn a_document_and_queries(rt: HostRuntime) -> Result<(), Fail> {
-    let lines = generate(rt.alloc(), 0, 1, 20)?.into_lines(rt.alloc())?;
-    assert_eq!(rt; lines.len(), 23);
-    assert_eq!(rt; some_numbers(&lines), Some((1, 48, 6, 286)));
+    let lines = lines_of(rt.alloc(), 0, 1, 20)?;
+    same(&rt, lines.len(), 23);
+    same(&rt, some_numbers(&lines), Some((1, 48, 6, 286)));
     Ok(())
 }

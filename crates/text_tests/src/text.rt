@@ -1,4 +1,7 @@
-use fan_base::{Ids, Memory, Scores};
+ghost use Rattle.std.specs.Prelude.{◌≤◌};
+
+use super::compare::{same, same_text};
+use fan_base::{Ids, Memory, Scores, Word};
 use query_text::{
     BadInput, BadKind, Hits, InputFault, Limit, Line, Prio, Reply, error_line, read_input,
     reply_line, write_input,
@@ -14,6 +17,26 @@ fn error_of(alloc: Global, text: &[u8]) -> Result<Vec<u8>, Memory> {
         Err(InputFault::Bad(bad)) => error_line(alloc, &bad),
         Err(InputFault::Memory) => Err(Memory),
     }
+}
+
+/// The error line of a text has to be this one, or nothing.
+fn check_error<R: Abort>(rt: &R, alloc: Global, text: &[u8], wanted: &str) -> Result<(), Fail> {
+    let found = error_of(alloc, text)?;
+    same_text(rt, found.as_slice(), wanted);
+    Ok(())
+}
+
+/// The same of a text with another line behind it.
+fn check_error_behind<R: Abort>(
+    rt: &R,
+    alloc: Global,
+    text: &[u8],
+    line: &[u8],
+    wanted: &str,
+) -> Result<(), Fail> {
+    let mut more = text.to_vec(alloc)?;
+    more.extend_from_slice(line)?;
+    check_error(rt, alloc, more.as_slice(), wanted)
 }
 
 /// The text `head` and then so many times `piece`.
@@ -81,12 +104,16 @@ const FAULTY_LINES: &[(&[u8], &str)] = &[
     (b"find ()", "bad expression"),
 ];
 
+// The error line of a first line.
+fn first_error(alloc: Global, text: &str) -> Result<String, AllocError> {
+    format!(in alloc; "error line 1: {text}\n")
+}
+
 #[test]
 fn each_line_has_its_fault(rt: HostRuntime) -> Result<(), Fail> {
     for (line, text) in FAULTY_LINES {
-        let wanted = format!(in rt.alloc(); "error line 1: {text}\n")?;
-        let found = error_of(rt.alloc(), line)?;
-        assert_eq!(rt; found.as_slice(), wanted.as_bytes(), "{text}");
+        let wanted = first_error(rt.alloc(), text)?;
+        check_error(&rt, rt.alloc(), line, wanted.as_str())?;
     }
     Ok(())
 }
@@ -116,16 +143,10 @@ const LONG_LINES: &[(&[u8], &[u8], usize, &str)] = &[
 fn limits_of_a_line(rt: HostRuntime) -> Result<(), Fail> {
     for (head, piece, times, text) in LONG_LINES {
         let line = repeated(rt.alloc(), head, piece, *times)?;
-        let found = error_of(rt.alloc(), line.as_slice())?;
-        assert_eq!(rt; found.as_slice(), text.as_bytes(), "{text}");
+        check_error(&rt, rt.alloc(), line.as_slice(), text)?;
     }
-    let mut deep = repeated(rt.alloc(), b"find ", b"!", 64)?;
-    deep.push(b'a')?;
-    assert_eq!(rt;
-        error_of(rt.alloc(), deep.as_slice())?.as_slice(),
-        b"".as_slice()
-    );
-    Ok(())
+    let deep = repeated(rt.alloc(), b"find ", b"!", 64)?;
+    check_error_behind(&rt, rt.alloc(), deep.as_slice(), b"a", "")
 }
 
 // Files, each with its first fault, if it has one.
@@ -157,90 +178,101 @@ const FILES: &[(&[u8], &str)] = &[
 #[test]
 fn first_fault_of_a_file(rt: HostRuntime) -> Result<(), Fail> {
     for (text, wanted) in FILES {
-        let found = error_of(rt.alloc(), text)?;
-        assert_eq!(rt; found.as_slice(), wanted.as_bytes(), "{wanted}");
+        check_error(&rt, rt.alloc(), text, wanted)?;
     }
     Ok(())
+}
+
+// The id of the document in a line, how many words it has, and the first one.
+fn document(line: Option<&Line>) -> Option<(u32, usize, Word)> {
+    let Some(Line::Doc(doc)) = line else {
+        return None;
+    };
+    let first = doc.words.as_slice().first()?;
+    Some((doc.id, doc.words.len(), *first))
+}
+
+fn prio_of(line: Option<&Line>) -> Option<Prio> {
+    match line {
+        Some(Line::Query(query)) => Some(query.prio),
+        _ => None,
+    }
 }
 
 #[test]
 fn capitals_carriage_returns_and_comments(rt: HostRuntime) -> Result<(), Fail> {
     let text = b"DOC  1 Red\r\n\r\n# note\r\nHI find RED";
-    match read_input(rt.alloc(), text, 64) {
-        Ok(input) => {
-            assert_eq!(rt; input.lines.len(), 2);
-            match input.lines.get(0) {
-                Some(Line::Doc(doc)) => {
-                    assert_eq!(rt; doc.id, 1);
-                    assert_eq!(rt; doc.words.len(), 1);
-                    assert_eq!(rt; doc.words.as_slice()[0].as_bytes(), b"red".as_slice());
-                }
-                _ => assert!(rt; false),
-            }
-            match input.lines.get(1) {
-                Some(Line::Query(query)) => assert_eq!(rt; query.prio, Prio::Hi),
-                _ => assert!(rt; false),
-            }
-        }
-        Err(_) => assert!(rt; false),
-    }
+    let Ok(input) = read_input(rt.alloc(), text, 64) else {
+        rt.panic("the text is refused");
+    };
+    same(&rt, input.lines.len(), 2);
+    let red = Word::new(b"red")?;
+    same(&rt, document(input.lines.get(0)), Some((1, 1, red)));
+    same(&rt, prio_of(input.lines.get(1)), Some(Prio::Hi));
     Ok(())
+}
+
+// The fault of a text over so many shards.
+fn fault_over(alloc: Global, text: &[u8], shards: u32) -> Option<InputFault>
+    requires at_least_one { 1 ≤ shards }
+    requires at_most_64 { shards ≤ 64 }
+{
+    read_input(alloc, text, shards).err()
 }
 
 #[test]
 fn queries_times_shards(rt: HostRuntime) -> Result<(), Fail> {
     let mut text = repeated(rt.alloc(), b"", b"count a\n", 4_096)?;
-    assert!(rt; read_input(rt.alloc(), text.as_slice(), 64).is_ok());
+    same(&rt, fault_over(rt.alloc(), text.as_slice(), 64), None);
     text.extend_from_slice(b"count a\n")?;
     let bad = BadInput {
         line: 4_097,
         kind: BadKind::Limit(Limit::Tasks),
     };
-    let found = read_input(rt.alloc(), text.as_slice(), 64).err();
-    assert_eq!(rt; found, Some(InputFault::Bad(bad)));
-    assert!(rt; read_input(rt.alloc(), text.as_slice(), 63).is_ok());
+    let found = fault_over(rt.alloc(), text.as_slice(), 64);
+    same(&rt, found, Some(InputFault::Bad(bad)));
+    same(&rt, fault_over(rt.alloc(), text.as_slice(), 63), None);
     Ok(())
 }
+
+// Lines behind as many queries as there may be, each with its fault.
+const BEHIND_QUERIES: &[(&[u8], &str)] = &[
+    (b"", ""),
+    (b"count a\n", "error line 50001: too many queries\n"),
+    (b"count )\n", "error line 50001: bad expression\n"),
+];
 
 #[test]
 fn as_many_queries_as_there_may_be(rt: HostRuntime) -> Result<(), Fail> {
     let text = repeated(rt.alloc(), b"", b"count a\n", 50_000)?;
-    assert!(rt; error_of(rt.alloc(), text.as_slice())?.is_empty());
-    for (line, wanted) in [
-        (
-            b"count a\n".as_slice(),
-            "error line 50001: too many queries\n",
-        ),
-        (b"count )\n", "error line 50001: bad expression\n"),
-    ] {
-        let mut more = text.as_slice().to_vec(rt.alloc())?;
-        more.extend_from_slice(line)?;
-        let found = error_of(rt.alloc(), more.as_slice())?;
-        assert_eq!(rt; found.as_slice(), wanted.as_bytes());
+    for (line, wanted) in BEHIND_QUERIES {
+        check_error_behind(&rt, rt.alloc(), text.as_slice(), line, wanted)?;
     }
     Ok(())
 }
 
-#[test]
-fn as_many_documents_as_there_may_be(rt: HostRuntime) -> Result<(), Fail> {
-    let alloc = rt.alloc();
+// Documents with the ids below this one.
+fn documents(alloc: Global, count: u32) -> Result<Vec<u8>, Fail> {
     let mut text = Vec::new(alloc);
-    for id in 0..200_000u32 {
+    for id in 0..count {
         let line = format!(in alloc; "doc {id}\n")?;
         text.extend_from_slice(line.as_bytes())?;
     }
-    assert!(rt; error_of(alloc, text.as_slice())?.is_empty());
-    for (line, wanted) in [
-        (
-            b"doc 199999\n".as_slice(),
-            "error line 200001: duplicate document\n",
-        ),
-        (b"doc 200000\n", "error line 200001: too many documents\n"),
-    ] {
-        let mut more = text.as_slice().to_vec(alloc)?;
-        more.extend_from_slice(line)?;
-        let found = error_of(alloc, more.as_slice())?;
-        assert_eq!(rt; found.as_slice(), wanted.as_bytes());
+    Ok(text)
+}
+
+// Lines behind as many documents as there may be, each with its fault.
+const BEHIND_DOCUMENTS: &[(&[u8], &str)] = &[
+    (b"", ""),
+    (b"doc 199999\n", "error line 200001: duplicate document\n"),
+    (b"doc 200000\n", "error line 200001: too many documents\n"),
+];
+
+#[test]
+fn as_many_documents_as_there_may_be(rt: HostRuntime) -> Result<(), Fail> {
+    let text = documents(rt.alloc(), 200_000)?;
+    for (line, wanted) in BEHIND_DOCUMENTS {
+        check_error_behind(&rt, rt.alloc(), text.as_slice(), line, wanted)?;
     }
     Ok(())
 }
@@ -261,63 +293,89 @@ const TEXTS: &[(&[u8], &str)] = &[
     ),
 ];
 
+// The canonical text of a text, or nothing where it is refused.
+fn canonical(alloc: Global, text: &[u8]) -> Result<Vec<u8>, Memory> {
+    match read_input(alloc, text, 4) {
+        Ok(input) => write_input(alloc, &input),
+        Err(_) => Ok(Vec::new(alloc)),
+    }
+}
+
 #[test]
 fn canonical_texts(rt: HostRuntime) -> Result<(), Fail> {
     for (text, wanted) in TEXTS {
-        match read_input(rt.alloc(), text, 4) {
-            Ok(input) => {
-                let written = write_input(rt.alloc(), &input)?;
-                assert_eq!(rt; written.as_slice(), wanted.as_bytes(), "{wanted}");
-            }
-            Err(_) => assert!(rt; false),
-        }
+        let written = canonical(rt.alloc(), text)?;
+        same_text(&rt, written.as_slice(), wanted);
     }
     Ok(())
 }
 
+// The line of a reply.
+fn check_line<R: Abort>(
+    rt: &R,
+    alloc: Global,
+    number: u64,
+    reply: Reply,
+    wanted: &str,
+) -> Result<(), Fail> {
+    let line = reply_line(alloc, number, &reply)?;
+    same_text(rt, line.as_slice(), wanted);
+    Ok(())
+}
+
 // These ids are all that was found.
-fn found(rt: &impl Abort, alloc: Global, ids: &[u32]) -> Reply {
+fn found(alloc: Global, ids: &[u32]) -> Result<Reply, Fail> {
     let mut list = Ids::new(alloc);
     for id in ids {
-        list.push(*id).expect(rt, "memory");
+        list.push(*id)?;
     }
-    Reply::Find(Hits {
+    Ok(Reply::Find(Hits {
         ids: list,
         total: ids.len() as u64,
-    })
+    }))
 }
 
-fn ranked(rt: &impl Abort, alloc: Global, scores: &[(u32, u64)]) -> Reply {
+fn ranked(alloc: Global, scores: &[(u32, u64)]) -> Result<Reply, Fail> {
     let mut list = Scores::new(alloc);
     for score in scores {
-        list.push(*score).expect(rt, "memory");
+        list.push(*score)?;
     }
-    Reply::Top(list)
+    Ok(Reply::Top(list))
 }
 
-fn expect_line(rt: &impl Abort, alloc: Global, number: u64, reply: Reply, wanted: &str) {
-    let line = reply_line(alloc, number, &reply).expect(rt, "memory");
-    assert_eq!(rt; line.as_slice(), wanted.as_bytes());
+// What was found, with the number and the line of its reply.
+const FOUND: &[(u64, &[u32], &str)] = &[(1, &[4, 7], "1 find 2: 4 7\n"), (2, &[], "2 find 0:\n")];
+
+#[test]
+fn lines_of_what_was_found(rt: HostRuntime) -> Result<(), Fail> {
+    let alloc = rt.alloc();
+    for (number, ids, wanted) in FOUND {
+        check_line(&rt, alloc, *number, found(alloc, ids)?, wanted)?;
+    }
+    Ok(())
+}
+
+// What was ranked.
+const RANKED: &[(u64, &[(u32, u64)], &str)] = &[
+    (6, &[(103, 2), (101, 1)], "6 top 2: 103=2 101=1\n"),
+    (7, &[], "7 top 0:\n"),
+];
+
+#[test]
+fn lines_of_what_was_ranked(rt: HostRuntime) -> Result<(), Fail> {
+    let alloc = rt.alloc();
+    for (number, scores, wanted) in RANKED {
+        check_line(&rt, alloc, *number, ranked(alloc, scores)?, wanted)?;
+    }
+    Ok(())
 }
 
 #[test]
-fn lines_of_replies(rt: HostRuntime) {
+fn lines_of_replies(rt: HostRuntime) -> Result<(), Fail> {
     let alloc = rt.alloc();
-    for (number, ids, wanted) in [
-        (1, [4, 7].as_slice(), "1 find 2: 4 7\n"),
-        (2, &[], "2 find 0:\n"),
-    ] {
-        expect_line(&rt, alloc, number, found(&rt, alloc, ids), wanted);
-    }
     let most = Reply::Count(18_446_744_073_709_551_615);
-    expect_line(&rt, alloc, 3, most, "3 count 18446744073709551615\n");
-    expect_line(&rt, alloc, 4, Reply::Present(true), "4 exists yes\n");
-    expect_line(&rt, alloc, 5, Reply::Present(false), "5 exists no\n");
-    for (number, scores, wanted) in [
-        (6, [(103, 2), (101, 1)].as_slice(), "6 top 2: 103=2 101=1\n"),
-        (7, &[], "7 top 0:\n"),
-    ] {
-        expect_line(&rt, alloc, number, ranked(&rt, alloc, scores), wanted);
-    }
-    expect_line(&rt, alloc, 50_000, Reply::Cancelled, "50000 cancelled\n");
+    check_line(&rt, alloc, 3, most, "3 count 18446744073709551615\n")?;
+    check_line(&rt, alloc, 4, Reply::Present(true), "4 exists yes\n")?;
+    check_line(&rt, alloc, 5, Reply::Present(false), "5 exists no\n")?;
+    check_line(&rt, alloc, 50_000, Reply::Cancelled, "50000 cancelled\n")
 }

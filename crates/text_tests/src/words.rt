@@ -1,5 +1,7 @@
+use super::compare::{same, same_of};
 use query_words::{Command, Generation, Settings, read_command};
 use std::alloc::Global;
+use std::process::Abort;
 use std::test::Fail;
 
 // A line of words, parted by single spaces: two of them hold an empty word.
@@ -14,6 +16,16 @@ fn words_of(alloc: Global, line: &str) -> Result<Vec<String>, Fail> {
 fn read(alloc: Global, line: &str) -> Result<Option<Command>, Fail> {
     let words = words_of(alloc, line)?;
     Ok(read_command(words.as_slice()))
+}
+
+fn check<R: Abort>(
+    rt: &R,
+    alloc: Global,
+    line: &str,
+    command: Option<Command>,
+) -> Result<(), Fail> {
+    same_of(rt, line, read(alloc, line)?, command);
+    Ok(())
 }
 
 // Workers, bases and shards.
@@ -171,20 +183,29 @@ const REFUSED: &[&str] = &[
     "run --workers  2",
 ];
 
+fn generation(numbers: (u64, u32, u32)) -> Generation {
+    let (seed, docs, queries) = numbers;
+    Generation {
+        seed,
+        docs,
+        queries,
+    }
+}
+
 #[test]
-fn commands_are_read(rt: HostRuntime) -> Result<(), Fail> {
+fn runs_are_read(rt: HostRuntime) -> Result<(), Fail> {
     for (line, numbers, stop_at) in RUNS {
         let command = Command::Run(settings(*numbers, *stop_at));
-        assert_eq!(rt; read(rt.alloc(), line)?, Some(command), "at {line}");
+        check(&rt, rt.alloc(), line, Some(command))?;
     }
-    for (line, (seed, docs, queries), numbers, stop_at) in GENERATIONS {
-        let generation = Generation {
-            seed: *seed,
-            docs: *docs,
-            queries: *queries,
-        };
-        let command = Command::Generate(generation, settings(*numbers, *stop_at));
-        assert_eq!(rt; read(rt.alloc(), line)?, Some(command), "at {line}");
+    Ok(())
+}
+
+#[test]
+fn generations_are_read(rt: HostRuntime) -> Result<(), Fail> {
+    for (line, made, numbers, stop_at) in GENERATIONS {
+        let command = Command::Generate(generation(*made), settings(*numbers, *stop_at));
+        check(&rt, rt.alloc(), line, Some(command))?;
     }
     Ok(())
 }
@@ -192,12 +213,12 @@ fn commands_are_read(rt: HostRuntime) -> Result<(), Fail> {
 #[test]
 fn other_words_are_refused(rt: HostRuntime) -> Result<(), Fail> {
     for line in REFUSED {
-        assert_eq!(rt; read(rt.alloc(), line)?, None, "at {line}");
+        check(&rt, rt.alloc(), line, None)?;
     }
     Ok(())
 }
 
 #[test]
 fn no_words_are_refused(rt: HostRuntime) {
-    assert_eq!(rt; read_command(&[]), None);
+    same(&rt, read_command(&[]), None);
 }

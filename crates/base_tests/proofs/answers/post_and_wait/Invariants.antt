@@ -1,4 +1,4 @@
-use Rattle.std.proofs.Common.{◌≡◌, ◌≤◌, length}
+use Rattle.std.proofs.Common.{◌≡◌}
 use Rattle.base_tests.specs.declared.note.Note.{Note}
 use Rattle.base_tests.specs.Posts.{AllOn, of_tests}
 use Rattle.base_tests.proofs.answers.post_and_wait.Given as goal
@@ -7,6 +7,5 @@ abbrev pub invariant-loop-id : goal.invariant-loop-id
 invariant-loop-id g l = record {
   queue : l.poster.queue ≡ l.initial.poster.queue;
   number : l.poster.number ≡ l.initial.poster.number;
-  few : length l.poster.sent ≤ l.id-counter;
   posts : AllOn (λ (note : Note). note.0.exec) of_tests l.poster;
 }

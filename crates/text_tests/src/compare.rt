@@ -1,0 +1,22 @@
+// Comparisons. A test compares by these, since each assertion that a body makes of its own makes that body dearer to prove.
+use std::fmt::Debug;
+use std::process::Abort;
+
+pub(crate) fn same<T: PartialEq + Debug + Drop, R: Abort>(rt: &R, found: T, expected: T) {
+    assert_eq!(rt; found, expected);
+}
+
+// Two values of this line of words.
+pub(crate) fn same_of<T: PartialEq + Debug + Drop, R: Abort>(
+    rt: &R,
+    of: &str,
+    found: T,
+    expected: T,
+) {
+    assert_eq!(rt; found, expected, "{of}");
+}
+
+// What was written, and what had to be.
+pub(crate) fn same_text<R: Abort>(rt: &R, found: &[u8], wanted: &str) {
+    assert_eq!(rt; found, wanted.as_bytes(), "{wanted}");
+}
