@@ -113,29 +113,7 @@ fn refused<J: Numbered, R: Abort>(rt: &R, job: J, id: u64) -> ! {
     rt.panic("memory")
 }
 
-// Adds a task, for which there has to be memory, and gives the two numbers of its ticket.
-fn add_one<J: Numbered, R: Abort + Wait>(
-    rt: &R,
-    pool: &Pool<J>,
-    keep: &KeepAlive,
-    pass: &mut PoolPass<J>,
-    priority: i8,
-    id: u64,
-) -> (u32, u64)
-    requires keep { keep.now.count ≡ pool.now.count }
-    requires pass { pass.old.pool ≡ pool.now.id }
-    requires exec { pool.now.exec.0 ≡ 7 }
-    requires room { length (adds_of pass.old) < 100000 }
-    ensures pass { (pass.new.pool ≡ pass.old.pool) × (pass.new.number ≡ pass.old.number) }
-    ensures one { length (adds_of pass.new) ≡ length (adds_of pass.old) + 1 }
-{
-    match pool.add(rt, keep, pass, priority, J::of(id)) {
-        Ok(ticket) => (ticket.adder, ticket.index),
-        Err(Refused::Memory(job)) => refused(rt, job, id),
-    }
-}
-
-// Adds a task, which gets the ticket of the one adder with this index.
+// Adds a task, for which there has to be memory. It gets the ticket of the one adder with this index.
 fn add<J: Numbered, R: Abort + Wait>(
     rt: &R,
     pool: &Pool<J>,
@@ -152,7 +130,10 @@ fn add<J: Numbered, R: Abort + Wait>(
     ensures pass { (pass.new.pool ≡ pass.old.pool) × (pass.new.number ≡ pass.old.number) }
     ensures one { length (adds_of pass.new) ≡ length (adds_of pass.old) + 1 }
 {
-    same(rt, add_one(rt, pool, keep, pass, priority, id), (0, index));
+    match pool.add(rt, keep, pass, priority, J::of(id)) {
+        Ok(ticket) => same(rt, (ticket.adder, ticket.index), (0, index)),
+        Err(Refused::Memory(job)) => refused(rt, job, id),
+    }
 }
 
 // Adds the first tasks of a pass, each with its priority and id. (A loop, since each add in a row of calls makes the next one dearer to prove.)
@@ -175,22 +156,16 @@ fn add_rows<J: Numbered, R: Abort + Wait>(
     }
 }
 
-// Adds a thousand tasks, half of them to the middle queue and half to the highest.
-fn add_thousand<J: Numbered, R: Abort + Wait>(
-    rt: &R,
-    pool: &Pool<J>,
-    keep: &KeepAlive,
-    pass: &mut PoolPass<J>,
-)
-    requires keep { keep.now.count ≡ pool.now.count }
-    requires pass { (pass.old.pool ≡ pool.now.id) × (adds_of pass.old ≡ []) }
-    requires exec { pool.now.exec.0 ≡ 7 }
-    ensures { pass.new.pool ≡ pass.old.pool }
+// A thousand rows, half of them for the middle queue and half for the highest.
+fn thousand_rows<R: Abort>(rt: &R, alloc: Global) -> Vec<(i8, u64)>
+    ensures { length result.items ≤ 1000 }
 {
+    let mut rows = Vec::new(alloc);
     for id in 0..1000 {
         let priority = if id % 2 == 0 { 0 } else { 127 };
-        add(rt, pool, keep, pass, priority, id, id);
+        rows.push((priority, id)).expect(rt, "memory");
     }
+    rows
 }
 
 // A list of one.
@@ -200,34 +175,6 @@ fn list_of<X, R: Abort>(rt: &R, alloc: Global, item: X) -> Vec<X>
     let mut list = Vec::with_capacity(alloc, 1).expect(rt, "memory");
     list.push_reserved(item);
     list
-}
-
-// The one pass of a pool with one adder.
-fn all_passes<J: Headed, R: Abort>(
-    rt: &R,
-    alloc: Global,
-    pool: &Pool<J>,
-    pass: PoolPass<J>,
-) -> Vec<PoolPass<J>>
-    requires pass { pass.pool ≡ pool.now.id }
-    requires one { pool.now.adders ≡ 1 }
-    ensures { AreAllPasses pool.now.id pool.now.adders result.items }
-{
-    list_of(rt, alloc, pass)
-}
-
-// The one end of a pool with one worker.
-fn all_ends<J: Headed, R: Abort>(
-    rt: &R,
-    alloc: Global,
-    pool: &Pool<J>,
-    end: WorkerEnd<J>,
-) -> Vec<WorkerEnd<J>>
-    requires end { end.pool ≡ pool.now.id }
-    requires one { pool.now.workers ≡ 1 }
-    ensures { AreAllEnds pool.now.id pool.now.workers result.items }
-{
-    list_of(rt, alloc, end)
 }
 
 // Lets the keep-alive go, and begins to join. (Tests call the pool by such functions, which tell them no more than they need.)
@@ -246,8 +193,7 @@ fn begin_to_join<J: Headed, R: Abort + Wait>(
     ensures pool { result.pool ≡ pool.now.id }
 {
     let _ = keep.release();
-    let passes = all_passes(rt, alloc, pool, pass);
-    pool.begin_join(rt, owner, passes)
+    pool.begin_join(rt, owner, list_of(rt, alloc, pass))
 }
 
 // Lets the keep-alive go, and begins to stop.
@@ -266,8 +212,7 @@ fn begin_to_stop<J: Headed, R: Abort + Wait>(
     ensures pool { result.pool ≡ pool.now.id }
 {
     let _ = keep.release();
-    let passes = all_passes(rt, alloc, pool, pass);
-    pool.begin_stop(rt, owner, passes)
+    pool.begin_stop(rt, owner, list_of(rt, alloc, pass))
 }
 
 // Works with the one worker of a pool.
@@ -283,7 +228,7 @@ fn work_at<J: Job<Vec<u64>>, R: Abort + Wait>(
     ensures { AreAllEnds pool.now.id pool.now.workers result.items }
 {
     let end = pool.work(rt, only_worker(rt, pool, workers), world, &OpenGate);
-    all_ends(rt, alloc, pool, end)
+    list_of(rt, alloc, end)
 }
 
 // What is left of a pool that is joined: the records of all of its tasks, which are so many, and nothing that is handed back.
@@ -337,21 +282,21 @@ fn some_ran<J: Headed, R: Abort>(rt: &R, end: PoolEnd<J>, tasks: usize) -> (Runs
     (ran, returned)
 }
 
-// Stops a pool that has no helpers, and has accepted so many tasks.
+// Stops a pool that has accepted so many tasks.
 fn end_stop<J: Headed, R: Abort + Wait>(
     rt: &R,
-    alloc: Global,
     pool: Pool<J>,
     stopping: Stopping<J>,
     ends: Vec<WorkerEnd<J>>,
+    helped: Vec<HelperEnd<J>>,
     tasks: usize,
 ) -> (Runs, Returned<J>)
     requires pool { stopping.pool ≡ pool.id }
     requires passes { AreAllPasses pool.id pool.adders stopping.passes }
     requires ends { AreAllEnds pool.id pool.workers ends.items }
-    requires helpers { pool.helpers ≡ 0 }
+    requires helped { AreAllEnds pool.id pool.helpers helped.items }
 {
-    some_ran(rt, pool.stop(rt, stopping, ends, Vec::new(alloc)), tasks)
+    some_ran(rt, pool.stop(rt, stopping, ends, helped), tasks)
 }
 
 // The ids of the records, in order, and how many there are.
@@ -364,14 +309,22 @@ fn ids<R: Abort>(rt: &R, alloc: Global, mut ran: Runs) -> Vec<u64> {
     ids
 }
 
-// The one item of a list. Its type is a parameter, so that this is proved without what a pass is.
-fn only_of<X, R: Abort>(rt: &R, mut list: Vec<X>) -> X
-    requires { length list.items ≡ 1 }
-    ensures { list.items ≡ result ∷ [] }
+// The last item of a list, which is taken. Its type is a parameter, so that this is proved without what a pass is.
+fn last_of<X, R: Abort>(rt: &R, list: &mut Vec<X>) -> X
+    ensures { list.old.items ≡ list.new.items ++ result ∷ [] }
 {
     let Some(item) = list.pop() else {
         rt.panic("an item")
     };
+    item
+}
+
+// The one item of a list.
+fn only_of<X, R: Abort>(rt: &R, mut list: Vec<X>) -> X
+    requires { length list.items ≡ 1 }
+    ensures { list.items ≡ result ∷ [] }
+{
+    let item = last_of(rt, &mut list);
     list.destroy_empty();
     item
 }
@@ -385,36 +338,15 @@ fn only_pass<J: Headed, R: Abort>(rt: &R, adders: Vec<PoolPass<J>>) -> PoolPass<
     only_of(rt, adders)
 }
 
-// The workers' passes of a new pool, which are so many.
-fn workers_of<J: Headed, R: Abort>(
-    rt: &R,
-    workers: Vec<WorkerPass<J>>,
-    count: u32,
-) -> Vec<WorkerPass<J>>
-    ensures all { (id : PoolId) → workers.items ≡ new_workers id 0 count → All (λ w. w.pool ≡ id) result.items }
-    ensures count { length result.items ≡ count }
+// A list of so many items.
+fn so_many<X, R: Abort>(rt: &R, list: Vec<X>, count: u32) -> Vec<X>
+    ensures { (result ≡ list) × (length result.items ≡ count) }
 {
-    new_passes_are_unused();
-    assert!(rt; workers.len() == count as usize);
-    workers
-}
-
-// The helpers' passes of a new pool with so many workers, which are so many.
-fn helpers_of<J: Headed, R: Abort>(
-    rt: &R,
-    helpers: Vec<HelperPass<J>>,
-    count: u32,
-) -> Vec<HelperPass<J>>
-    ensures all { (id : PoolId) (workers : ℕ) → helpers.items ≡ new_ends id workers count → All (λ h. h.pool ≡ id) result.items }
-    ensures count { length result.items ≡ count }
-{
-    new_passes_are_unused();
-    assert!(rt; helpers.len() == count as usize);
-    helpers
+    assert!(rt; list.len() == count as usize);
+    list
 }
 
 // The last of the workers' passes.
-#[tactic(auto, using(crate::proofs::Lists::popped))]
 fn next_worker<J: Headed, R: Abort>(
     rt: &R,
     pool: &Pool<J>,
@@ -426,10 +358,7 @@ fn next_worker<J: Headed, R: Abort>(
     ensures one { length workers.old.items ≡ length workers.new.items + 1 }
 {
     let _ = pool;
-    if let Some(worker) = workers.pop() {
-        return worker;
-    }
-    rt.panic("a pass")
+    last_of(rt, workers)
 }
 
 // The one worker's pass.
@@ -496,8 +425,9 @@ fn open_pool<J: Headed, R: Abort>(rt: &R, alloc: Global, workers: u32, helpers: 
         helpers: helps,
     } = Pool::new(alloc, ExecId(7), 3, 1, workers, helpers, 0).expect(rt, "memory");
     let pass = only_pass(rt, adders);
-    let works = workers_of(rt, works, workers);
-    let helps = helpers_of(rt, helps, helpers);
+    let works = so_many(rt, works, workers);
+    let helps = so_many(rt, helps, helpers);
+    new_passes_are_unused();
     Opened {
         pool,
         adding: Adding { owner, keep, pass },
@@ -536,50 +466,6 @@ fn add_and_join<J: Numbered, R: Abort + Wait>(
     begin_to_join(rt, alloc, pool, owner, keep, pass)
 }
 
-// Adds tasks to a pool, lets the keep-alive go, and begins to stop.
-fn add_and_halt<J: Numbered, R: Abort + Wait>(
-    rt: &R,
-    alloc: Global,
-    pool: &Pool<J>,
-    adding: Adding<J>,
-    rows: &[(i8, u64)],
-) -> Stopping<J>
-    requires keeps { (adding.owner.count ≡ pool.now.count) × (adding.keep.count ≡ pool.now.count) }
-    requires pass { (adding.pass.pool ≡ pool.now.id) × (adds_of adding.pass ≡ []) }
-    requires one { (pool.now.adders ≡ 1) × (pool.now.exec.0 ≡ 7) }
-    requires few { length rows.now ≤ 1000 }
-    ensures passes { AreAllPasses pool.now.id pool.now.adders result.passes }
-    ensures pool { result.pool ≡ pool.now.id }
-{
-    let Adding {
-        owner,
-        keep,
-        mut pass,
-    } = adding;
-    add_rows(rt, pool, &keep, &mut pass, rows);
-    begin_to_stop(rt, alloc, pool, owner, keep, pass)
-}
-
-// Works with the one worker of a pool, and joins it.
-fn work_and_join<J: Numbered, R: Abort + Wait>(
-    rt: &R,
-    alloc: Global,
-    pool: Pool<J>,
-    joining: Joining<J>,
-    workers: Vec<WorkerPass<J>>,
-    world: &mut Vec<u64>,
-    tasks: usize,
-) -> Runs
-    requires pool { joining.pool ≡ pool.id }
-    requires passes { AreAllPasses pool.id pool.adders joining.passes }
-    requires workers { All (λ w. w.pool ≡ pool.id) workers.items }
-    requires one { (length workers.items ≡ 1) × (pool.workers ≡ 1) }
-    requires helpers { pool.helpers ≡ 0 }
-{
-    let ends = work_at(rt, alloc, &pool, workers, world);
-    end_join(rt, alloc, pool, joining, ends, world, tasks)
-}
-
 // Adds tasks, joins, and works. The tasks have to run in this order, and each has to have its record.
 fn run_rows<J: Numbered, R: Abort + Wait>(
     rt: &R,
@@ -598,7 +484,8 @@ fn run_rows<J: Numbered, R: Abort + Wait>(
     helpers.destroy_empty();
     let joining = add_and_join(rt, alloc, &pool, adding, rows);
     let mut world = Vec::new(alloc);
-    let ran = work_and_join(rt, alloc, pool, joining, workers, &mut world, rows.len());
+    let ends = work_at(rt, alloc, &pool, workers, &mut world);
+    let ran = end_join(rt, alloc, pool, joining, ends, &mut world, rows.len());
     check_list(rt, ids(rt, alloc, ran), expected);
     check_list(rt, world, expected);
 }
@@ -614,29 +501,7 @@ fn an_empty_pool_ends(rt: HostRuntime) {
     run_rows::<Note, HostRuntime>(&rt, rt.alloc(), &[], &[]);
 }
 
-// Works with the one worker of a pool, and stops it. None of its tasks ran, and all of them come back.
-fn work_and_stop<J: Job<Vec<u64>>, R: Abort + Wait>(
-    rt: &R,
-    alloc: Global,
-    pool: Pool<J>,
-    stopping: Stopping<J>,
-    workers: Vec<WorkerPass<J>>,
-    tasks: usize,
-) -> Returned<J>
-    requires pool { stopping.pool ≡ pool.id }
-    requires passes { AreAllPasses pool.id pool.adders stopping.passes }
-    requires workers { All (λ w. w.pool ≡ pool.id) workers.items }
-    requires one { (length workers.items ≡ 1) × (pool.workers ≡ 1) }
-    requires helpers { pool.helpers ≡ 0 }
-{
-    let mut world = Vec::new(alloc);
-    let ends = work_at(rt, alloc, &pool, workers, &mut world);
-    let (ran, returned) = end_stop(rt, alloc, pool, stopping, ends, tasks);
-    same(rt, (ran.len(), returned.len(), world.len()), (0, tasks, 0));
-    returned
-}
-
-// Stops a pool with two tasks, and hands out what comes back.
+// Stops a pool with two tasks before its worker works. None of them ran, and both come back.
 fn stop_two<J: Numbered, R: Abort + Wait>(rt: &R, alloc: Global) -> Returned<J> {
     let Opened {
         pool,
@@ -645,8 +510,18 @@ fn stop_two<J: Numbered, R: Abort + Wait>(rt: &R, alloc: Global) -> Returned<J> 
         helpers,
     } = open_pool::<J, R>(rt, alloc, 1, 0);
     helpers.destroy_empty();
-    let stopping = add_and_halt(rt, alloc, &pool, adding, &[(0, 20), (0, 21)]);
-    work_and_stop(rt, alloc, pool, stopping, workers, 2)
+    let Adding {
+        owner,
+        keep,
+        mut pass,
+    } = adding;
+    add_rows(rt, &pool, &keep, &mut pass, &[(0, 20), (0, 21)]);
+    let stopping = begin_to_stop(rt, alloc, &pool, owner, keep, pass);
+    let mut world = Vec::new(alloc);
+    let ends = work_at(rt, alloc, &pool, workers, &mut world);
+    let (ran, returned) = end_stop(rt, pool, stopping, ends, Vec::new(alloc), 2);
+    same(rt, (ran.len(), returned.len(), world.len()), (0, 2, 0));
+    returned
 }
 
 // The job that comes back first.
@@ -698,28 +573,6 @@ fn a_stopped_pool_hands_its_tasks_back(rt: HostRuntime) {
     run_what_comes_back::<Note, HostRuntime>(&rt, rt.alloc());
 }
 
-// Adds a thousand tasks, half of them to the middle queue and half to the highest, lets the keep-alive go, and begins to join.
-fn add_and_begin_join<J: Numbered, R: Abort + Wait>(
-    rt: &R,
-    alloc: Global,
-    pool: &Pool<J>,
-    adding: Adding<J>,
-) -> Joining<J>
-    requires keeps { (adding.owner.count ≡ pool.now.count) × (adding.keep.count ≡ pool.now.count) }
-    requires pass { (adding.pass.pool ≡ pool.now.id) × (adds_of adding.pass ≡ []) }
-    requires one { (pool.now.adders ≡ 1) × (pool.now.exec.0 ≡ 7) }
-    ensures passes { AreAllPasses pool.now.id pool.now.adders result.passes }
-    ensures pool { result.pool ≡ pool.now.id }
-{
-    let Adding {
-        owner,
-        keep,
-        mut pass,
-    } = adding;
-    add_thousand(rt, pool, &keep, &mut pass);
-    begin_to_join(rt, alloc, pool, owner, keep, pass)
-}
-
 // In a parcel a pass or an end can go into a closure.
 fn wrapped<X, R: Abort>(rt: &R, alloc: Global, value: X) -> Parcel<X>
     ensures { result ≡ value }
@@ -730,25 +583,13 @@ fn wrapped<X, R: Abort>(rt: &R, alloc: Global, value: X) -> Parcel<X>
     }
 }
 
-// Whether each id below a thousand stands here once.
-fn each_once<R: Abort>(rt: &R, alloc: Global, ids: &[u64]) -> bool {
-    let mut counts = vec![in alloc; 0u64; 1000].expect(rt, "memory");
-    for id in ids {
-        let place = *id as usize;
-        assert!(rt; place < counts.len());
-        counts[place] = counts[place].saturating_add(1);
+// Each id below a thousand has to stand here once: in order they are 0, 1, 2, and so on.
+fn check_once<R: Abort>(rt: &R, mut ids: Vec<u64>) {
+    ids.sort_unstable();
+    same(rt, ids.len(), 1000);
+    for index in 0..ids.len() {
+        same(rt, ids[index], index as u64);
     }
-    for count in &counts {
-        if *count != 1 {
-            return false;
-        }
-    }
-    true
-}
-
-// Each id below a thousand has to stand here once.
-fn check_once<R: Abort>(rt: &R, alloc: Global, ids: Vec<u64>) {
-    assert!(rt; each_once(rt, alloc, ids.as_slice()));
 }
 
 // All ends of a pool with four workers.

@@ -1,5 +1,5 @@
 // Jobs that may be neither copied nor dropped, with a helper beside the worker.
-ghost use Rattle.std.specs.Prelude.{◌≡◌, ◌⊎◌, ◌∷◌, ◌++◌, []};
+ghost use Rattle.std.specs.Prelude.{◌≡◌, ◌⊎◌, ◌∷◌, ◌++◌, [], All, length};
 ghost use Rattle.pool_model.specs.Passes.{AreAllPasses, AreAllEnds, adds_of};
 
 use super::*;
@@ -46,32 +46,6 @@ impl Numbered for Kept {
     }
 }
 
-fn only_helped<J: Headed, R: Abort>(
-    rt: &R,
-    alloc: Global,
-    pool: &Pool<J>,
-    end: HelperEnd<J>,
-) -> Vec<HelperEnd<J>>
-    requires end { end.pool ≡ pool.now.id }
-    requires one { pool.now.helpers ≡ 1 }
-    ensures { AreAllEnds pool.now.id pool.now.helpers result.items }
-{
-    list_of(rt, alloc, end)
-}
-
-fn work_kept<J: Job<Vec<u64>>, R: Abort + Wait>(
-    rt: &R,
-    alloc: Global,
-    pool: &Pool<J>,
-    pass: WorkerPass<J>,
-) -> WorkerEnd<J>
-    requires { pass.pool ≡ pool.now.id }
-    ensures { result.pool ≡ pool.now.id }
-{
-    let mut world = Vec::new(alloc);
-    pool.work(rt, pass, &mut world, &OpenGate)
-}
-
 // Helps once, and says whether a job ran. Its world grows by that.
 fn help_once<J: Job<Vec<u64>>, R: Abort + Wait>(
     rt: &R,
@@ -89,20 +63,6 @@ fn help_once<J: Job<Vec<u64>>, R: Abort + Wait>(
     };
     same(rt, world.len().saturating_sub(before), usize::from(ran));
     ran
-}
-
-// Helps once, where it is known whether a job waits.
-fn check_help<J: Job<Vec<u64>>, R: Abort + Wait>(
-    rt: &R,
-    pool: &Pool<J>,
-    helper: &mut HelperPass<J>,
-    world: &mut Vec<u64>,
-    waits: bool,
-)
-    requires { helper.old.pool ≡ pool.now.id }
-    ensures { helper.new.pool ≡ helper.old.pool }
-{
-    same(rt, help_once(rt, pool, helper, world), waits);
 }
 
 // Adds a thousand jobs and helps after each, lets the keep-alive go, and begins to join.
@@ -144,15 +104,16 @@ fn a_helper_beside_a_worker(rt: HostRuntime) {
         workers,
         helpers,
     } = open_pool::<Kept, HostRuntime>(&rt, alloc, 1, 1);
-    let worker = wrapped(&rt, alloc, only_worker(&rt, &pool, workers));
+    let passes = wrapped(&rt, alloc, workers);
     let helper = wrapped(&rt, alloc, only_helper(&rt, &pool, helpers));
     let adding = wrapped(&rt, alloc, adding);
     let shared = &pool;
-    let (end, (joining, helped)) = join(
+    let (ends, (joining, helped)) = join(
         &rt,
         move ||
-            requires { worker.pool ≡ shared.now.id }
-        { work_kept(&rt, alloc, shared, worker.open()) },
+            requires passes { All (λ w. w.pool ≡ shared.now.id) passes.items }
+            requires one { (length passes.items ≡ 1) × (shared.now.workers ≡ 1) }
+        { work_at(&rt, alloc, shared, passes.open(), &mut Vec::new(alloc)) },
         move ||
             requires keeps { (adding.owner.count ≡ shared.now.count) × (adding.keep.count ≡ shared.now.count) }
             requires pass { (adding.pass.pool ≡ shared.now.id) × (adds_of adding.pass ≡ []) }
@@ -160,33 +121,10 @@ fn a_helper_beside_a_worker(rt: HostRuntime) {
             requires one { (shared.now.adders ≡ 1) × (shared.now.exec.0 ≡ 7) }
         { add_and_help(&rt, alloc, shared, adding.open(), helper.open()) },
     );
-    let ends = all_ends(&rt, alloc, &pool, end);
-    let helped = only_helped(&rt, alloc, &pool, helped);
+    let helped = list_of(&rt, alloc, helped);
     let mut world = Vec::new(alloc);
     let ran = all_ran(&rt, pool.join(&rt, joining, ends, helped, &mut world), 1000);
-    check_once(&rt, alloc, ids(&rt, alloc, ran));
-}
-
-// Stops a pool with a worker and a helper. Of four jobs one ran, and three come back.
-fn end_stopped<J: Headed, R: Abort + Wait>(
-    rt: &R,
-    alloc: Global,
-    pool: Pool<J>,
-    stopping: Stopping<J>,
-    end: WorkerEnd<J>,
-    helped: HelperEnd<J>,
-) -> Returned<J>
-    requires pool { stopping.pool ≡ pool.id }
-    requires passes { AreAllPasses pool.id pool.adders stopping.passes }
-    requires end { end.pool ≡ pool.id }
-    requires helped { helped.pool ≡ pool.id }
-    requires one { (pool.workers ≡ 1) × (pool.helpers ≡ 1) }
-{
-    let ends = all_ends(rt, alloc, &pool, end);
-    let helped = only_helped(rt, alloc, &pool, helped);
-    let (ran, returned) = some_ran(rt, pool.stop(rt, stopping, ends, helped), 4);
-    same(rt, (ran.len(), returned.len()), (1, 3));
-    returned
+    check_once(&rt, ids(&rt, alloc, ran));
 }
 
 // Helps where there is no job, adds four, and helps with the first.
@@ -205,9 +143,9 @@ fn help_beside_four<J: Numbered, R: Abort + Wait>(
     ensures pass { pass.new.pool ≡ pass.old.pool }
     ensures helper { helper.new.pool ≡ helper.old.pool }
 {
-    check_help(rt, pool, helper, world, false);
+    same(rt, help_once(rt, pool, helper, world), false);
     add_rows(rt, pool, keep, pass, &[(0, 0), (0, 1), (0, 2), (0, 3)]);
-    check_help(rt, pool, helper, world, true);
+    same(rt, help_once(rt, pool, helper, world), true);
 }
 
 // Adds four jobs, of which the helper runs one, and stops. Three come back.
@@ -230,8 +168,11 @@ fn stop_four<J: Numbered, R: Abort + Wait>(
     } = adding;
     help_beside_four(rt, &pool, &keep, &mut pass, &mut helper, world);
     let stopping = begin_to_stop(rt, alloc, &pool, owner, keep, pass);
-    let end = work_kept(rt, alloc, &pool, only_worker(rt, &pool, workers));
-    end_stopped(rt, alloc, pool, stopping, end, helper.end())
+    let ends = work_at(rt, alloc, &pool, workers, &mut Vec::new(alloc));
+    let helped = list_of(rt, alloc, helper.end());
+    let (ran, returned) = end_stop(rt, pool, stopping, ends, helped, 4);
+    same(rt, (ran.len(), returned.len()), (1, 3));
+    returned
 }
 
 // Compares the ids of the jobs that come back, which are taken apart.

@@ -1,5 +1,5 @@
 // Four workers on threads of their own, between the calls of a gate that counts, beside one that adds, helps and ends the pool.
-ghost use Rattle.std.specs.Prelude.{◌≡◌, ◌+◌, ◌≤◌, [], All, IfSome, Some, None, length};
+ghost use Rattle.std.specs.Prelude.{◌≡◌, ◌+◌, ◌≤◌, [], All, IfSome, IfOk, IfErr, Some, None, length};
 ghost use Rattle.pool_model.specs.Passes.{AreAllPasses, AreAllEnds, adds_of};
 
 use super::*;
@@ -85,13 +85,16 @@ impl Gate for CountGate {
     }
 }
 
-// A worker: its pass, and its end once it has worked.
-struct Slot {
-    pass: Option<WorkerPass<Note>>,
-    end: Option<WorkerEnd<Note>>,
+// A worker: its pass, and its end once it has worked. Their types are parameters, so that what needs neither is proved without them.
+struct Slot<P, E> {
+    pass: Option<P>,
+    end: Option<E>,
 }
 
-impl Slot {
+// A worker of a pool.
+type Worker = Slot<WorkerPass<Note>, WorkerEnd<Note>>;
+
+impl Slot<WorkerPass<Note>, WorkerEnd<Note>> {
     // Works with a world of its own, between the calls of the gate.
     fn work<R: Wait>(&mut self, rt: &R, alloc: Global, pool: &Pool<Note>, gate: &CountGate)
         requires pass { IfSome self.old.pass (λ p. p.pool ≡ pool.now.id) }
@@ -104,9 +107,11 @@ impl Slot {
             self.end = Some(pool.work(rt, pass, &mut world, gate));
         }
     }
+}
 
+impl<P, E> Slot<P, E> {
     // Its end, once it has worked.
-    fn end<R: Abort>(self, rt: &R) -> WorkerEnd<Note>
+    fn end<R: Abort>(self, rt: &R) -> E
         ensures { self.end ≡ Some result }
     {
         let Slot { pass, end } = self;
@@ -118,7 +123,7 @@ impl Slot {
     }
 }
 
-fn new_slot(pass: WorkerPass<Note>) -> Slot
+fn new_slot<P, E>(pass: P) -> Slot<P, E>
     ensures { (result.pass ≡ Some pass) × (result.end ≡ None) }
 {
     Slot {
@@ -133,7 +138,7 @@ fn four_slots<R: Abort>(
     alloc: Global,
     pool: &Pool<Note>,
     mut passes: Vec<WorkerPass<Note>>,
-) -> Vec<Slot>
+) -> Vec<Worker>
     requires passes { All (λ w. w.pool ≡ pool.now.id) passes.items }
     requires four { length passes.items ≡ 4 }
     ensures passes { All (λ s. IfSome s.pass (λ p. p.pool ≡ pool.now.id)) result.items }
@@ -155,7 +160,7 @@ fn all_work<R: Wait + Threads + Sync>(
     alloc: Global,
     pool: &Pool<Note>,
     gate: &CountGate,
-    slots: &mut Vec<Slot>,
+    slots: &mut Vec<Worker>,
 )
     requires passes { All (λ s. IfSome s.pass (λ p. p.pool ≡ pool.now.id)) slots.old.items }
     requires ends { All (λ s. IfSome s.end (λ e. e.pool ≡ pool.now.id)) slots.old.items }
@@ -175,18 +180,14 @@ fn all_work<R: Wait + Threads + Sync>(
 }
 
 // The end of the last of them.
-#[tactic(auto, using(crate::proofs::Lists::popped))]
-fn next_end<R: Abort>(rt: &R, pool: &Pool<Note>, slots: &mut Vec<Slot>) -> WorkerEnd<Note>
+fn next_end<R: Abort>(rt: &R, pool: &Pool<Note>, slots: &mut Vec<Worker>) -> WorkerEnd<Note>
     requires { All (λ s. IfSome s.end (λ e. e.pool ≡ pool.now.id)) slots.old.items }
     ensures end { result.pool ≡ pool.now.id }
     ensures rest { All (λ s. IfSome s.end (λ e. e.pool ≡ pool.now.id)) slots.new.items }
     ensures one { length slots.old.items ≡ length slots.new.items + 1 }
 {
     let _ = pool;
-    if let Some(slot) = slots.pop() {
-        return slot.end(rt);
-    }
-    rt.panic("a worker")
+    last_of(rt, slots).end(rt)
 }
 
 // Four workers work, each on a thread of its own.
@@ -267,34 +268,6 @@ fn add_in_groups<J: Numbered, R: Abort + Wait>(
     begin_to_join(rt, alloc, pool, owner, keep, pass)
 }
 
-// Adds a thousand tasks, waits until so many have begun where the gate holds any, begins to stop, and then opens the gate.
-fn add_and_stop<J: Numbered, R: Abort + Wait>(
-    rt: &R,
-    alloc: Global,
-    pool: &Pool<J>,
-    gate: &CountGate,
-    adding: Adding<J>,
-) -> Stopping<J>
-    requires keeps { (adding.owner.count ≡ pool.now.count) × (adding.keep.count ≡ pool.now.count) }
-    requires pass { (adding.pass.pool ≡ pool.now.id) × (adds_of adding.pass ≡ []) }
-    requires one { (pool.now.adders ≡ 1) × (pool.now.exec.0 ≡ 7) }
-    ensures passes { AreAllPasses pool.now.id pool.now.adders result.passes }
-    ensures pool { result.pool ≡ pool.now.id }
-{
-    let Adding {
-        owner,
-        keep,
-        mut pass,
-    } = adding;
-    add_thousand(rt, pool, &keep, &mut pass);
-    if gate.most < u64::MAX {
-        await_count(&gate.begun, gate.most.saturating_add(4));
-    }
-    let stopping = begin_to_stop(rt, alloc, pool, owner, keep, pass);
-    gate.opened.store(1, Ordering::SeqCst);
-    stopping
-}
-
 // Joins the pool, whose workers have left no task to it. Each of so many tasks has to have a record, and both calls of the gate.
 fn end_joined<J: Numbered, R: Abort + Wait>(
     rt: &R,
@@ -328,71 +301,14 @@ fn four_workers_run_a_thousand_tasks(rt: HostRuntime) {
     } = open_pool::<Note, HostRuntime>(&rt, alloc, 4, 0);
     helpers.destroy_empty();
     let counts = CountGate::new(&rt, alloc, u64::MAX, 1000);
-    let joining = add_and_begin_join(&rt, alloc, &pool, adding);
+    let rows = thousand_rows(&rt, alloc);
+    let joining = add_and_join(&rt, alloc, &pool, adding, rows.as_slice());
     let ends = four_work_at(&rt, alloc, &pool, &counts, workers);
     let ran = end_joined(&rt, alloc, pool, joining, ends, &counts, 1000);
-    check_once(&rt, alloc, ids(&rt, alloc, ran));
+    check_once(&rt, ids(&rt, alloc, ran));
 }
 
-// One by one, and as a stream: groups of tasks, and how many each has.
-#[test]
-fn no_task_is_slept_through(rt: HostRuntime) {
-    let alloc = rt.alloc();
-    for (groups, size) in [(5000u64, 1u64), (20, 1000)] {
-        let Opened {
-            pool,
-            adding,
-            workers,
-            helpers,
-        } = open_pool::<Note, HostRuntime>(&rt, alloc, 4, 0);
-        helpers.destroy_empty();
-        let passes = wrapped(&rt, alloc, workers);
-        let adding = wrapped(&rt, alloc, adding);
-        let tasks = groups.saturating_mul(size);
-        let counts = CountGate::new(&rt, alloc, u64::MAX, tasks);
-        let gate = &counts;
-        let shared = &pool;
-        let (ends, joining) = join(
-            &rt,
-            move ||
-                requires passes { All (λ w. w.pool ≡ shared.now.id) passes.items }
-                requires four { (length passes.items ≡ 4) × (shared.now.workers ≡ 4) }
-            { four_work_at(&rt, alloc, shared, gate, passes.open()) },
-            move ||
-                requires keeps { (adding.owner.count ≡ shared.now.count) × (adding.keep.count ≡ shared.now.count) }
-                requires pass { (adding.pass.pool ≡ shared.now.id) × (adds_of adding.pass ≡ []) }
-                requires one { (shared.now.adders ≡ 1) × (shared.now.exec.0 ≡ 7) }
-            { add_in_groups(&rt, alloc, shared, gate, groups, size, adding.open()) },
-        );
-        let _ = end_joined(&rt, alloc, pool, joining, ends, &counts, tasks as usize);
-    }
-}
-
-// Stops the pool. Each of a thousand tickets has to have a record, with both calls of the gate, or to be handed back, once; where the gate held
-// the four, none was taken since.
-fn end_halted<J: Numbered, R: Abort + Wait>(
-    rt: &R,
-    alloc: Global,
-    pool: Pool<J>,
-    stopping: Stopping<J>,
-    ends: Vec<WorkerEnd<J>>,
-    counts: &CountGate,
-)
-    requires pool { stopping.pool ≡ pool.id }
-    requires passes { AreAllPasses pool.id pool.adders stopping.passes }
-    requires ends { AreAllEnds pool.id pool.workers ends.items }
-    requires helpers { pool.helpers ≡ 0 }
-{
-    let (ran, returned) = end_stop(rt, alloc, pool, stopping, ends, 1000);
-    let records = ran.len();
-    if counts.most == 400 {
-        same(rt, records, 404);
-    }
-    same(rt, counts.passed(), (records as u64, 0));
-    check_once(rt, alloc, indexes(rt, alloc, ran, returned));
-}
-
-// The tickets' indexes of what ran and of what was handed back. Each is of the one adder, and is the id of its task.
+// The tickets' indexes of what ran and of what was handed back.
 fn indexes<J: Numbered, R: Abort>(
     rt: &R,
     alloc: Global,
@@ -402,22 +318,19 @@ fn indexes<J: Numbered, R: Abort>(
     let mut indexes = Vec::new(alloc);
     for _ in 0..ran.len() {
         let record = ran.pop().expect(rt, "a record");
-        indexes
-            .push(index_of(rt, record.ticket(), record.job().0))
-            .expect(rt, "memory");
+        put_index(rt, &mut indexes, record.ticket(), record.job().0);
     }
     for _ in 0..returned.len() {
         let Some((ticket, job)) = returned.pop() else {
             rt.panic("a task")
         };
-        indexes
-            .push(index_of(rt, ticket, job.taken_apart()))
-            .expect(rt, "memory");
+        put_index(rt, &mut indexes, ticket, job.taken_apart());
     }
     indexes
 }
 
-fn index_of<R: Abort>(rt: &R, ticket: Ticket, id: u64) -> u64 {
+// Puts the index of a ticket behind those that are there. The ticket is of the one adder, and its index is the id of its task.
+fn put_index<R: Abort>(rt: &R, indexes: &mut Vec<u64>, ticket: Ticket, id: u64) {
     same(
         rt,
         ticket,
@@ -426,14 +339,90 @@ fn index_of<R: Abort>(rt: &R, ticket: Ticket, id: u64) -> u64 {
             index: id,
         },
     );
-    ticket.index
+    indexes.push(id).expect(rt, "memory");
 }
 
-// The gate lets 400 tasks begin, and holds each of the four workers at its next one until the stop has begun; or it holds none.
+// Adds groups of tasks, so many and each of this size, and begins to join. Or, where there are none, it adds a thousand tasks, waits
+// until so many have begun where the gate holds any, begins to stop, and then opens the gate.
+fn add_beside<J: Numbered, R: Abort + Wait>(
+    rt: &R,
+    alloc: Global,
+    pool: &Pool<J>,
+    gate: &CountGate,
+    groups: Option<(u64, u64)>,
+    adding: Adding<J>,
+) -> Result<Joining<J>, Stopping<J>>
+    requires keeps { (adding.owner.count ≡ pool.now.count) × (adding.keep.count ≡ pool.now.count) }
+    requires pass { (adding.pass.pool ≡ pool.now.id) × (adds_of adding.pass ≡ []) }
+    requires one { (pool.now.adders ≡ 1) × (pool.now.exec.0 ≡ 7) }
+    ensures joining { IfOk result (λ j. AreAllPasses pool.now.id pool.now.adders j.passes × (j.pool ≡ pool.now.id)) }
+    ensures stopping { IfErr result (λ s. AreAllPasses pool.now.id pool.now.adders s.passes × (s.pool ≡ pool.now.id)) }
+{
+    match groups {
+        Some((groups, size)) => Ok(add_in_groups(rt, alloc, pool, gate, groups, size, adding)),
+        None => {
+            let Adding {
+                owner,
+                keep,
+                mut pass,
+            } = adding;
+            let rows = thousand_rows(rt, alloc);
+            add_rows(rt, pool, &keep, &mut pass, rows.as_slice());
+            if gate.most < u64::MAX {
+                await_count(&gate.begun, gate.most.saturating_add(4));
+            }
+            let stopping = begin_to_stop(rt, alloc, pool, owner, keep, pass);
+            gate.opened.store(1, Ordering::SeqCst);
+            Err(stopping)
+        }
+    }
+}
+
+// Joins or stops the pool, as it was begun. After a stop each of so many tickets has to have a record, with both calls of the gate, or to
+// be handed back, once; where the gate held the four, none was taken since.
+fn end_begun<J: Numbered, R: Abort + Wait>(
+    rt: &R,
+    alloc: Global,
+    pool: Pool<J>,
+    begun: Result<Joining<J>, Stopping<J>>,
+    ends: Vec<WorkerEnd<J>>,
+    counts: &CountGate,
+    tasks: usize,
+)
+    requires joining { IfOk begun (λ j. AreAllPasses pool.id pool.adders j.passes × (j.pool ≡ pool.id)) }
+    requires stopping { IfErr begun (λ s. AreAllPasses pool.id pool.adders s.passes × (s.pool ≡ pool.id)) }
+    requires ends { AreAllEnds pool.id pool.workers ends.items }
+    requires helpers { pool.helpers ≡ 0 }
+{
+    match begun {
+        Ok(joining) => {
+            let _ = end_joined(rt, alloc, pool, joining, ends, counts, tasks);
+        }
+        Err(stopping) => {
+            let (ran, returned) = end_stop(rt, pool, stopping, ends, Vec::new(alloc), tasks);
+            let records = ran.len();
+            if counts.most == 400 {
+                same(rt, records, 404);
+            }
+            same(rt, counts.passed(), (records as u64, 0));
+            check_once(rt, indexes(rt, alloc, ran, returned));
+        }
+    }
+}
+
+// What is added beside the four workers, between the calls of a gate, with so many tasks in all: one by one, and as a stream, in groups
+// of a size, before a join; and a thousand before a stop, where the gate lets 400 begin, and holds each worker at its next one until the
+// stop has begun, or holds none.
 #[test]
-fn a_stop_among_a_thousand_tasks_loses_none(rt: HostRuntime) {
+fn four_workers_beside_one_that_adds_lose_no_task(rt: HostRuntime) {
     let alloc = rt.alloc();
-    for most in [400, u64::MAX] {
+    let rows = [
+        (Some((5000, 1)), u64::MAX, 5000),
+        (Some((20, 1000)), u64::MAX, 20_000),
+        (None, 400, 1000),
+        (None, u64::MAX, 1000),
+    ];
+    for (groups, most, tasks) in rows {
         let Opened {
             pool,
             adding,
@@ -443,10 +432,10 @@ fn a_stop_among_a_thousand_tasks_loses_none(rt: HostRuntime) {
         helpers.destroy_empty();
         let passes = wrapped(&rt, alloc, workers);
         let adding = wrapped(&rt, alloc, adding);
-        let counts = CountGate::new(&rt, alloc, most, 1000);
+        let counts = CountGate::new(&rt, alloc, most, tasks);
         let gate = &counts;
         let shared = &pool;
-        let (ends, stopping) = join(
+        let (ends, begun) = join(
             &rt,
             move ||
                 requires passes { All (λ w. w.pool ≡ shared.now.id) passes.items }
@@ -456,8 +445,8 @@ fn a_stop_among_a_thousand_tasks_loses_none(rt: HostRuntime) {
                 requires keeps { (adding.owner.count ≡ shared.now.count) × (adding.keep.count ≡ shared.now.count) }
                 requires pass { (adding.pass.pool ≡ shared.now.id) × (adds_of adding.pass ≡ []) }
                 requires one { (shared.now.adders ≡ 1) × (shared.now.exec.0 ≡ 7) }
-            { add_and_stop(&rt, alloc, shared, gate, adding.open()) },
+            { add_beside(&rt, alloc, shared, gate, groups, adding.open()) },
         );
-        end_halted(&rt, alloc, pool, stopping, ends, &counts);
+        end_begun(&rt, alloc, pool, begun, ends, &counts, tasks as usize);
     }
 }

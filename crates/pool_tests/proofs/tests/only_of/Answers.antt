@@ -4,7 +4,7 @@ use Rattle.pool_tests.proofs.tests.only_of.Goals as goal
 
 pub destroy_empty-requires : goal.destroy_empty-requires
 destroy_empty-requires g c =
-    omega (arith, none_left c.args.list.items c.pop.new.self.items c.in-Some.item c.in-Some.ensures.items c.requires, c.pop.new.self.ok.0)
+    omega (arith, none_left c.args.list.items c.last_of-item.new.list.items c.last_of-item.result c.last_of-item.ensures c.requires, c.last_of-item.new.list.ok.0)
 
 pub returns : goal.returns
-returns g c = one_is c.args.list.items c.pop.new.self.items c.in-Some.item c.in-Some.ensures.items c.requires
+returns g c = one_is c.args.list.items c.last_of-item.new.list.items c.last_of-item.result c.last_of-item.ensures c.requires
