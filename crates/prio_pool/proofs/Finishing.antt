@@ -23,8 +23,9 @@ use Rattle.pool_model.specs.Seen.{PoolId, PassSeen, EndSeen, Returned, at_queue,
 use Rattle.pool_model.specs.Steps.{tasks_taken}
 use Rattle.pool_model.specs.Tasks.{Task, Add, downwards, numbered}
 use Rattle.pool_runs.specs.declared.placed.Placed.{Placed}
+use Rattle.task_queue.specs.Seen.{GatheredSeen}
 use Rattle.prio_pool.specs.Ended.{CameTo, CameBack}
-use Rattle.prio_pool.specs.Gathering.{FoundAs, IsOf}
+use Rattle.prio_pool.specs.Gathering.{FoundAs, IsOf, gathered_from, AddersMore, EndsMore}
 use Rattle.pool_runs.specs.Returning.{back_from}
 use Rattle.pool_runs.specs.Running.{Drained}
 use Rattle.prio_pool.proofs.Accounting.{all_accounted, as_many_rests, ends_ran, entries_in, histories_of, tasks_back}
@@ -169,3 +170,9 @@ of_these id whole qs mark ends is all = All-weaker (λ (e : EndSeen). e.pool ≡
 -- how many the first pass and the others added is how many all of them did
 pub total_is : (passes : List PassSeen) (first : PassSeen) (rest : List PassSeen) (own others : ℕ) → passes ≡ first ∷ rest → own ≡ length (adds_of first) → others ≡ adds_total rest → own + others ≡ adds_total passes
 total_is passes first rest own others items first_is rest_is = (λ i. first_is i + rest_is i) ∙ (sym (sum_by-cons (λ (p : PassSeen). length (adds_of p)) first rest) ∙ sym (ap adds_total items))
+
+-- all passes of each queue, put together one kind behind the other
+pub put_together : (whole : ℕ) (qs : List (SegId Global)) (first : PassSeen) (others : List PassSeen) (ends helped : List EndSeen) (l0 l1 l2 l3 : List GatheredSeen) → first.pool.passes ≡ whole → l0 ≡ gathered_from first.pool.passes (first ∷ []) [] 0 qs
+    → AddersMore whole qs l0 others l1 → EndsMore whole qs l1 ends l2 → EndsMore whole qs l2 helped l3 → l3 ≡ gathered_from whole (first ∷ others) (ends ++ helped) 0 qs
+put_together whole qs first others ends helped l0 l1 l2 l3 own is more worked helps =
+    helps (first ∷ others) ends (worked (first ∷ others) [] (more (first ∷ []) [] (is ∙ ap (λ (n : ℕ). gathered_from n (first ∷ []) [] 0 qs) own)))

@@ -11,6 +11,8 @@ pub mod Merging
 pub mod Accounting
 pub mod Finishing
 pub mod Crossings
+pub mod Pushing
+pub mod Turning
 pub mod Downward
 pub mod Unused
 pub mod Sleeping

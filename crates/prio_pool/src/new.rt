@@ -8,7 +8,7 @@ use crate::listed::{adder_passes, helper_passes, more_takers, new_places, worker
 use crate::make::{Counts, Queues, open_queues};
 use crate::passes::{HelperPass, PoolPass, WorkerPass};
 use crate::pool::Pool;
-use crate::sleepers::{OwnParker, OwnWaker, Sleepers, parkers};
+use crate::sleepers::{OwnParker, OwnWaker, Sleepers, list_parkers};
 use crate::takers::Takers;
 use fan_base::{ExecId, Memory};
 use job_trait::Headed;
@@ -37,6 +37,10 @@ pub struct Size {
     pub workers: u32,
     pub helpers: u32,
 }
+
+type Keeping = (KeepOwner, KeepAlive);
+
+type Parking = (LinkedList<OwnParker>, Vec<OwnWaker>);
 
 // The room for all passes. Its types are parameters, so that what it does is proved without what passes are.
 struct Rooms<A, B, C> {
@@ -78,6 +82,32 @@ impl<A, B, C> Rooms<A, B, C> {
         adders.destroy_empty();
         workers.destroy_empty();
         helpers.destroy_empty();
+    }
+
+    // The rooms of a pool of this size, the owner of its keep-alives with the first one, which has this room, and what its workers
+    // sleep on with what wakes them.
+    fn with_keep(
+        alloc: Global,
+        size: Size,
+        room: u32,
+    ) -> Result<(Rooms<A, B, C>, Keeping, Parking), Memory>
+        requires { size.workers ≤ 64 }
+        ensures adders { IfOk result (λ r. (r.0.adders.items ≡ []) × (vec_capacity r.0.adders ≡ size.adders)) }
+        ensures workers { IfOk result (λ r. (r.0.workers.items ≡ []) × (vec_capacity r.0.workers ≡ size.workers)) }
+        ensures helpers { IfOk result (λ r. (r.0.helpers.items ≡ []) × (vec_capacity r.0.helpers ≡ size.helpers)) }
+        ensures keeping { IfOk result (λ r. r.1.1 ≡ record { count = r.1.0.count; room = room; first_room = room }) }
+        ensures parkers { IfOk result (λ r. parkers_of r.2.0 ≡ bits_from 0 size.workers) }
+        ensures wakers { IfOk result (λ r. wakers_of r.2.1.items ≡ bits_from 0 size.workers) }
+    {
+        let mut parkers = LinkedList::new(alloc);
+        let mut wakers = Vec::new(alloc);
+        list_parkers(alloc, size.workers, &mut parkers, &mut wakers)?;
+        let rooms = Rooms::new(alloc, size.adders, size.workers, size.helpers)?;
+        let Ok(keeping) = KeepOwner::new(alloc, room) else {
+            rooms.give_up();
+            return Err(Memory);
+        };
+        Ok((rooms, keeping, (parkers, wakers)))
     }
 }
 
@@ -144,8 +174,8 @@ fn assemble<J: Headed>(
     alloc: Global,
     size: Size,
     inner: Inner<J>,
-    keeping: (KeepOwner, KeepAlive),
-    parking: (LinkedList<OwnParker>, Vec<OwnWaker>),
+    keeping: Keeping,
+    parking: Parking,
     rooms: Rooms<PoolPass<J>, WorkerPass<J>, HelperPass<J>>,
 ) -> PoolParts<J>
     requires size { IsSize size }
@@ -224,14 +254,7 @@ impl<J: Headed> Pool<J> {
             helpers,
         };
         let inner = Inner::new(alloc, size)?;
-        let parking = parkers(alloc, workers)?;
-        let rooms = Rooms::new(alloc, adders, workers, helpers)?;
-        match KeepOwner::new(alloc, room) {
-            Ok(keeping) => Ok(assemble(alloc, size, inner, keeping, parking, rooms)),
-            Err(Memory) => {
-                rooms.give_up();
-                Err(Memory)
-            }
-        }
+        let (rooms, keeping, parking) = Rooms::with_keep(alloc, size, room)?;
+        Ok(assemble(alloc, size, inner, keeping, parking, rooms))
     }
 }

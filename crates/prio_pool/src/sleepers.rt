@@ -1,6 +1,6 @@
 // Who sleeps, and how one is woken for one task. That a worker wakes is not proved: contracts say which worker each waker is for,
 // and types that who added a task or began an end calls the wakers.
-ghost use Rattle.std.specs.Prelude.{◌≡◌, ◌<◌, ◌≤◌, ◌^◌, IfOk};
+ghost use Rattle.std.specs.Prelude.{◌≡◌, ◌<◌, ◌≤◌, ◌^◌, [], OnOk};
 ghost use Rattle.prio_pool.specs.Sleeping.{parkers_of, wakers_of, bits_from};
 
 use crossbeam_utils::sync::{Parker, Unparker};
@@ -30,31 +30,30 @@ pub struct OwnWaker {
     waker: Unparker,
 }
 
-// The parker of the worker with this number, and what wakes it.
-fn parker(alloc: Global, number: u32) -> Result<(OwnParker, OwnWaker), Memory>
-    requires { number < 64 }
-    ensures { IfOk result (λ p. (p.0.bit ≡ 2 ^ number) × (p.1.bit ≡ 2 ^ number)) }
+/// Lists the parkers of so many workers, and what wakes each, both in order.
+pub fn list_parkers(
+    alloc: Global,
+    count: u32,
+    parkers: &mut LinkedList<OwnParker>,
+    wakers: &mut Vec<OwnWaker>,
+) -> Result<(), Memory>
+    requires few { count ≤ 64 }
+    requires none { (parkers.old ≡ []) × (wakers.old.items ≡ []) }
+    ensures parkers { OnOk result (parkers_of parkers.new ≡ bits_from 0 count) }
+    ensures wakers { OnOk result (wakers_of wakers.new.items ≡ bits_from 0 count) }
 {
-    let parker = Parker::new(alloc)?;
-    let waker = parker.unparker().clone()?;
-    let bit = bit_of(number);
-    Ok((OwnParker { bit, parker }, OwnWaker { bit, waker }))
-}
-
-/// The parkers of so many workers, and what wakes each, both in order.
-pub fn parkers(alloc: Global, count: u32) -> Result<(LinkedList<OwnParker>, Vec<OwnWaker>), Memory>
-    requires { count ≤ 64 }
-    ensures parkers { IfOk result (λ p. parkers_of p.0 ≡ bits_from 0 count) }
-    ensures wakers { IfOk result (λ p. wakers_of p.1.items ≡ bits_from 0 count) }
-{
-    let mut parkers = LinkedList::new(alloc);
-    let mut wakers = Vec::new(alloc);
     for number in 0..count {
-        let (parker, waker) = parker(alloc, number)?;
-        parkers.push_back(parker).map_err(AllocError::from)?;
-        wakers.push(waker).map_err(AllocError::from)?;
+        let bit = bit_of(number);
+        let parker = Parker::new(alloc)?;
+        let waker = parker.unparker().clone()?;
+        wakers
+            .push(OwnWaker { bit, waker })
+            .map_err(AllocError::from)?;
+        parkers
+            .push_back(OwnParker { bit, parker })
+            .map_err(AllocError::from)?;
     }
-    Ok((parkers, wakers))
+    Ok(())
 }
 
 /// That a task was added, for which a worker is to be woken. It can't be let go: only [`Sleepers::wake_one`] takes it.

@@ -1,5 +1,6 @@
 use Rattle.std.proofs.Common.{arith}
 use Rattle.task_queue.specs.Seen.{GatheredSeen, and_adder}
+use Rattle.std.proofs.lemmas.Option.{slice_get_within}
 use Rattle.prio_pool.proofs.Gathered.{found_queue, found_changed}
 use Rattle.prio_pool.proofs.gather.put_adder_at.Goals as goal
 
@@ -12,3 +13,6 @@ pub returns : goal.returns
 returns g c =
     found_changed c.args.gathered.now.items c.args.number c.args.queue.now c.requires.at c.index_mut.result.now c.index_mut.ensures.value
     (λ (x : GatheredSeen). and_adder x c.args.adder) c.put_adder.new.gathered c.put_adder.ensures
+
+pub index_mut-requires : goal.index_mut-requires
+index_mut-requires g c = omega (arith, slice_get_within c.args.gathered.now.items c.args.number c.requires.at.one c.requires.at.at)

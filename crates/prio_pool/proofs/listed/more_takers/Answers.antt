@@ -1,8 +1,8 @@
-use Rattle.std.proofs.Common.{rules, ◌≡◌, ◌+◌, ◌-◌, [], ◌∷◌, ◌++◌, refl, ap, sym, ◌∙◌, arith}
+use Rattle.std.proofs.Common.{rules, ◌≡◌, ℕ, ◌+◌, ◌-◌, [], ◌∷◌, ◌++◌, refl, ap, sym, ◌∙◌, arith}
 use Rattle.atomic_table.specs.Seated.{TableId}
 use Rattle.pool_model.specs.Seen.{PoolId}
 use Rattle.task_queue.specs.Marks.{WatchSeen, OpenSeen}
-use Rattle.prio_pool.specs.Made.{makers_of, new_takers_seen}
+use Rattle.prio_pool.specs.Made.{makers_of, with_takers, new_takers_from, new_takers_seen}
 use Rattle.prio_pool.proofs.Listing.{one_taker_more}
 use Rattle.prio_pool.proofs.listed.more_takers.Goals as goal
 
@@ -64,3 +64,14 @@ returns-in_err-map_err-clause-seat g c = c.watch-watch.ensures.same ∙ c.loop-n
 
 pub returns-clause-seat : goal.returns-clause-seat
 returns-clause-seat g c = c.loop-number.invariant.seat
+
+pub returns-clause-makers : goal.returns-clause-makers
+returns-clause-makers g c =
+    let all : c.loop-number.number ≡ c.args.count = omega (arith, c.loop-number-test.false, c.loop-number.auto.number-end) in
+    c.loop-number.invariant.makers ∙ ap (λ (n : ℕ). makers_of (with_takers c.args.made n) c.args.queues.now.items) all
+
+pub returns-clause-takers : goal.returns-clause-takers
+returns-clause-takers g c =
+    let all : c.loop-number.number ≡ c.args.count = omega (arith, c.loop-number-test.false, c.loop-number.auto.number-end) in
+    let pool : PoolId = record { queues = c.args.queues.now.items; passes = c.args.made.passes; mark = c.args.mark.now.mark } in
+    c.loop-number.invariant.list ∙ ap (new_takers_from pool c.args.made.takers) all

@@ -1,7 +1,7 @@
-use Rattle.std.proofs.Common.{◌∙◌, subst}
+use Rattle.std.proofs.Common.{◌∙◌, ap, subst, arith}
 use Rattle.task_queue.specs.Seen.{TakerSeen}
 use Rattle.task_queue.specs.Settled.{TakeTold}
-use Rattle.std.proofs.lemmas.Option.{get_or_from_slice_get}
+use Rattle.std.proofs.lemmas.Option.{get_or_from_slice_get, slice_get_within}
 use Rattle.prio_pool.proofs.Taking.{took}
 use Rattle.prio_pool.proofs.takers.take_at.Goals as goal
 
@@ -12,3 +12,11 @@ returns-clause-took g c =
     (subst (λ (t : TakerSeen). TakeTold (λ p. g.J.Headed.head p.job) t c.take.new.taker c.take.result) is c.take.ensures.told)
     c.take.ensures.ascend
     c.take.ensures.short
+
+pub index_mut-requires : goal.index_mut-requires
+index_mut-requires g c = omega (arith, slice_get_within c.args.takers.now.items c.args.number c.requires.taker c.requires.at)
+
+pub take-requires : goal.take-requires
+take-requires g c =
+    let is = c.index_mut.ensures.value ∙ get_or_from_slice_get c.args.takers.now.items c.args.number c.requires.taker c.index_mut.result.now c.requires.at in
+    (omega arith, ap (λ (t : TakerSeen). t.queue) is ∙ c.requires.of_queue)

@@ -12,7 +12,7 @@ use Rattle.task_queue.specs.Seen.{GatheredSeen}
 use Rattle.prio_pool.specs.Ended.{CameTo}
 use Rattle.prio_pool.specs.Gathering.{gathered_from, IsWhole, FoundAs, AllSettled}
 use Rattle.prio_pool.proofs.Accounting.{all_whole}
-use Rattle.prio_pool.proofs.Finishing.{few_rests, of_these, total_is}
+use Rattle.prio_pool.proofs.Finishing.{few_rests, of_these, put_together, total_is}
 use Rattle.prio_pool.proofs.Merging.{queues_of}
 use Rattle.prio_pool.proofs.pool.Pool.end.Goals as goal
 
@@ -39,10 +39,7 @@ settle_all-rests-requires-clause-queues g c =
     let helped : List EndSeen = c.args.helped.items in
     let all = subst (All (λ (p : PassSeen). p.pool ≡ c.args.self.id)) c.in-Some.ensures.items c.requires.passes.of_pool in
     let own = All-head (λ (p : PassSeen). p.pool ≡ c.args.self.id) first others all ∙ sym id in
-    let g0 = c.gather-gathered.ensures.gathered ∙ ap (λ (x : PoolId). gathered_from x.passes (first ∷ []) [] 0 qs) own in
-    let g1 = c.put_passes-others.ensures.gathered (first ∷ []) [] g0 in
-    let g2 = c.put_workers.ensures.gathered (first ∷ others) [] g1 in
-    let g3 = c.put_helpers.ensures.gathered (first ∷ others) ends g2 in
+    let g3 = put_together whole qs first others ends helped _ _ _ _ (ap (λ (x : PoolId). x.passes) own) c.gather-gathered.ensures.gathered c.put_passes-others.ensures.gathered c.put_workers.ensures.gathered c.put_helpers.ensures.gathered in
     ap (map (λ (x : GatheredSeen). x.queue)) g3 ∙ queues_of whole (first ∷ others) (ends ++ helped) 0 qs
 
 pub settle_all-rests-requires-clause-whole : goal.settle_all-rests-requires-clause-whole
@@ -56,10 +53,7 @@ settle_all-rests-requires-clause-whole g c =
     let helped : List EndSeen = c.args.helped.items in
     let all = subst (All (λ (p : PassSeen). p.pool ≡ c.args.self.id)) c.in-Some.ensures.items c.requires.passes.of_pool in
     let own = All-head (λ (p : PassSeen). p.pool ≡ c.args.self.id) first others all ∙ sym id in
-    let g0 = c.gather-gathered.ensures.gathered ∙ ap (λ (x : PoolId). gathered_from x.passes (first ∷ []) [] 0 qs) own in
-    let g1 = c.put_passes-others.ensures.gathered (first ∷ []) [] g0 in
-    let g2 = c.put_workers.ensures.gathered (first ∷ others) [] g1 in
-    let g3 = c.put_helpers.ensures.gathered (first ∷ others) ends g2 in
+    let g3 = put_together whole qs first others ends helped _ _ _ _ (ap (λ (x : PoolId). x.passes) own) c.gather-gathered.ensures.gathered c.put_passes-others.ensures.gathered c.put_workers.ensures.gathered c.put_helpers.ensures.gathered in
     let count : length (first ∷ others) + length (ends ++ helped) ≡ whole =
     omega (
       arith,
@@ -86,10 +80,7 @@ returns-clause-came g c =
     let items : c.args.passes ≡ first ∷ others = c.in-Some.ensures.items in
     let all = subst (All (λ (p : PassSeen). p.pool ≡ c.args.self.id)) items c.requires.passes.of_pool in
     let own = All-head (λ (p : PassSeen). p.pool ≡ c.args.self.id) first others all ∙ sym id in
-    let g0 = c.gather-gathered.ensures.gathered ∙ ap (λ (x : PoolId). gathered_from x.passes (first ∷ []) [] 0 qs) own in
-    let g1 = c.put_passes-others.ensures.gathered (first ∷ []) [] g0 in
-    let g2 = c.put_workers.ensures.gathered (first ∷ others) [] g1 in
-    let g3 = c.put_helpers.ensures.gathered (first ∷ others) ends g2 in
+    let g3 = put_together whole qs first others ends helped _ _ _ _ (ap (λ (x : PoolId). x.passes) own) c.gather-gathered.ensures.gathered c.put_passes-others.ensures.gathered c.put_workers.ensures.gathered c.put_helpers.ensures.gathered in
     let told = c.told.ensures in
     let many = λ (p : PassSeen). length p.pushed ≡ length qs in
     let popped = λ (e : EndSeen). length e.popped ≡ length qs in
@@ -108,35 +99,9 @@ returns-clause-came g c =
 
 pub returns-clause-few : goal.returns-clause-few
 returns-clause-few g c =
-    let qs : List (SegId Global) = c.self.inside.queues.items in
-    let whole = c.self.inside.adders + c.self.inside.workers + c.self.inside.helpers in
-    let id = ap (λ (s : PoolSeen). s.id) c.self.view_is in
-    let first : PassSeen = c.in-Some.first in
-    let others : List PassSeen = c.pop_front.new.self in
-    let ends : List EndSeen = c.args.ends.items in
-    let helped : List EndSeen = c.args.helped.items in
-    let items : c.args.passes ≡ first ∷ others = c.in-Some.ensures.items in
-    let all = subst (All (λ (p : PassSeen). p.pool ≡ c.args.self.id)) items c.requires.passes.of_pool in
-    let own = All-head (λ (p : PassSeen). p.pool ≡ c.args.self.id) first others all ∙ sym id in
-    let g0 = c.gather-gathered.ensures.gathered ∙ ap (λ (x : PoolId). gathered_from x.passes (first ∷ []) [] 0 qs) own in
-    let g1 = c.put_passes-others.ensures.gathered (first ∷ []) [] g0 in
-    let g2 = c.put_workers.ensures.gathered (first ∷ others) [] g1 in
-    let g3 = c.put_helpers.ensures.gathered (first ∷ others) ends g2 in
-    let told = c.told.ensures in
-    let many = λ (p : PassSeen). length p.pushed ≡ length qs in
-    let popped = λ (e : EndSeen). length e.popped ≡ length qs in
-    let found = ap (λ (w : WatchSeen). w.found) c.put_workers.ensures.begun in
-    let rests = c.settle_all-rests.result.items in
-    let came : CameTo g.J.Headed.head whole qs c.args.begun.found c.args.passes (ends ++ helped) rests =
-    record {
-      gaps = subst (All HasNoGap) (sym items) (All-cons HasNoGap first others told.gap c.put_passes-others.ensures.gaps);
-      pushed = subst (All many) (sym items) (All-cons many first others (told.as_many ∙ ap (λ (x : PoolId). length x.queues) own) c.put_passes-others.ensures.pushed);
-      ran = All-append RanWhatItTook ends helped c.put_workers.ensures.ran c.put_helpers.ensures.ran;
-      popped = All-append popped ends helped c.put_workers.ensures.popped c.put_helpers.ensures.popped;
-      found = All-append (FoundAs c.args.begun.found) ends helped c.put_workers.ensures.found (subst (λ f. All (FoundAs f) helped) found c.put_helpers.ensures.found);
-      settled = subst (λ (l : List GatheredSeen). AllSettled g.J.Headed.head l rests) (g3 ∙ ap (λ (l : List PassSeen). gathered_from whole l (ends ++ helped) 0 qs) (sym items)) c.settle_all-rests.ensures;
-    } in
-    omega (arith, few_rests g.J.Headed.head whole qs c.args.passes ends helped rests c.args.begun.found came, c.self.invariant.1)
+    let id : PoolId = c.args.self.id in
+    let queues = ap (λ (s : PoolSeen). length s.id.queues) c.self.view_is in
+    omega (arith, few_rests g.J.Headed.head id.passes id.queues c.args.passes c.args.ends.items c.args.helped.items c.settle_all-rests.result.items c.args.begun.found (returns-clause-came g c), c.self.invariant.1, queues)
 
 pub overflow_add-whole : goal.overflow_add-whole
 overflow_add-whole g c = omega (arith, c.self.invariant.4, c.self.invariant.5)

@@ -1,14 +1,16 @@
 use Rattle.std.proofs.Common.{rules, ◌≡◌, ℕ, ◌<◌, List, [], ◌∷◌, ◌++◌, length, Some, refl, sym, ap, subst, ◌∙◌}
 use Rattle.std.proofs.lemmas.List.{map-append}
 use Rattle.job_trait.specs.Runs.{Ran, Leads}
-use Rattle.pool_model.specs.declared.task.Ending.TheVariants.{Joins}
+use Rattle.pool_model.specs.declared.task.Ending.TheVariants.{Joins, Stops}
 use Rattle.pool_model.specs.Records.{Record, ran_of}
-use Rattle.pool_model.specs.Seen.{PoolId, WorkerSeen}
+use Rattle.pool_model.specs.Seen.{PoolId, PoolSeen, WorkerSeen}
 use Rattle.pool_model.specs.Steps.{Turn, ran, idle, stopped, steps_in, steps_of}
-use Rattle.prio_pool.specs.Takers.{TakersSeen}
+use Rattle.task_queue.specs.Marks.{MarkSeen}
+use Rattle.prio_pool.specs.Takers.{TakersSeen, RanTaken}
 use Rattle.prio_pool.specs.Turned.{WorkedSoFar}
-use Rattle.job_trait.proofs.Histories.{leads_more}
-use Rattle.prio_pool.proofs.Recording.{so_far_more, worked_all}
+use Rattle.job_trait.proofs.Histories.{leads_empty, leads_more}
+use Rattle.prio_pool.proofs.Recording.{so_far_none, so_far_more, worked_all, ran_nothing, ran_what_it_took}
+use Rattle.prio_pool.proofs.Turning.{has_found}
 use Rattle.prio_pool.proofs.pool.Pool.work.Goals as goal
 
 pub loop-preserved-in-Ran : goal.loop-preserved-in-Ran
@@ -106,3 +108,43 @@ returns-in-Stopped-clause-worked g c =
     let worked = subst (λ (k : ℕ). WorkedSoFar k (steps_in old.looks)) (ap (λ (p : PoolId). length p.queues) own) i.worked in
     worked_all m new.found (steps_in old.looks) (steps_in new.looks) stopped worked d.found_is
     (subst (λ (k : ℕ). steps_in new.looks ≡ steps_in old.looks ++ steps_of k stopped) as_many d.turn)
+
+pub turn-requires-clause-queues : goal.turn-requires-clause-queues
+turn-requires-clause-queues g c κs lives =
+    let own : c.pass.inside.takers.pool ≡ c.args.self.now.id = ap (λ (w : WorkerSeen). w.pool) c.pass.view_is ∙ c.requires in
+    ap (λ (p : PoolId). p.queues) (c.loop.invariant.pool ∙ (own ∙ sym (ap (λ (s : PoolSeen). s.id) c.self.view_is)))
+
+pub turn-requires-clause-mark : goal.turn-requires-clause-mark
+turn-requires-clause-mark g c κs lives =
+    let own : c.pass.inside.takers.pool ≡ c.args.self.now.id = ap (λ (w : WorkerSeen). w.pool) c.pass.view_is ∙ c.requires in
+    ap (λ (p : PoolId). p.mark) (c.loop.invariant.pool ∙ (own ∙ sym (ap (λ (s : PoolSeen). s.id) c.self.view_is))) ∙ sym (ap (λ (m : MarkSeen). m.mark) c.mark.ensures)
+
+pub turn-requires-clause-few : goal.turn-requires-clause-few
+turn-requires-clause-few g c κs lives = c.self.invariant.1
+
+pub turn-requires-clause-records : goal.turn-requires-clause-records
+turn-requires-clause-records g c κs lives = c.loop.invariant.records
+
+pub loop-init : goal.loop-init
+loop-init g c =
+    let t : TakersSeen = c.pass.inside.takers in
+    let none = sym c.new-records.ensures in
+    record {
+      pool = refl;
+      number = refl;
+      records = subst (RanTaken t) none (ran_nothing t c.pass.invariant.0);
+      ran = subst (λ (l : List Record). Leads g.J.Job.runs c.args.world.now (ran_of l) c.args.world.now) none (leads_empty g.J.Job.runs c.args.world.now);
+      worked = so_far_none (length t.pool.queues) (steps_in t.looks) (ap steps_in c.pass.invariant.0.looks);
+    }
+
+pub returns-in-Some-Joins-clause-ran_taken : goal.returns-in-Some-Joins-clause-ran_taken
+returns-in-Some-Joins-clause-ran_taken g c = ran_what_it_took c.turn.new.takers c.turn.new.records c.in-Idle.ensures.taken c.in-Idle.ensures.records
+
+pub returns-in-Some-Joins-clause-found : goal.returns-in-Some-Joins-clause-found
+returns-in-Some-Joins-clause-found g c = has_found c.turn.new.takers.found c.in-Some-Joins.field-0 (c.in-Idle.ensures.turned.found_is ∙ c.in-Some-Joins.is)
+
+pub returns-in-Stopped-clause-ran_taken : goal.returns-in-Stopped-clause-ran_taken
+returns-in-Stopped-clause-ran_taken g c = ran_what_it_took c.turn.new.takers c.turn.new.records c.in-Stopped.ensures.taken c.in-Stopped.ensures.records
+
+pub returns-in-Stopped-clause-found : goal.returns-in-Stopped-clause-found
+returns-in-Stopped-clause-found g c = has_found c.turn.new.takers.found Stops c.in-Stopped.ensures.turned.found_is

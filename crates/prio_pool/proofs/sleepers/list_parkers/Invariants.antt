@@ -1,6 +1,6 @@
 use Rattle.std.proofs.Common.{◌≡◌}
 use Rattle.prio_pool.specs.Sleeping.{parkers_of, wakers_of, bits_from}
-use Rattle.prio_pool.proofs.sleepers.parkers.Given as goal
+use Rattle.prio_pool.proofs.sleepers.list_parkers.Given as goal
 
 abbrev pub invariant-loop-number : goal.invariant-loop-number
 invariant-loop-number l = record {
