@@ -1,10 +1,10 @@
 // Pools on one thread and on several.
-ghost use Rattle.std.specs.Prelude.{◌≡◌, ◌⊎◌, ◌+◌, ◌<◌, ◌≤◌, ℕ, ◌∷◌, ◌++◌, [], length, All};
+ghost use Rattle.std.specs.Prelude.{◌≡◌, ◌⊎◌, ◌+◌, ◌<◌, ◌≤◌, ℕ, ◌∷◌, ◌++◌, [], length, All, IfSome, Some, None};
 ghost use Rattle.pool_model.specs.Passes.{AreAllPasses, AreAllEnds, adds_of};
 ghost use Rattle.pool_model.specs.Seen.{PoolId};
 ghost use Rattle.prio_pool.specs.Made.{new_ends, new_passes, new_workers};
 
-use fan_base::{ExecId, JobId, Mark, OpenGate, Parcel, Refused};
+use fan_base::{ExecId, Gate, JobId, Mark, OpenGate, Refused};
 use job_trait::{Head, Headed, Job};
 use keep_alive::{KeepAlive, KeepOwner};
 use prio_pool::{
@@ -15,7 +15,7 @@ use std::alloc::Global;
 use std::fmt::Debug;
 use std::process::Abort;
 use std::sync::Wait;
-use std::thread::{Threads, join};
+use std::thread::{Threads, join_mut};
 
 mod kept;
 mod queue;
@@ -107,12 +107,6 @@ fn each_priority_has_its_queue(rt: HostRuntime) {
     }
 }
 
-// Takes a job apart that was refused, and ends the test.
-fn refused<J: Numbered, R: Abort>(rt: &R, job: J, id: u64) -> ! {
-    same(rt, job.taken_apart(), id);
-    rt.panic("memory")
-}
-
 // Adds a task, for which there has to be memory. It gets the ticket of the one adder with this index.
 fn add<J: Numbered, R: Abort + Wait>(
     rt: &R,
@@ -132,7 +126,10 @@ fn add<J: Numbered, R: Abort + Wait>(
 {
     match pool.add(rt, keep, pass, priority, J::of(id)) {
         Ok(ticket) => same(rt, (ticket.adder, ticket.index), (0, index)),
-        Err(Refused::Memory(job)) => refused(rt, job, id),
+        Err(Refused::Memory(job)) => {
+            same(rt, job.taken_apart(), id);
+            rt.panic("memory")
+        }
     }
 }
 
@@ -244,28 +241,6 @@ fn all_ran<J: Numbered, R: Abort>(rt: &R, end: PoolEnd<J>, tasks: usize) -> Runs
     ran
 }
 
-// Joins a pool that has no helpers, and has accepted so many tasks.
-fn end_join<J: Numbered, R: Abort + Wait>(
-    rt: &R,
-    alloc: Global,
-    pool: Pool<J>,
-    joining: Joining<J>,
-    ends: Vec<WorkerEnd<J>>,
-    world: &mut Vec<u64>,
-    tasks: usize,
-) -> Runs
-    requires pool { joining.pool ≡ pool.id }
-    requires passes { AreAllPasses pool.id pool.adders joining.passes }
-    requires ends { AreAllEnds pool.id pool.workers ends.items }
-    requires helpers { pool.helpers ≡ 0 }
-{
-    all_ran(
-        rt,
-        pool.join(rt, joining, ends, Vec::new(alloc), world),
-        tasks,
-    )
-}
-
 // What is left of a pool that is stopped: so many records, and the other tasks, which are handed back.
 fn some_ran<J: Headed, R: Abort>(rt: &R, end: PoolEnd<J>, tasks: usize) -> (Runs, Returned<J>) {
     let PoolEnd {
@@ -280,23 +255,6 @@ fn some_ran<J: Headed, R: Abort>(rt: &R, end: PoolEnd<J>, tasks: usize) -> (Runs
         (tasks as u64, true, tasks),
     );
     (ran, returned)
-}
-
-// Stops a pool that has accepted so many tasks.
-fn end_stop<J: Headed, R: Abort + Wait>(
-    rt: &R,
-    pool: Pool<J>,
-    stopping: Stopping<J>,
-    ends: Vec<WorkerEnd<J>>,
-    helped: Vec<HelperEnd<J>>,
-    tasks: usize,
-) -> (Runs, Returned<J>)
-    requires pool { stopping.pool ≡ pool.id }
-    requires passes { AreAllPasses pool.id pool.adders stopping.passes }
-    requires ends { AreAllEnds pool.id pool.workers ends.items }
-    requires helped { AreAllEnds pool.id pool.helpers helped.items }
-{
-    some_ran(rt, pool.stop(rt, stopping, ends, helped), tasks)
 }
 
 // The ids of the records, in order, and how many there are.
@@ -436,34 +394,65 @@ fn open_pool<J: Headed, R: Abort>(rt: &R, alloc: Global, workers: u32, helpers: 
     }
 }
 
+// One that works on a thread: its pass, and its end once it has worked. A thread is lent it, since what goes into a closure needs code
+// that drops it. Their types are parameters, so that what needs neither is proved without them.
+struct Slot<P, E> {
+    pass: Option<P>,
+    end: Option<E>,
+}
+
+fn new_slot<P, E>(pass: P) -> Slot<P, E>
+    ensures { (result.pass ≡ Some pass) × (result.end ≡ None) }
+{
+    Slot {
+        pass: Some(pass),
+        end: None,
+    }
+}
+
+impl<P, E> Slot<P, E> {
+    // Keeps its end.
+    fn put_end(&mut self, end: E)
+        requires { self.old.end ≡ None }
+        ensures { self.new.end ≡ Some end }
+    {
+        match self.end.replace(end) {
+            None => {}
+            Some(_) => unreachable!(),
+        }
+    }
+
+    // Its end, once it has worked.
+    fn end<R: Abort>(self, rt: &R) -> E
+        ensures { self.end ≡ Some result }
+    {
+        let Slot { pass, end } = self;
+        match (pass, end) {
+            (None, Some(end)) => end,
+            (Some(_pass), _) => rt.panic("a worker that has not worked"),
+            (None, None) => rt.panic("an end"),
+        }
+    }
+}
+
+impl<J: Job<Vec<u64>>> Slot<WorkerPass<J>, WorkerEnd<J>> {
+    // Works with a world of its own, between the calls of the gate.
+    fn work<R: Wait, G: Gate>(&mut self, rt: &R, alloc: Global, pool: &Pool<J>, gate: &G)
+        requires pass { IfSome self.old.pass (λ p. p.pool ≡ pool.now.id) }
+        requires end { self.old.end ≡ None }
+        ensures { IfSome self.new.end (λ e. e.pool ≡ pool.now.id) }
+    {
+        if let Some(pass) = self.pass.take() {
+            let mut world = Vec::new(alloc);
+            self.put_end(pool.work(rt, pass, &mut world, gate));
+        }
+    }
+}
+
 // The id of the next task that was handed back, which is taken apart.
 fn next_back<J: Numbered>(returned: &mut Returned<J>) -> Option<u64> {
     let (_, job) = returned.pop()?;
     Some(job.taken_apart())
-}
-
-// Adds tasks to a pool, lets the keep-alive go, and begins to join.
-fn add_and_join<J: Numbered, R: Abort + Wait>(
-    rt: &R,
-    alloc: Global,
-    pool: &Pool<J>,
-    adding: Adding<J>,
-    rows: &[(i8, u64)],
-) -> Joining<J>
-    requires keeps { (adding.owner.count ≡ pool.now.count) × (adding.keep.count ≡ pool.now.count) }
-    requires pass { (adding.pass.pool ≡ pool.now.id) × (adds_of adding.pass ≡ []) }
-    requires one { (pool.now.adders ≡ 1) × (pool.now.exec.0 ≡ 7) }
-    requires few { length rows.now ≤ 1000 }
-    ensures passes { AreAllPasses pool.now.id pool.now.adders result.passes }
-    ensures pool { result.pool ≡ pool.now.id }
-{
-    let Adding {
-        owner,
-        keep,
-        mut pass,
-    } = adding;
-    add_rows(rt, pool, &keep, &mut pass, rows);
-    begin_to_join(rt, alloc, pool, owner, keep, pass)
 }
 
 // Adds tasks, joins, and works. The tasks have to run in this order, and each has to have its record.
@@ -482,10 +471,17 @@ fn run_rows<J: Numbered, R: Abort + Wait>(
         helpers,
     } = open_pool::<J, R>(rt, alloc, 1, 0);
     helpers.destroy_empty();
-    let joining = add_and_join(rt, alloc, &pool, adding, rows);
+    let Adding {
+        owner,
+        keep,
+        mut pass,
+    } = adding;
+    add_rows(rt, &pool, &keep, &mut pass, rows);
+    let joining = begin_to_join(rt, alloc, &pool, owner, keep, pass);
     let mut world = Vec::new(alloc);
     let ends = work_at(rt, alloc, &pool, workers, &mut world);
-    let ran = end_join(rt, alloc, pool, joining, ends, &mut world, rows.len());
+    let end = pool.join(rt, joining, ends, Vec::new(alloc), &mut world);
+    let ran = all_ran(rt, end, rows.len());
     check_list(rt, ids(rt, alloc, ran), expected);
     check_list(rt, world, expected);
 }
@@ -519,7 +515,7 @@ fn stop_two<J: Numbered, R: Abort + Wait>(rt: &R, alloc: Global) -> Returned<J> 
     let stopping = begin_to_stop(rt, alloc, &pool, owner, keep, pass);
     let mut world = Vec::new(alloc);
     let ends = work_at(rt, alloc, &pool, workers, &mut world);
-    let (ran, returned) = end_stop(rt, pool, stopping, ends, Vec::new(alloc), 2);
+    let (ran, returned) = some_ran(rt, pool.stop(rt, stopping, ends, Vec::new(alloc)), 2);
     same(rt, (ran.len(), returned.len(), world.len()), (0, 2, 0));
     returned
 }
@@ -573,16 +569,6 @@ fn a_stopped_pool_hands_its_tasks_back(rt: HostRuntime) {
     run_what_comes_back::<Note, HostRuntime>(&rt, rt.alloc());
 }
 
-// In a parcel a pass or an end can go into a closure.
-fn wrapped<X, R: Abort>(rt: &R, alloc: Global, value: X) -> Parcel<X>
-    ensures { result ≡ value }
-{
-    match Parcel::new(alloc, value) {
-        Ok(parcel) => parcel,
-        Err(_) => rt.panic("memory"),
-    }
-}
-
 // Each id below a thousand has to stand here once: in order they are 0, 1, 2, and so on.
 fn check_once<R: Abort>(rt: &R, mut ids: Vec<u64>) {
     ids.sort_unstable();
@@ -590,27 +576,6 @@ fn check_once<R: Abort>(rt: &R, mut ids: Vec<u64>) {
     for index in 0..ids.len() {
         same(rt, ids[index], index as u64);
     }
-}
-
-// All ends of a pool with four workers.
-fn four_ends<J: Headed, R: Abort>(
-    rt: &R,
-    alloc: Global,
-    pool: &Pool<J>,
-    front: (WorkerEnd<J>, WorkerEnd<J>),
-    back: (WorkerEnd<J>, WorkerEnd<J>),
-) -> Vec<WorkerEnd<J>>
-    requires front { (front.0.pool ≡ pool.now.id) × (front.1.pool ≡ pool.now.id) }
-    requires back { (back.0.pool ≡ pool.now.id) × (back.1.pool ≡ pool.now.id) }
-    requires four { pool.now.workers ≡ 4 }
-    ensures { AreAllEnds pool.now.id pool.now.workers result.items }
-{
-    let mut ends = Vec::with_capacity(alloc, 4).expect(rt, "memory");
-    ends.push_reserved(front.0);
-    ends.push_reserved(front.1);
-    ends.push_reserved(back.0);
-    ends.push_reserved(back.1);
-    ends
 }
 
 // The ids of the tasks that were handed back, behind those that are there.

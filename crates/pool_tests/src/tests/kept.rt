@@ -1,5 +1,5 @@
 // Jobs that may be neither copied nor dropped, with a helper beside the worker.
-ghost use Rattle.std.specs.Prelude.{◌≡◌, ◌⊎◌, ◌∷◌, ◌++◌, [], All, length};
+ghost use Rattle.std.specs.Prelude.{◌≡◌, ◌⊎◌, ◌∷◌, ◌++◌, [], IfSome, None};
 ghost use Rattle.pool_model.specs.Passes.{AreAllPasses, AreAllEnds, adds_of};
 
 use super::*;
@@ -65,22 +65,28 @@ fn help_once<J: Job<Vec<u64>>, R: Abort + Wait>(
     ran
 }
 
+// What adds and helps, and what it leaves.
+type AddingHelper<J> = Slot<(Adding<J>, HelperPass<J>), (Joining<J>, HelperEnd<J>)>;
+
 // Adds a thousand jobs and helps after each, lets the keep-alive go, and begins to join.
 fn add_and_help<J: Numbered, R: Abort + Wait>(
     rt: &R,
     alloc: Global,
     pool: &Pool<J>,
-    adding: Adding<J>,
-    mut helper: HelperPass<J>,
-) -> (Joining<J>, HelperEnd<J>)
-    requires keeps { (adding.owner.count ≡ pool.now.count) × (adding.keep.count ≡ pool.now.count) }
-    requires pass { (adding.pass.pool ≡ pool.now.id) × (adds_of adding.pass ≡ []) }
-    requires helper { helper.pool ≡ pool.now.id }
+    slot: &mut AddingHelper<J>,
+)
+    requires keeps { IfSome slot.old.pass (λ a. (a.0.owner.count ≡ pool.now.count) × (a.0.keep.count ≡ pool.now.count)) }
+    requires pass { IfSome slot.old.pass (λ a. (a.0.pass.pool ≡ pool.now.id) × (adds_of a.0.pass ≡ [])) }
+    requires helper { IfSome slot.old.pass (λ a. a.1.pool ≡ pool.now.id) }
     requires one { (pool.now.adders ≡ 1) × (pool.now.exec.0 ≡ 7) }
-    ensures joining { AreAllPasses pool.now.id pool.now.adders result.0.passes }
-    ensures pool { result.0.pool ≡ pool.now.id }
-    ensures helped { result.1.pool ≡ pool.now.id }
+    requires end { slot.old.end ≡ None }
+    ensures joining { IfSome slot.new.end (λ e. AreAllPasses pool.now.id pool.now.adders e.0.passes) }
+    ensures pool { IfSome slot.new.end (λ e. e.0.pool ≡ pool.now.id) }
+    ensures helped { IfSome slot.new.end (λ e. e.1.pool ≡ pool.now.id) }
 {
+    let Some((adding, mut helper)) = slot.pass.take() else {
+        return;
+    };
     let Adding {
         owner,
         keep,
@@ -92,39 +98,45 @@ fn add_and_help<J: Numbered, R: Abort + Wait>(
         let _ = help_once(rt, pool, &mut helper, &mut world);
     }
     let joining = begin_to_join(rt, alloc, pool, owner, keep, pass);
-    (joining, helper.end())
+    slot.put_end((joining, helper.end()));
 }
 
 #[test]
 fn a_helper_beside_a_worker(rt: HostRuntime) {
+    let rt = &rt;
     let alloc = rt.alloc();
     let Opened {
         pool,
         adding,
         workers,
         helpers,
-    } = open_pool::<Kept, HostRuntime>(&rt, alloc, 1, 1);
-    let passes = wrapped(&rt, alloc, workers);
-    let helper = wrapped(&rt, alloc, only_helper(&rt, &pool, helpers));
-    let adding = wrapped(&rt, alloc, adding);
-    let shared = &pool;
-    let (ends, (joining, helped)) = join(
-        &rt,
-        move ||
-            requires passes { All (λ w. w.pool ≡ shared.now.id) passes.items }
-            requires one { (length passes.items ≡ 1) × (shared.now.workers ≡ 1) }
-        { work_at(&rt, alloc, shared, passes.open(), &mut Vec::new(alloc)) },
-        move ||
-            requires keeps { (adding.owner.count ≡ shared.now.count) × (adding.keep.count ≡ shared.now.count) }
-            requires pass { (adding.pass.pool ≡ shared.now.id) × (adds_of adding.pass ≡ []) }
-            requires helper { helper.pool ≡ shared.now.id }
-            requires one { (shared.now.adders ≡ 1) × (shared.now.exec.0 ≡ 7) }
-        { add_and_help(&rt, alloc, shared, adding.open(), helper.open()) },
+    } = open_pool::<Kept, HostRuntime>(rt, alloc, 1, 1);
+    let mut worker = new_slot(only_worker(rt, &pool, workers));
+    let mut helper = new_slot((adding, only_helper(rt, &pool, helpers)));
+    join_mut(
+        rt,
+        &mut ||
+            requires pass { IfSome worker.pass (λ p. p.pool ≡ pool.id) }
+            requires end { worker.end ≡ None }
+            ensures { IfSome worker.exit.end (λ e. e.pool ≡ pool.id) }
+        { worker.work(rt, alloc, &pool, &OpenGate) },
+        &mut ||
+            requires keeps { IfSome helper.pass (λ a. (a.0.owner.count ≡ pool.count) × (a.0.keep.count ≡ pool.count)) }
+            requires pass { IfSome helper.pass (λ a. (a.0.pass.pool ≡ pool.id) × (adds_of a.0.pass ≡ [])) }
+            requires helper { IfSome helper.pass (λ a. a.1.pool ≡ pool.id) }
+            requires one { (pool.adders ≡ 1) × (pool.exec.0 ≡ 7) }
+            requires end { helper.end ≡ None }
+            ensures joining { IfSome helper.exit.end (λ e. AreAllPasses pool.id pool.adders e.0.passes) }
+            ensures pool { IfSome helper.exit.end (λ e. e.0.pool ≡ pool.id) }
+            ensures helped { IfSome helper.exit.end (λ e. e.1.pool ≡ pool.id) }
+        { add_and_help(rt, alloc, &pool, &mut helper) },
     );
-    let helped = list_of(&rt, alloc, helped);
+    let ends = list_of(rt, alloc, worker.end(rt));
+    let (joining, helped) = helper.end(rt);
+    let helped = list_of(rt, alloc, helped);
     let mut world = Vec::new(alloc);
-    let ran = all_ran(&rt, pool.join(&rt, joining, ends, helped, &mut world), 1000);
-    check_once(&rt, ids(&rt, alloc, ran));
+    let ran = all_ran(rt, pool.join(rt, joining, ends, helped, &mut world), 1000);
+    check_once(rt, ids(rt, alloc, ran));
 }
 
 // Helps where there is no job, adds four, and helps with the first.
@@ -170,7 +182,7 @@ fn stop_four<J: Numbered, R: Abort + Wait>(
     let stopping = begin_to_stop(rt, alloc, &pool, owner, keep, pass);
     let ends = work_at(rt, alloc, &pool, workers, &mut Vec::new(alloc));
     let helped = list_of(rt, alloc, helper.end());
-    let (ran, returned) = end_stop(rt, pool, stopping, ends, helped, 4);
+    let (ran, returned) = some_ran(rt, pool.stop(rt, stopping, ends, helped), 4);
     same(rt, (ran.len(), returned.len()), (1, 3));
     returned
 }

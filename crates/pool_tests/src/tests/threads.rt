@@ -3,7 +3,6 @@ ghost use Rattle.std.specs.Prelude.{◌≡◌, ◌+◌, ◌≤◌, [], All, IfSo
 ghost use Rattle.pool_model.specs.Passes.{AreAllPasses, AreAllEnds, adds_of};
 
 use super::*;
-use fan_base::Gate;
 use pool_model::Ticket;
 use std::sync::atomic::{AtomicU64, Ordering};
 use std::thread;
@@ -85,52 +84,8 @@ impl Gate for CountGate {
     }
 }
 
-// A worker: its pass, and its end once it has worked. Their types are parameters, so that what needs neither is proved without them.
-struct Slot<P, E> {
-    pass: Option<P>,
-    end: Option<E>,
-}
-
 // A worker of a pool.
 type Worker = Slot<WorkerPass<Note>, WorkerEnd<Note>>;
-
-impl Slot<WorkerPass<Note>, WorkerEnd<Note>> {
-    // Works with a world of its own, between the calls of the gate.
-    fn work<R: Wait>(&mut self, rt: &R, alloc: Global, pool: &Pool<Note>, gate: &CountGate)
-        requires pass { IfSome self.old.pass (λ p. p.pool ≡ pool.now.id) }
-        requires end { IfSome self.old.end (λ e. e.pool ≡ pool.now.id) }
-        ensures pass { IfSome self.new.pass (λ p. p.pool ≡ pool.now.id) }
-        ensures end { IfSome self.new.end (λ e. e.pool ≡ pool.now.id) }
-    {
-        if let Some(pass) = self.pass.take() {
-            let mut world = Vec::new(alloc);
-            self.end = Some(pool.work(rt, pass, &mut world, gate));
-        }
-    }
-}
-
-impl<P, E> Slot<P, E> {
-    // Its end, once it has worked.
-    fn end<R: Abort>(self, rt: &R) -> E
-        ensures { self.end ≡ Some result }
-    {
-        let Slot { pass, end } = self;
-        match (pass, end) {
-            (None, Some(end)) => end,
-            (Some(_pass), _) => rt.panic("a worker that has not worked"),
-            (None, None) => rt.panic("an end"),
-        }
-    }
-}
-
-fn new_slot<P, E>(pass: P) -> Slot<P, E>
-    ensures { (result.pass ≡ Some pass) × (result.end ≡ None) }
-{
-    Slot {
-        pass: Some(pass),
-        end: None,
-    }
-}
 
 // Four workers that have not worked.
 fn four_slots<R: Abort>(
@@ -142,7 +97,7 @@ fn four_slots<R: Abort>(
     requires passes { All (λ w. w.pool ≡ pool.now.id) passes.items }
     requires four { length passes.items ≡ 4 }
     ensures passes { All (λ s. IfSome s.pass (λ p. p.pool ≡ pool.now.id)) result.items }
-    ensures ends { All (λ s. IfSome s.end (λ e. e.pool ≡ pool.now.id)) result.items }
+    ensures ends { All (λ s. s.end ≡ None) result.items }
     ensures four { length result.items ≡ 4 }
 {
     let mut slots = Vec::with_capacity(alloc, 4).expect(rt, "memory");
@@ -163,7 +118,7 @@ fn all_work<R: Wait + Threads + Sync>(
     slots: &mut Vec<Worker>,
 )
     requires passes { All (λ s. IfSome s.pass (λ p. p.pool ≡ pool.now.id)) slots.old.items }
-    requires ends { All (λ s. IfSome s.end (λ e. e.pool ≡ pool.now.id)) slots.old.items }
+    requires ends { All (λ s. s.end ≡ None) slots.old.items }
     ensures ends { All (λ s. IfSome s.end (λ e. e.pool ≡ pool.now.id)) slots.new.items }
     ensures count { length slots.new.items ≡ length slots.old.items }
 {
@@ -173,7 +128,7 @@ fn all_work<R: Wait + Threads + Sync>(
         4,
         &|_, slot|
             requires pass { IfSome slot.now.pass (λ p. p.pool ≡ pool.now.id) }
-            requires end { IfSome slot.now.end (λ e. e.pool ≡ pool.now.id) }
+            requires end { slot.now.end ≡ None }
             ensures { IfSome slot.exit.now.end (λ e. e.pool ≡ pool.entry.now.id) }
         { slot.work(rt, alloc, pool, gate) },
     );
@@ -190,26 +145,24 @@ fn next_end<R: Abort>(rt: &R, pool: &Pool<Note>, slots: &mut Vec<Worker>) -> Wor
     last_of(rt, slots).end(rt)
 }
 
-// Four workers work, each on a thread of its own.
-fn four_work_at<R: Abort + Wait + Threads + Sync>(
+// The ends of four workers that have worked.
+fn four_ends<R: Abort>(
     rt: &R,
     alloc: Global,
     pool: &Pool<Note>,
-    gate: &CountGate,
-    passes: Vec<WorkerPass<Note>>,
+    mut slots: Vec<Worker>,
 ) -> Vec<WorkerEnd<Note>>
-    requires passes { All (λ w. w.pool ≡ pool.now.id) passes.items }
-    requires four { (length passes.items ≡ 4) × (pool.now.workers ≡ 4) }
+    requires ends { All (λ s. IfSome s.end (λ e. e.pool ≡ pool.now.id)) slots.items }
+    requires four { (length slots.items ≡ 4) × (pool.now.workers ≡ 4) }
     ensures { AreAllEnds pool.now.id pool.now.workers result.items }
 {
-    let mut slots = four_slots(rt, alloc, pool, passes);
-    all_work(rt, alloc, pool, gate, &mut slots);
-    let fourth = next_end(rt, pool, &mut slots);
-    let third = next_end(rt, pool, &mut slots);
-    let second = next_end(rt, pool, &mut slots);
-    let first = next_end(rt, pool, &mut slots);
+    let mut ends = Vec::with_capacity(alloc, 4).expect(rt, "memory");
+    ends.push_reserved(next_end(rt, pool, &mut slots));
+    ends.push_reserved(next_end(rt, pool, &mut slots));
+    ends.push_reserved(next_end(rt, pool, &mut slots));
+    ends.push_reserved(next_end(rt, pool, &mut slots));
     slots.destroy_empty();
-    four_ends(rt, alloc, pool, (first, second), (third, fourth))
+    ends
 }
 
 // Adds so many tasks behind those that the pass has added.
@@ -284,7 +237,8 @@ fn end_joined<J: Numbered, R: Abort + Wait>(
     requires helpers { pool.helpers ≡ 0 }
 {
     let mut world = Vec::new(alloc);
-    let ran = end_join(rt, alloc, pool, joining, ends, &mut world, tasks);
+    let end = pool.join(rt, joining, ends, Vec::new(alloc), &mut world);
+    let ran = all_ran(rt, end, tasks);
     same(rt, world.len(), 0);
     same(rt, counts.passed(), (tasks as u64, 0));
     ran
@@ -292,20 +246,29 @@ fn end_joined<J: Numbered, R: Abort + Wait>(
 
 #[test]
 fn four_workers_run_a_thousand_tasks(rt: HostRuntime) {
+    let rt = &rt;
     let alloc = rt.alloc();
     let Opened {
         pool,
         adding,
         workers,
         helpers,
-    } = open_pool::<Note, HostRuntime>(&rt, alloc, 4, 0);
+    } = open_pool::<Note, HostRuntime>(rt, alloc, 4, 0);
     helpers.destroy_empty();
-    let counts = CountGate::new(&rt, alloc, u64::MAX, 1000);
-    let rows = thousand_rows(&rt, alloc);
-    let joining = add_and_join(&rt, alloc, &pool, adding, rows.as_slice());
-    let ends = four_work_at(&rt, alloc, &pool, &counts, workers);
-    let ran = end_joined(&rt, alloc, pool, joining, ends, &counts, 1000);
-    check_once(&rt, ids(&rt, alloc, ran));
+    let counts = CountGate::new(rt, alloc, u64::MAX, 1000);
+    let Adding {
+        owner,
+        keep,
+        mut pass,
+    } = adding;
+    let rows = thousand_rows(rt, alloc);
+    add_rows(rt, &pool, &keep, &mut pass, rows.as_slice());
+    let joining = begin_to_join(rt, alloc, &pool, owner, keep, pass);
+    let mut slots = four_slots(rt, alloc, &pool, workers);
+    all_work(rt, alloc, &pool, &counts, &mut slots);
+    let ends = four_ends(rt, alloc, &pool, slots);
+    let ran = end_joined(rt, alloc, pool, joining, ends, &counts, 1000);
+    check_once(rt, ids(rt, alloc, ran));
 }
 
 // The tickets' indexes of what ran and of what was handed back.
@@ -342,6 +305,9 @@ fn put_index<R: Abort>(rt: &R, indexes: &mut Vec<u64>, ticket: Ticket, id: u64) 
     indexes.push(id).expect(rt, "memory");
 }
 
+// What adds, and what it has begun: a join or a stop.
+type Adder<J> = Slot<Adding<J>, Result<Joining<J>, Stopping<J>>>;
+
 // Adds groups of tasks, so many and each of this size, and begins to join. Or, where there are none, it adds a thousand tasks, waits
 // until so many have begun where the gate holds any, begins to stop, and then opens the gate.
 fn add_beside<J: Numbered, R: Abort + Wait>(
@@ -350,15 +316,19 @@ fn add_beside<J: Numbered, R: Abort + Wait>(
     pool: &Pool<J>,
     gate: &CountGate,
     groups: Option<(u64, u64)>,
-    adding: Adding<J>,
-) -> Result<Joining<J>, Stopping<J>>
-    requires keeps { (adding.owner.count ≡ pool.now.count) × (adding.keep.count ≡ pool.now.count) }
-    requires pass { (adding.pass.pool ≡ pool.now.id) × (adds_of adding.pass ≡ []) }
+    adder: &mut Adder<J>,
+)
+    requires keeps { IfSome adder.old.pass (λ a. (a.owner.count ≡ pool.now.count) × (a.keep.count ≡ pool.now.count)) }
+    requires pass { IfSome adder.old.pass (λ a. (a.pass.pool ≡ pool.now.id) × (adds_of a.pass ≡ [])) }
     requires one { (pool.now.adders ≡ 1) × (pool.now.exec.0 ≡ 7) }
-    ensures joining { IfOk result (λ j. AreAllPasses pool.now.id pool.now.adders j.passes × (j.pool ≡ pool.now.id)) }
-    ensures stopping { IfErr result (λ s. AreAllPasses pool.now.id pool.now.adders s.passes × (s.pool ≡ pool.now.id)) }
+    requires end { adder.old.end ≡ None }
+    ensures joining { IfSome adder.new.end (λ b. IfOk b (λ j. AreAllPasses pool.now.id pool.now.adders j.passes × (j.pool ≡ pool.now.id))) }
+    ensures stopping { IfSome adder.new.end (λ b. IfErr b (λ s. AreAllPasses pool.now.id pool.now.adders s.passes × (s.pool ≡ pool.now.id))) }
 {
-    match groups {
+    let Some(adding) = adder.pass.take() else {
+        return;
+    };
+    let begun = match groups {
         Some((groups, size)) => Ok(add_in_groups(rt, alloc, pool, gate, groups, size, adding)),
         None => {
             let Adding {
@@ -375,7 +345,8 @@ fn add_beside<J: Numbered, R: Abort + Wait>(
             gate.opened.store(1, Ordering::SeqCst);
             Err(stopping)
         }
-    }
+    };
+    adder.put_end(begun);
 }
 
 // Joins or stops the pool, as it was begun. After a stop each of so many tickets has to have a record, with both calls of the gate, or to
@@ -399,7 +370,8 @@ fn end_begun<J: Numbered, R: Abort + Wait>(
             let _ = end_joined(rt, alloc, pool, joining, ends, counts, tasks);
         }
         Err(stopping) => {
-            let (ran, returned) = end_stop(rt, pool, stopping, ends, Vec::new(alloc), tasks);
+            let end = pool.stop(rt, stopping, ends, Vec::new(alloc));
+            let (ran, returned) = some_ran(rt, end, tasks);
             let records = ran.len();
             if counts.most == 400 {
                 same(rt, records, 404);
@@ -415,6 +387,7 @@ fn end_begun<J: Numbered, R: Abort + Wait>(
 // stop has begun, or holds none.
 #[test]
 fn four_workers_beside_one_that_adds_lose_no_task(rt: HostRuntime) {
+    let rt = &rt;
     let alloc = rt.alloc();
     let rows = [
         (Some((5000, 1)), u64::MAX, 5000),
@@ -428,25 +401,30 @@ fn four_workers_beside_one_that_adds_lose_no_task(rt: HostRuntime) {
             adding,
             workers,
             helpers,
-        } = open_pool::<Note, HostRuntime>(&rt, alloc, 4, 0);
+        } = open_pool::<Note, HostRuntime>(rt, alloc, 4, 0);
         helpers.destroy_empty();
-        let passes = wrapped(&rt, alloc, workers);
-        let adding = wrapped(&rt, alloc, adding);
-        let counts = CountGate::new(&rt, alloc, most, tasks);
-        let gate = &counts;
-        let shared = &pool;
-        let (ends, begun) = join(
-            &rt,
-            move ||
-                requires passes { All (λ w. w.pool ≡ shared.now.id) passes.items }
-                requires four { (length passes.items ≡ 4) × (shared.now.workers ≡ 4) }
-            { four_work_at(&rt, alloc, shared, gate, passes.open()) },
-            move ||
-                requires keeps { (adding.owner.count ≡ shared.now.count) × (adding.keep.count ≡ shared.now.count) }
-                requires pass { (adding.pass.pool ≡ shared.now.id) × (adds_of adding.pass ≡ []) }
-                requires one { (shared.now.adders ≡ 1) × (shared.now.exec.0 ≡ 7) }
-            { add_beside(&rt, alloc, shared, gate, groups, adding.open()) },
+        let mut slots = four_slots(rt, alloc, &pool, workers);
+        let mut adder = new_slot(adding);
+        let counts = CountGate::new(rt, alloc, most, tasks);
+        join_mut(
+            rt,
+            &mut ||
+                requires passes { All (λ s. IfSome s.pass (λ p. p.pool ≡ pool.id)) slots.items }
+                requires ends { All (λ s. s.end ≡ None) slots.items }
+                ensures ends { All (λ s. IfSome s.end (λ e. e.pool ≡ pool.id)) slots.exit.items }
+                ensures count { length slots.exit.items ≡ length slots.entry.items }
+            { all_work(rt, alloc, &pool, &counts, &mut slots) },
+            &mut ||
+                requires keeps { IfSome adder.pass (λ a. (a.owner.count ≡ pool.count) × (a.keep.count ≡ pool.count)) }
+                requires pass { IfSome adder.pass (λ a. (a.pass.pool ≡ pool.id) × (adds_of a.pass ≡ [])) }
+                requires one { (pool.adders ≡ 1) × (pool.exec.0 ≡ 7) }
+                requires end { adder.end ≡ None }
+                ensures joining { IfSome adder.exit.end (λ b. IfOk b (λ j. AreAllPasses pool.id pool.adders j.passes × (j.pool ≡ pool.id))) }
+                ensures stopping { IfSome adder.exit.end (λ b. IfErr b (λ s. AreAllPasses pool.id pool.adders s.passes × (s.pool ≡ pool.id))) }
+            { add_beside(rt, alloc, &pool, &counts, groups, &mut adder) },
         );
-        end_begun(&rt, alloc, pool, begun, ends, &counts, tasks as usize);
+        let ends = four_ends(rt, alloc, &pool, slots);
+        let begun = adder.end(rt);
+        end_begun(rt, alloc, pool, begun, ends, &counts, tasks as usize);
     }
 }

@@ -4,7 +4,7 @@ use Rattle.prio_pool.proofs.Crossings.{Pool-sync}
 use Rattle.pool_tests.proofs.Crossings.{inwards, outwards}
 use Rattle.pool_tests.proofs.tests.Note.TheSendSync as job
 use Rattle.pool_tests.proofs.tests.threads.CountGate.TheSendSync as gate
-use Rattle.pool_tests.proofs.tests.threads.Slot.TheSendSync as slot
+use Rattle.pool_tests.proofs.tests.Slot.TheSendSync as slot
 use Rattle.pool_tests.proofs.tests.threads.all_work.Goals as goal
 
 pub for_each_mut-requires-send-T : goal.for_each_mut-requires-send-T

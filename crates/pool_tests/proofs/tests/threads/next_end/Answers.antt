@@ -1,7 +1,7 @@
 use Rattle.std.proofs.Common.{◌≡◌, Option, IfSome, subst}
 use Rattle.pool_model.specs.Seen.{EndSeen}
 use Rattle.pool_tests.proofs.Lists.{last_has, rest_have, one_less}
-use Rattle.pool_tests.specs.declared.tests.threads.Slot.{Slot}
+use Rattle.pool_tests.specs.declared.tests.Slot.{Slot}
 use Rattle.pool_tests.proofs.tests.threads.next_end.Goals as goal
 
 pub returns-clause-end : goal.returns-clause-end
