@@ -99,6 +99,7 @@ module _ {N : Type 0} where
     records = a.all.runs;
     all = a.all.all;
     none = a.none;
+    direct = a.direct;
   }
 
   pub side_end : (asked : Asking) (ids : RunIds) (stop : Option ℕ) (start : FrontStart N) (pool : PoolSeen) (slots : List (WorkerSlot TaskSeen (WorldSeen N))) (room : SideRoom N) (mid : FrontMid N) (ends : List EndSeen) (worlds : List (TaskEnds N)) (end : SideEnd N) → IsSideStart asked ids start pool slots room → IsFirstEnd asked stop pool start mid

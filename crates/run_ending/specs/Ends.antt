@@ -63,7 +63,7 @@ pub record IsStopAccount (asked : Asking) (note : PoolNote) : Type 0 where
   pub few : length note.ran.records + length note.returned ≤ note.accepted
 
 -- What is told of the tasks of a pool that was joined: it accepted the first of the early ones, as many as are told; each of these has one record of a run, there are no other records,
--- and nothing was handed back.
+-- nothing was handed back, and no task is told that never was in the pool.
 pub record IsJoinAccount (asked : Asking) (note : PoolNote) : Type 0 where
   pub passes : List PassSeen
   pub accepted : note.accepted ≡ adds_total passes
@@ -73,6 +73,7 @@ pub record IsJoinAccount (asked : Asking) (note : PoolNote) : Type 0 where
   pub records : AreRunsOf ran note.ran.records
   pub all : IsSameInAnyOrder ran (tasks_of passes)
   pub none : note.returned ≡ []
+  pub direct : note.direct ≡ []
 
 -- The pool was stopped exactly where the run is to be stopped, and either account; whether memory was refused or not.
 pub record IsPoolTold (asked : Asking) (note : PoolNote) : Type 0 where

@@ -1,5 +1,5 @@
 -- The runs of a pool that has ended, and of what came behind its stop.
-use Rattle.std.proofs.Common.{◌≡◌, ℕ, ◌+◌, ◌≤◌, List, [], ◌∷◌, ◌++◌, Bool, false, length, map, drop, append-nil, refl, sym, ap, ◌∙◌, subst, length-append, arith}
+use Rattle.std.proofs.Common.{◌≡◌, ℕ, ◌+◌, ◌≤◌, List, [], ◌∷◌, ◌++◌, Bool, true, false, length, map, drop, append-nil, refl, sym, ap, ◌∙◌, subst, length-append, arith, true≢false}
 use Rattle.std.specs.Prelude.{Option, Some, None}
 use Rattle.std.specs.List.{sum_by}
 use Rattle.std.proofs.lemmas.List.{length-map}
@@ -67,6 +67,10 @@ pub is_unstopped : (asked : Asking) (turns : List Turn) (stop : Option ℕ) → 
 is_unstopped asked turns stop stops none =
     let at : StopsAt asked turns None = subst (λ (s : Option ℕ). StopsAt asked turns s) none stops in
     at.stopped
+
+pub is_nowhere : (asked : Asking) (turns : List Turn) (stop : Option ℕ) → StopsAt asked turns stop → is_stopped asked.stop_at (answered_in asked.lines) ≡ false → stop ≡ None
+is_nowhere asked turns None stops unstopped = refl
+is_nowhere asked turns (Some place) stops unstopped = absurd (true≢false (sym stops.0.stopped ∙ unstopped))
 
 -- all of them are some of them, and so are none
 pub some_all : (all runs : List Run) → runs ≡ all → AreSomeOf [] all runs

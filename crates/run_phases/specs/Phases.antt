@@ -55,8 +55,10 @@ module _ {N : Type 0} where
     pub all : AllRunOrReturned (task_head asked) (seen_of mid.ending).passes left.note.ran.records back
     pub kept : AreRunsOfSome (map (task_of (task_head asked)) back) left.note.returned
 
-  -- What is told of a pool that was joined, whether memory was refused or not: as many tasks as accepted as were added; each of these has one record, and nothing was handed back.
+  -- What is told of a pool that was joined, whether memory was refused or not: as many tasks as accepted as were added; each of these has one record, nothing was handed back, and no
+  -- task is told that never was in the pool.
   pub record IsJoinAccount (mid : FrontMid N) (left : FrontLeft N) : Type 0 where
     pub accepted : left.note.accepted ≡ adds_total (seen_of mid.ending).passes
     pub all : AllRun (seen_of mid.ending).passes left.note.ran.records
     pub none : left.note.returned ≡ []
+    pub direct : left.note.direct ≡ []

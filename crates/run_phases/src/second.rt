@@ -123,6 +123,7 @@ fn turns_behind<'c, 't, 'i: 't, N: RunName + 'static, R: Wait>(
     ensures posted { (place : ℕ) (first : List (PrintJob N)) → stop ≡ Some place → HasPosted N.asked place first front.old.printer →
         OnTrue result (HasPosted N.asked (length turns.now) first front.new.printer) }
     ensures joined { stop ≡ None → (result ≡ not refused) × (front.new ≡ front.old) }
+    ensures none { stop ≡ None → direct.new ≡ direct.old }
 {
     if refused {
         return false;

@@ -2,7 +2,7 @@ use Rattle.std.proofs.Common.{◌≡◌, Bool, true, false, not, List, ◌++◌,
 use Rattle.std.specs.Bool.{OnTrue}
 use Rattle.pool_model.specs.Seen.{EndSeen}
 use Rattle.run_notes.specs.Accounts.{AllDone}
-use Rattle.run_phases.proofs.Runs.{stop_account, is_unstopped, report_is}
+use Rattle.run_phases.proofs.Runs.{stop_account, is_nowhere, is_unstopped, report_is}
 use Rattle.run_phases.proofs.second.second_phase.Goals.{then-missed, else-missed}
 use Rattle.run_phases.proofs.second.second_phase.Goals as goal
 
@@ -41,7 +41,13 @@ pub returns-clause-ran : goal.returns-clause-ran
 returns-clause-ran g c joined =
     let ended = c.end_pool-accepted.ensures in
     let on = sym ended.stopped ∙ joined in
-    record { accepted = ended.accepted; all = ended.ran on; none = (ended.joined on).0 }
+    let nowhere = is_nowhere g.N.RunName.asked c.args.turns.now c.args.stop c.requires.stop (sym c.requires.stops ∙ on) in
+    record {
+      accepted = ended.accepted;
+      all = ended.ran on;
+      none = (ended.joined on).0;
+      direct = c.turns_behind-done.ensures.none nowhere ∙ c.new-direct.ensures;
+    }
 
 pub returns-clause-late : goal.returns-clause-late
 returns-clause-late g c tasks = c.turns_behind-done.ensures.some (sym c.end-2.ensures.refused ∙ tasks)
