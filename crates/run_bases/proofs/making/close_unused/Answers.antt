@@ -1,4 +1,4 @@
-use Rattle.std.proofs.Common.{◌≡◌, suc, [], ◌∷◌, ◌++◌, List, map, length, length-append, refl, sym, ap, ◌∙◌, subst, arith}
+use Rattle.std.proofs.Common.{rules, ◌≡◌, suc, [], ◌∷◌, ◌++◌, List, map, length, length-append, refl, sym, ap, ◌∙◌, subst, arith}
 use Rattle.std.proofs.lemmas.List.{nil_from_length}
 use Rattle.std.specs.List.{sum_by}
 use Rattle.notify_queue.specs.Ends.{AreNewSenders, Sending}
@@ -45,6 +45,15 @@ posters-preserved g c =
           ∙ sent_push ends c.end.result i.unused (ap (λ (e : Sending g.row.J.Denot). e.sent) end_is);
       room = omega (arith, i.room, c.push_reserved.ensures.capacity);
     }
+
+pub close-rest-requires-clause-ends : goal.close-rest-requires-clause-ends
+close-rest-requires-clause-ends g c =
+    let queue = c.args.base.queue.queue in
+    let exec = c.args.base.agenda.exec in
+    let ends = c.posters.ends.items in
+    let none : length c.posters.posters.items ≡ 0 = search rules in
+    let back = subst (λ n. AreBack g.J.Headed.head queue exec c.args.senders n ends) none c.posters.invariant.back in
+    (c.all_are_back.ensures queue exec c.args.senders ends c.args.base.queue back refl (ap (λ b. b.queue.senders) c.requires.1.is_new)).0
 
 pub end-requires-2 : goal.end-requires-2
 end-requires-2 g c =
