@@ -1,9 +1,9 @@
 pub mod Calls
-pub mod Changes
 pub mod Counts
-pub mod Places
+pub mod Orders
 pub mod Probing
 pub mod Reaching
+pub mod Replaced
 pub mod Rooms
-pub mod Split
 pub mod Steps
+pub mod Values

@@ -1,5 +1,6 @@
 -- Steps round a ring of `size` cells.
-use Rattle.std.proofs.Common.{◌≡◌, ◌≢◌, ◌⊎◌, ℕ, zero, suc, ◌+◌, ◌-◌, ◌*◌, ◌%◌, ◌^◌, ◌<◌, ◌≤◌, inl, inr, ⊎_elim, zero-le, suc-le-suc, subst, shr_lt, mod-lt, pow_pos, arith}
+use Rattle.std.proofs.Common.{◌≡◌, ◌≢◌, ◌⊎◌, ℕ, zero, suc, ◌+◌, ◌-◌, ◌*◌, ◌%◌, ◌^◌, ◌<◌, ◌≤◌, ◌/◌, inl, inr, ⊎_elim, zero-le, suc-le-suc, subst, shr_lt, mod-lt, pow_mono, pow_pos, arith}
+use Rattle.std.proofs.lemmas.Nat.{pow-add}
 use Rattle.std.proofs.lemmas.Bool.Decides.{nat_tests}
 use Rattle.id_table.specs.Ring.{home_of, next, distance}
 
@@ -136,9 +137,23 @@ last_of_all size at to ha ht apart =
     (λ q f. by_distance size (next size at) to hn (λ r g. omega arith) (λ r g. omega arith))
     (λ q f. by_distance size (next size at) to hn (λ r g. omega arith) (λ r g. omega arith)))
 
-pub home_below : (bits id : ℕ) → 2 < bits → bits ≤ 64 → home_of bits id < 2 ^ bits
+pub home_below : (bits id : ℕ) → 2 < bits → bits ≤ 60 → home_of bits id < 3 * 2 ^ bits
 unfolding home_of
 home_below bits id some within =
-    let e : 64 ≡ bits + (64 - bits) = omega arith in
+    let e : 64 ≡ (4 + bits) + (60 - bits) = omega arith in
     let x : ℕ = (id * 0x9e37_79b9_7f4a_7c15) % 2 ^ 64 in
-    shr_lt bits (64 - bits) (subst (λ k. x < 2 ^ k) e (mod-lt (id * 0x9e37_79b9_7f4a_7c15) (pow_pos 64)))
+    let upper : x / 2 ^ (60 - bits) < 2 ^ (4 + bits) = shr_lt (4 + bits) (60 - bits) (subst (λ k. x < 2 ^ k) e (mod-lt (id * 0x9e37_79b9_7f4a_7c15) (pow_pos 64))) in
+    let split : 2 ^ (4 + bits) ≡ 2 ^ 4 * 2 ^ bits = pow-add 2 4 bits in
+    omega (arith, upper, split)
+
+-- the upper bits of a multiple, and three times as much, are numbers of 64 bits
+pub upper_below : (bits id : ℕ) → bits < 57 → ((id * 0x9e37_79b9_7f4a_7c15) % 2 ^ 64) / 2 ^ (60 - bits) < 2 ^ 60
+upper_below bits id within =
+    let e : 64 ≡ (4 + bits) + (60 - bits) = omega arith in
+    let x : ℕ = (id * 0x9e37_79b9_7f4a_7c15) % 2 ^ 64 in
+    let upper : x / 2 ^ (60 - bits) < 2 ^ (4 + bits) = shr_lt (4 + bits) (60 - bits) (subst (λ k. x < 2 ^ k) e (mod-lt (id * 0x9e37_79b9_7f4a_7c15) (pow_pos 64))) in
+    let most : 2 ^ (4 + bits) ≤ 2 ^ 60 = pow_mono (let low : 4 + bits ≤ 60 = omega arith in low) in
+    omega (arith, upper, most)
+
+pub size_below : (bits : ℕ) → bits ≤ 56 → 2 ^ bits ≤ 2 ^ 56
+size_below bits within = pow_mono within

@@ -2,5 +2,4 @@ pub mod Cells
 pub mod Pairs
 pub mod Probed
 pub mod Ring
-pub mod Split
 pub mod Table

@@ -1,19 +1,22 @@
--- What contracts see of a table: a list of pairs, each of an id and its place.
-use Rattle.std.specs.Prelude.{◌≡◌, ℕ, ◌≤◌, ◌==◌, Bool, List, [], ◌∷◌, Option, Some, None, count_by, if◌then◌else◌}
+-- What contracts see of a table: a list of pairs, each of an id and its value.
+use Rattle.std.specs.Prelude.{ℕ, ◌≤◌, ◌==◌, Bool, List, [], ◌∷◌, Option, Some, None, count_by, if◌then◌else◌}
 
--- the place of an id
-abbrev pub place_of : List (ℕ × ℕ) → ℕ → Option ℕ
-place_of [] id = None
-place_of (pair ∷ pairs) id = if id == pair.0 then Some pair.1 else place_of pairs id
+module _ {V : Type 0} where
+  -- the value of an id
+  abbrev pub value_of : List (ℕ × V) → ℕ → Option V
+  value_of [] id = None
+  value_of (pair ∷ pairs) id = if id == pair.0 then Some pair.1 else value_of pairs id
 
--- whether a pair is of this id
-abbrev pub has_id : ℕ → ℕ × ℕ → Bool
-has_id id pair = id == pair.0
+  -- whether a pair is of this id
+  abbrev pub has_id : ℕ → ℕ × V → Bool
+  has_id id pair = id == pair.0
 
--- no id has two places
-abbrev pub AreDistinct : List (ℕ × ℕ) → Type 0
-AreDistinct pairs = (id : ℕ) → count_by (has_id id) pairs ≤ 1
+  -- no id has two values
+  abbrev pub AreDistinct : List (ℕ × V) → Type 0
+  AreDistinct pairs = (id : ℕ) → count_by (has_id id) pairs ≤ 1
 
--- the same pairs in any order: each test is passed by as many
-abbrev pub AreSame : List (ℕ × ℕ) → List (ℕ × ℕ) → Type 0
-AreSame pairs others = (test : ℕ × ℕ → Bool) → count_by test pairs ≡ count_by test others
+module _ {X : Type 0} where
+  -- an id has another number in the first half of its value
+  abbrev pub with_number : List (ℕ × (ℕ × X)) → ℕ → ℕ → List (ℕ × (ℕ × X))
+  with_number [] id number = []
+  with_number (pair ∷ pairs) id number = if id == pair.0 then (pair.0, (number, pair.1.1)) ∷ pairs else pair ∷ with_number pairs id number

@@ -3,7 +3,7 @@ use Rattle.std.specs.Prelude.{ℕ, ◌+◌, ◌-◌, ◌*◌, ◌/◌, ◌%◌, 
 
 -- the cell at which the cells of an id begin
 unfoldable pub home_of : ℕ → ℕ → ℕ
-home_of bits id = ((id * 0x9e37_79b9_7f4a_7c15) % 2 ^ 64) / 2 ^ (64 - bits)
+home_of bits id = ((id * 0x9e37_79b9_7f4a_7c15) % 2 ^ 64) / 2 ^ (60 - bits) * 3 / 16
 
 -- the cell after this one
 unfoldable pub next : ℕ → ℕ → ℕ

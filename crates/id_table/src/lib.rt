@@ -1,4 +1,4 @@
-//! An open-addressing table from ids to places: linear probing, at most half full, removal by shifting back.
+//! An open-addressing table from ids to values: linear probing, at most two thirds full, removal by shifting back.
 //!
 //! ```text
 //!   an id --home--> a cell, and from there cell after cell, round the end
@@ -10,16 +10,15 @@
 //! No cell between an id's home and its own is empty, so a look for an id ends at an empty cell. A removal moves later
 //! cells into the gap where their ids' homes allow it, and leaves nothing behind.
 //!
-//! Ids below 2^32 have a table of their own, whose cells take 8 bytes, and the others have cells of 16.
+//! A value lies in the cell of its id. It is moved and never copied, so it may be of a type that can't be copied or dropped.
 //!
-//! Contracts see the list of the pairs of an id and its place (specs/Pairs.antt), no id twice.
+//! Contracts see the list of the pairs of an id and its value (specs/Pairs.antt), no id twice.
 #![tactic(auto)]
 
-pub use table::IdTable;
+pub use cell::Cell;
+pub use table::{IdTable, destroy_cells};
 
 mod cell;
-mod key;
-mod keyed;
 mod probe;
 mod refill;
 mod ring;

@@ -1,21 +1,21 @@
 //! The look for an id, and the cells that are filled.
-ghost use Rattle.std.specs.Prelude.{◌≡◌, ℕ, ◌+◌, ◌-◌, ◌*◌, ◌<◌, ◌≤◌, Bool, length, slice_set};
-ghost use Rattle.id_table.specs.Cells.{held, counted, filled};
+ghost use Rattle.std.specs.Prelude.{◌≡◌, ◌≢◌, ℕ, ◌+◌, ◌*◌, ◌<◌, ◌≤◌, ◌∷◌, IsPermutation, None, Some, length, slice_index_or, slice_set};
+ghost use Rattle.id_table.specs.Cells.{filled, held, pairs_of};
 ghost use Rattle.id_table.specs.Pairs.{has_id};
 ghost use Rattle.id_table.specs.Probed.{IsProbed, EndsLook};
 
 use crate::cell::Cell;
-use crate::key::Key;
 use crate::ring::{after, home};
+use std::mem::replace;
 
 // The cell that has the id, or else the empty one at which the look for it ends.
-pub(crate) fn look<K: Key>(cells: &[Cell<K>], bits: u32, id: u64) -> usize
+pub(crate) fn look<V>(cells: &[Option<Cell<V>>], bits: u32, id: u64) -> usize
     requires probed { IsProbed bits cells.now }
     ensures { EndsLook bits cells.now id result }
 {
     let mut cell = home(bits, id);
-    while cells[cell].mark() != 0 {
-        if cells[cell].id() == id {
+    while let Some(other) = &cells[cell] {
+        if other.id == id {
             return cell;
         }
         cell = after(cells.len(), cell);
@@ -23,23 +23,24 @@ pub(crate) fn look<K: Key>(cells: &[Cell<K>], bits: u32, id: u64) -> usize
     cell
 }
 
-// Writes a cell.
-pub(crate) fn write<K: Key>(cells: &mut [Cell<K>], at: usize, new: Cell<K>)
-    requires { at < length cells.old }
+// Puts something into an empty cell.
+pub(crate) fn put<V>(cells: &mut [Option<Cell<V>>], at: usize, new: Option<Cell<V>>)
+    requires within { at < length cells.old }
+    requires empty { slice_index_or cells.old at None ≡ None }
     ensures { cells.new ≡ slice_set cells.old at new }
 {
-    cells[at] = new;
+    let old = replace(&mut cells[at], new);
+    let None = old else { unreachable!() };
 }
 
 // Fills a cell with an id that no cell has. There is room for one more.
-pub(crate) fn fill<K: Key>(cells: &mut [Cell<K>], bits: u32, new: Cell<K>)
+pub(crate) fn fill<V>(cells: &mut [Option<Cell<V>>], bits: u32, new: Cell<V>)
     requires probed { IsProbed bits cells.old }
-    requires mark { 0 < new.mark }
     requires free { held (has_id new.id) cells.old ≡ 0 }
-    requires room { 2 * (filled cells.old + 1) ≤ length cells.old }
+    requires room { 3 * (filled cells.old + 1) ≤ 2 * length cells.old }
     ensures probed { IsProbed bits cells.new }
-    ensures pairs { (test : ℕ × ℕ → Bool) → held test cells.new ≡ held test cells.old + counted test new }
+    ensures pairs { IsPermutation (pairs_of cells.new) ((new.id, new.value) ∷ pairs_of cells.old) }
 {
-    let cell = look(cells, bits, new.id());
-    cells[cell] = new;
+    let cell = look(cells, bits, new.id);
+    put(cells, cell, Some(new));
 }

@@ -1,75 +1,72 @@
 //! More cells, with what the old ones held.
-ghost use Rattle.std.specs.Prelude.{◌≡◌, ℕ, ◌+◌, ◌*◌, ◌^◌, ◌<◌, ◌≤◌, Bool, length, replicate, IfOk, OnOk, OnErr};
-ghost use Rattle.id_table.specs.Cells.{held, counted, filled, empty_cell};
+ghost use Rattle.std.specs.Prelude.{◌≡◌, ℕ, ◌+◌, ◌*◌, ◌^◌, ◌<◌, ◌≤◌, [], ◌++◌, IsPermutation, None, length, replicate, IfOk, OnOk, OnErr};
+ghost use Rattle.id_table.specs.Cells.{filled, held, id_of, mark_of, pair_of, pairs_of};
 ghost use Rattle.id_table.specs.Pairs.{has_id};
 ghost use Rattle.id_table.specs.Probed.{IsProbed, IsOnce};
 ghost use Rattle.id_table.specs.Table.{IsTable, HasRoom};
 
 use crate::cell::Cell;
-use crate::key::Key;
 use crate::probe::fill;
 use std::alloc::{AllocError, Global};
+use std::mem::replace;
 
-// There are 2^4 cells at first, and never more than 2^60, which no memory holds.
-const FIRST_BITS: u32 = 4;
+// There are three times 2^3 cells at first, and never more than three times 2^56, which no memory holds.
+const FIRST_BITS: u32 = 3;
 
-const MOST_BITS: u32 = 60;
+const MOST_BITS: u32 = 56;
 
-fn empty_cells<K: Key>(alloc: Global, bits: u32) -> Result<Vec<Cell<K>>, AllocError>
-    requires { bits ≤ 60 }
-    ensures { IfOk result (λ cells. cells.items ≡ replicate (2 ^ bits) empty_cell) }
+// How many cells that is.
+fn size_of(bits: u32) -> usize
+    requires { bits ≤ 56 }
+    ensures { result ≡ 3 * 2 ^ bits }
 {
-    let size = 1usize << bits;
-    vec![in alloc; Cell::empty(); size]
+    3 * (1usize << bits)
 }
 
-// Fills a cell with what another one holds, where it holds something.
-fn carry<K: Key>(cells: &mut [Cell<K>], bits: u32, cell: Cell<K>)
-    requires probed { IsProbed bits cells.old }
-    requires free { 0 < cell.mark → held (has_id cell.id) cells.old ≡ 0 }
-    requires room { 0 < cell.mark → 2 * (filled cells.old + 1) ≤ length cells.old }
-    ensures probed { IsProbed bits cells.new }
-    ensures pairs { (test : ℕ × ℕ → Bool) → held test cells.new ≡ held test cells.old + counted test cell }
+fn empty_cells<V>(alloc: Global, bits: u32) -> Result<Vec<Option<Cell<V>>>, AllocError>
+    requires { bits ≤ 56 }
+    ensures { IfOk result (λ cells. cells.items ≡ replicate (3 * 2 ^ bits) None) }
 {
-    if cell.mark() == 0 {
-        return;
+    let size = size_of(bits);
+    let mut cells = Vec::with_capacity(alloc, size)?;
+    for _ in 0..size {
+        cells.push_reserved(None);
     }
-    fill(cells, bits, cell);
-}
-
-// Fills empty cells with all that others hold.
-fn pour<K: Key>(cells: &mut [Cell<K>], bits: u32, old: &[Cell<K>])
-    requires probed { IsProbed bits cells.old }
-    requires none { (test : ℕ × ℕ → Bool) → held test cells.old ≡ 0 }
-    requires once { IsOnce old.now }
-    requires room { 2 * filled old.now ≤ length cells.old }
-    ensures probed { IsProbed bits cells.new }
-    ensures pairs { (test : ℕ × ℕ → Bool) → held test cells.new ≡ held test old.now }
-{
-    for cell in old {
-        carry(cells, bits, *cell);
-    }
-}
-
-// 2^bits cells that hold the same.
-fn refilled<K: Key>(alloc: Global, bits: u32, old: &[Cell<K>]) -> Result<Vec<Cell<K>>, AllocError>
-    requires some { 2 < bits }
-    requires within { bits ≤ 60 }
-    requires once { IsOnce old.now }
-    requires room { 2 * filled old.now ≤ 2 ^ bits }
-    ensures probed { IfOk result (λ cells. IsProbed bits cells.items) }
-    ensures pairs { IfOk result (λ cells. (test : ℕ × ℕ → Bool) → held test cells.items ≡ held test old.now) }
-{
-    let mut cells = empty_cells(alloc, bits)?;
-    pour(&mut cells, bits, old);
     Ok(cells)
 }
 
+// Fills a cell with what another one held, where it held something.
+fn carry<V>(cells: &mut [Option<Cell<V>>], bits: u32, cell: Option<Cell<V>>)
+    requires probed { IsProbed bits cells.old }
+    requires free { 0 < mark_of cell → held (has_id (id_of cell)) cells.old ≡ 0 }
+    requires room { 0 < mark_of cell → 3 * (filled cells.old + 1) ≤ 2 * length cells.old }
+    ensures probed { IsProbed bits cells.new }
+    ensures pairs { IsPermutation (pairs_of cells.new) (pair_of cell ++ pairs_of cells.old) }
+{
+    let Some(cell) = cell else { return };
+    fill(cells, bits, cell);
+}
+
+// Fills empty cells with all that others held.
+fn pour<V>(cells: &mut [Option<Cell<V>>], bits: u32, mut old: Vec<Option<Cell<V>>>)
+    requires probed { IsProbed bits cells.old }
+    requires none { pairs_of cells.old ≡ [] }
+    requires once { IsOnce old.items }
+    requires room { 3 * filled old.items ≤ 2 * length cells.old }
+    ensures probed { IsProbed bits cells.new }
+    ensures pairs { IsPermutation (pairs_of cells.new) (pairs_of old.items) }
+{
+    while let Some(cell) = old.pop() {
+        carry(cells, bits, cell);
+    }
+    old.destroy_empty();
+}
+
 // The number of bits of the next size: twice the cells, or the first ones.
-fn more_bits<K: Key>(cells: &[Cell<K>], bits: u32, len: usize) -> u32
+fn more_bits<V>(cells: &[Option<Cell<V>>], bits: u32, len: usize) -> u32
     requires { IsTable bits len cells.now }
     ensures some { 2 < result }
-    ensures room { 2 * (len + 1) ≤ 2 ^ result }
+    ensures room { len + 1 ≤ 2 * 2 ^ result }
 {
     let size = cells.len();
     if size == 0 {
@@ -78,39 +75,44 @@ fn more_bits<K: Key>(cells: &[Cell<K>], bits: u32, len: usize) -> u32
     bits + 1
 }
 
+// Puts twice as many cells in place of these, with what they hold. A call that finds no memory leaves them as they were.
+fn grow<V>(alloc: Global, cells: &mut Vec<Option<Cell<V>>>, bits: u32) -> Result<(), AllocError>
+    requires some { 2 < bits }
+    requires within { bits ≤ 56 }
+    requires once { IsOnce cells.old.items }
+    requires room { filled cells.old.items ≤ 2 * 2 ^ bits }
+    ensures probed { OnOk result (IsProbed bits cells.new.items) }
+    ensures pairs { OnOk result (IsPermutation (pairs_of cells.new.items) (pairs_of cells.old.items)) }
+    ensures refused { OnErr result (cells.new ≡ cells.old) }
+{
+    let new = empty_cells(alloc, bits)?;
+    let old = replace(cells, new);
+    pour(cells, bits, old);
+    Ok(())
+}
+
 // Sees to it that there is room for one more. A call that finds no memory leaves all as it was.
-#[tactic(auto, using(crate::proofs::Rooms::table_once, crate::proofs::Rooms::room_now, crate::proofs::Rooms::room_new))]
-pub(crate) fn make_room<K: Key>(
+pub(crate) fn make_room<V>(
     alloc: Global,
-    cells: &mut Vec<Cell<K>>,
+    cells: &mut Vec<Option<Cell<V>>>,
     bits: &mut u32,
     len: usize,
 ) -> Result<(), AllocError>
     requires { IsTable bits.old len cells.old.items }
     ensures room { OnOk result (HasRoom bits.new len cells.new.items) }
-    ensures pairs { OnOk result ((test : ℕ × ℕ → Bool) → held test cells.new.items ≡ held test cells.old.items) }
+    ensures pairs { OnOk result (IsPermutation (pairs_of cells.new.items) (pairs_of cells.old.items)) }
     ensures bits { OnErr result (bits.new ≡ bits.old) }
     ensures cells { OnErr result (cells.new ≡ cells.old) }
 {
-    let half = cells.len() / 2;
-    if len < half {
+    let most = cells.len() / 3 * 2;
+    if len < most {
         return Ok(());
     }
     let more = more_bits(cells, *bits, len);
     if more > MOST_BITS {
         return Err(AllocError);
     }
-    let new = refilled(alloc, more, cells)?;
-    *cells = new;
+    grow(alloc, cells, more)?;
     *bits = more;
     Ok(())
-}
-
-// Empties all cells.
-pub(crate) fn wipe<K: Key>(cells: &mut [Cell<K>])
-    ensures { cells.new ≡ replicate (length cells.old) empty_cell }
-{
-    for cell in cells.iter_mut() {
-        *cell = Cell::empty();
-    }
 }

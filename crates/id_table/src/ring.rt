@@ -5,14 +5,14 @@ ghost use Rattle.id_table.specs.Ring.{home_of, next, distance};
 // 2^64 divided by the golden ratio: the upper bits of its multiples are spread evenly, those of successive ones the more so.
 const FACTOR: u64 = 0x9e37_79b9_7f4a_7c15;
 
-// The cell at which the cells of an id begin, among 2^bits: the upper bits of a multiple.
+// The cell at which the cells of an id begin, among three times 2^bits: three fourths of the upper bits of a multiple.
 #[tactic(auto, unfolding(crate::specs::Ring::home_of))]
 pub(crate) fn home(bits: u32, id: u64) -> usize
     requires some { 2 < bits }
-    requires within { bits < 64 }
+    requires within { bits < 57 }
     ensures { result ≡ home_of bits id }
 {
-    (id.wrapping_mul(FACTOR) >> (64 - bits)) as usize
+    ((id.wrapping_mul(FACTOR) >> (60 - bits)) * 3 / 16) as usize
 }
 
 // The cell after this one, the first after the last.

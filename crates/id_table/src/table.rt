@@ -1,40 +1,107 @@
-//! The table from ids to places.
-use crate::keyed::Table;
+//! The table from ids to values.
+ghost use Rattle.std.specs.Prelude.{◌≡◌, ℕ, ◌<◌, ◌++◌, None, Some, length, slice_index_or, IfOk, OnOk};
+ghost use Rattle.std.specs.List.{flat_map};
+ghost use Rattle.id_table.specs.Cells.{id_list_of, mark_at, pairs_of, renumbered, replaced};
+
+use crate::cell::Cell;
+use crate::probe::{fill, look, put};
+use crate::refill::make_room;
+use crate::ring::home;
+use crate::shift::take_out;
 use std::alloc::{AllocError, Global};
 use std::marker::Model;
 
-// The ids below this one have the narrow table, whose cells take half the memory.
-const WIDE: u64 = 0x1_0000_0000;
-
-/// A table from ids, each held once, to places. Contracts see the list of its pairs, in an order that means nothing.
+/// A table of values by their ids, each id held once. Contracts see the list of its pairs, in an order that means nothing.
 #[derive(Debug, Drop)]
-pub struct IdTable {
-    narrow: Table<u32>,
-    wide: Table<u64>,
+pub struct IdTable<V> {
+    alloc: Global,
+    bits: u32,
+    len: usize,
+    // How many of the cells that were touched held something: so they are read, though nothing needs it.
+    touched: u32,
+    cells: Vec<Option<Cell<V>>>,
 }
 
-impl Model for IdTable {
-    ghost use Rattle.std.specs.Prelude.{ℕ, List, ◌++◌};
-    ghost use Rattle.id_table.specs.Split.{IsSplit};
+impl<V> Model for IdTable<V> {
+    ghost use Rattle.std.specs.Prelude.{ℕ, List};
+    ghost use Rattle.id_table.specs.Cells.{pairs_of};
+    ghost use Rattle.id_table.specs.Table.{IsTable};
 
-    ghost Value = { List (ℕ × ℕ) };
+    ghost Value = { List (ℕ × V) };
 
-    ghost view = { λ table. table.narrow ++ table.wide };
+    ghost view = { λ table. pairs_of table.cells.items };
 
-    ghost invariant = { λ table. IsSplit table.narrow table.wide };
+    ghost invariant = { λ table. IsTable table.bits table.len table.cells.items };
 }
 
-impl IdTable {
-    ghost use Rattle.std.specs.Prelude.{◌≡◌, ◌≢◌, ℕ, ◌+◌, ◌<◌, ◌∷◌, ◌↔◌, ◌==◌, [], length, IsTrue, Some, None, IfSome, OnOk, OnErr, if◌then◌else◌};
-    ghost use Rattle.id_table.specs.Pairs.{place_of, AreSame, AreDistinct};
+// Notes the id of what a cell holds.
+fn note_id<V>(ids: &mut Vec<u64>, cell: &Option<Cell<V>>) -> Result<(), AllocError>
+    ensures { OnOk result (ids.new.items ≡ ids.old.items ++ id_list_of cell.now) }
+{
+    let Some(cell) = cell else { return Ok(()) };
+    ids.push(cell.id)?;
+    Ok(())
+}
+
+// The ids of what the cells hold.
+fn ids_in<V>(alloc: Global, cells: &[Option<Cell<V>>]) -> Result<Vec<u64>, AllocError>
+    ensures { IfOk result (λ ids. ids.items ≡ flat_map id_list_of cells.now) }
+{
+    let mut ids = Vec::new(alloc);
+    for cell in cells {
+        note_id(&mut ids, cell)?;
+    }
+    Ok(ids)
+}
+
+/// Lets empty cells go, also where what they could hold may not be dropped.
+pub fn destroy_cells<V>(mut cells: Vec<Option<Cell<V>>>)
+    requires { (k : ℕ) → slice_index_or cells.items k None ≡ None }
+{
+    while let Some(cell) = cells.pop() {
+        let None = cell else { unreachable!() };
+    }
+    cells.destroy_empty();
+}
+
+// Gives what a cell holds another number in the first half of its value.
+fn renumber<X>(cells: &mut [Option<Cell<(u64, X)>>], at: usize, number: u64)
+    requires within { at < length cells.old }
+    requires filled { 0 < mark_at cells.old at }
+    ensures { (cell : Cell (ℕ × X)) → slice_index_or cells.old at None ≡ Some cell → cells.new ≡ replaced cells.old at (renumbered cell number) }
+{
+    let Some(
+        Cell {
+            id,
+            value: (_, rest),
+        },
+    ) = cells[at].take()
+    else {
+        unreachable!()
+    };
+    let new = Cell {
+        id,
+        value: (number, rest),
+    };
+    put(cells, at, Some(new));
+}
+
+impl<V> IdTable<V> {
+    ghost use Rattle.std.specs.Prelude.{◌≡◌, ℕ, ◌+◌, ◌∷◌, ◌↔◌, ◌==◌, [], length, map, option_copied, IsPermutation, IsTrue, Some, None, IfSome, IfOk, IfErr, OnOk, OnErr, if◌then◌else◌};
+    ghost use Rattle.std.specs.List.{flat_map};
+    ghost use Rattle.id_table.specs.Cells.{pair_of};
+    ghost use Rattle.id_table.specs.Pairs.{value_of, AreDistinct};
 
     /// Holds nothing. It takes no memory before the first [`IdTable::insert`].
-    pub fn new(alloc: Global) -> IdTable
+    pub fn new(alloc: Global) -> IdTable<V>
         ensures { result ≡ [] }
     {
         IdTable {
-            narrow: Table::new(alloc),
-            wide: Table::new(alloc),
+            alloc,
+            bits: 0,
+            len: 0,
+            touched: 0,
+            cells: Vec::new(alloc),
         }
     }
 
@@ -42,91 +109,126 @@ impl IdTable {
     pub fn len(&self) -> usize
         ensures { result ≡ length self.now }
     {
-        self.narrow.len() + self.wide.len()
+        self.len
     }
 
     /// Whether no id is held.
     pub fn is_empty(&self) -> bool
         ensures { IsTrue result ↔ (length self.now ≡ 0) }
     {
-        self.len() == 0
+        self.len == 0
     }
 
-    /// The place of an id, None exactly where the id isn't held.
-    pub fn get(&self, id: u64) -> Option<u32>
-        ensures place { result ≡ place_of self.now id }
+    /// The value of an id, None exactly where the id isn't held.
+    pub fn get(&self, id: u64) -> Option<&V>
+        ensures value { option_copied result ≡ value_of self.now id }
         ensures distinct { AreDistinct self.now }
     {
-        if id < WIDE {
-            return self.narrow.get(id);
+        let len = self.len;
+        if len == 0 {
+            return None;
         }
-        self.wide.get(id)
+        let at = look(&self.cells, self.bits, id);
+        let Some(cell) = &self.cells[at] else {
+            return None
+        };
+        Some(&cell.value)
     }
 
-    /// Reads the cell at which the look for an id begins, so that it is near when the id is looked for. For several ids, touched one behind
-    /// the other, the processor fetches the cells side by side. Nothing changes.
+    /// Reads the cell at which the look for an id begins, so that it is near when the id is looked for. Nothing changes.
     pub fn touch(&mut self, id: u64)
         ensures { self.new ≡ self.old }
     {
-        if id < WIDE {
-            self.narrow.touch(id);
+        let len = self.len;
+        if len == 0 {
             return;
         }
-        self.wide.touch(id);
+        let at = home(self.bits, id);
+        let filled = self.cells[at].is_some();
+        self.touched = self.touched.wrapping_add(filled as u32);
     }
 
-    /// Holds an id with its place. The id may not be held, which [`IdTable::get`] tells. A call that finds no memory leaves
-    /// all as it was.
-    pub fn insert(&mut self, id: u64, place: u32) -> Result<(), AllocError>
-        requires free { place_of self.old id ≡ None }
-        requires place { place < 4294967295 }
-        ensures places { OnOk result ((q : ℕ) → place_of self.new q ≡ (if q == id then Some place else place_of self.old q)) }
-        ensures pairs { OnOk result (AreSame self.new ((id, place) ∷ self.old)) }
+    /// Holds an id with its value. A call that finds no memory leaves all as it was, and gives the value back.
+    pub fn insert(&mut self, id: u64, value: V) -> Result<(), V>
+        requires free { value_of self.old id ≡ None }
+        ensures values { OnOk result ((q : ℕ) → value_of self.new q ≡ (if q == id then Some value else value_of self.old q)) }
+        ensures pairs { OnOk result (IsPermutation self.new ((id, value) ∷ self.old)) }
         ensures len { OnOk result (length self.new ≡ length self.old + 1) }
         ensures distinct { OnOk result (AreDistinct self.new) }
+        ensures back { IfErr result (λ back. back ≡ value) }
         ensures refused { OnErr result (self.new ≡ self.old) }
     {
-        if id < WIDE {
-            return self.narrow.insert(id, place);
+        if let Err(_) = make_room(self.alloc, &mut self.cells, &mut self.bits, self.len) {
+            return Err(value);
         }
-        self.wide.insert(id, place)
+        fill(&mut self.cells, self.bits, Cell { id, value });
+        self.len += 1;
+        Ok(())
     }
 
-    /// Gives an id that is held another place.
-    pub fn set(&mut self, id: u64, place: u32)
-        requires held { place_of self.old id ≢ None }
-        requires place { place < 4294967295 }
-        ensures places { (q : ℕ) → place_of self.new q ≡ (if q == id then Some place else place_of self.old q) }
-        ensures len { length self.new ≡ length self.old }
-        ensures distinct { AreDistinct self.new }
-    {
-        if id < WIDE {
-            self.narrow.set(id, place);
-            return;
-        }
-        self.wide.set(id, place);
-    }
-
-    /// Takes an id out and gives the place that it had, None exactly where the id isn't held. It takes no memory.
-    pub fn remove(&mut self, id: u64) -> Option<u32>
-        ensures place { result ≡ place_of self.old id }
-        ensures places { (q : ℕ) → place_of self.new q ≡ (if q == id then None else place_of self.old q) }
-        ensures pairs { IfSome result (λ place. AreSame self.old ((id, place) ∷ self.new)) }
-        ensures len { IfSome result (λ place. length self.old ≡ length self.new + 1) }
+    /// Takes an id out and gives its value, None exactly where the id isn't held. It takes no memory.
+    pub fn remove(&mut self, id: u64) -> Option<V>
+        ensures value { result ≡ value_of self.old id }
+        ensures values { (q : ℕ) → value_of self.new q ≡ (if q == id then None else value_of self.old q) }
+        ensures pairs { IfSome result (λ value. IsPermutation self.old ((id, value) ∷ self.new)) }
+        ensures len { IfSome result (λ value. length self.old ≡ length self.new + 1) }
         ensures none { result ≡ None → self.new ≡ self.old }
         ensures distinct { AreDistinct self.new }
     {
-        if id < WIDE {
-            return self.narrow.remove(id);
+        let len = self.len;
+        if len == 0 {
+            return None;
         }
-        self.wide.remove(id)
+        let at = look(&self.cells, self.bits, id);
+        if self.cells[at].is_none() {
+            return None;
+        }
+        let Cell { value, .. } = take_out(&mut self.cells, self.bits, at);
+        self.len -= 1;
+        Some(value)
     }
 
-    /// Takes all ids out, and keeps the memory.
-    pub fn clear(&mut self)
-        ensures { self.new ≡ [] }
+    /// The ids that are held.
+    pub fn ids(&self, alloc: Global) -> Result<Vec<u64>, AllocError>
+        ensures { IfOk result (λ ids. ids.items ≡ map (λ (pair : ℕ × V). pair.0) self.now) }
     {
-        self.narrow.clear();
-        self.wide.clear();
+        let ids = ids_in(alloc, &self.cells)?;
+        Ok(ids)
+    }
+
+    /// The cells alone, without memory.
+    pub fn into_cells(self) -> Vec<Option<Cell<V>>>
+        ensures { flat_map pair_of result.items ≡ self }
+    {
+        let IdTable { cells, .. } = self;
+        cells
+    }
+
+    /// Lets a table go that holds nothing, also where what it could hold may not be dropped.
+    pub fn destroy_empty(self)
+        requires { self ≡ [] }
+    {
+        let IdTable { cells, .. } = self;
+        destroy_cells(cells);
+    }
+}
+
+impl<X> IdTable<(u64, X)> {
+    ghost use Rattle.std.specs.Prelude.{◌≡◌, ◌≢◌, ℕ, ◌∷◌, ◌==◌, length, IsPermutation, None, Some, option_map, if◌then◌else◌};
+    ghost use Rattle.id_table.specs.Pairs.{value_of, with_number, AreDistinct};
+
+    /// Gives an id that is held another number in the first half of its value.
+    pub fn set(&mut self, id: u64, number: u64)
+        requires held { value_of self.old id ≢ None }
+        ensures list { self.new ≡ with_number self.old id number }
+        ensures values { (q : ℕ) → value_of self.new q
+            ≡ (if q == id then option_map (λ (value : ℕ × X). (number, value.1)) (value_of self.old q) else value_of self.old q) }
+        ensures pairs { (value : ℕ × X) → value_of self.old id ≡ Some value
+            → IsPermutation ((id, value) ∷ self.new) ((id, (number, value.1)) ∷ self.old) }
+        ensures len { length self.new ≡ length self.old }
+        ensures distinct { AreDistinct self.new }
+    {
+        let at = look(&self.cells, self.bits, id);
+        renumber(&mut self.cells, at, number);
     }
 }

@@ -18,25 +18,43 @@ fn differ(id: u64) -> Result<(), Fail> {
     Err(Fail::new(format_args!("the table and the map differ at {id}")))
 }
 
+// What is in the box of an id.
+fn seen(table: &IdTable<Box<u32>>, id: u64) -> Option<u32> {
+    match table.get(id) {
+        Some(value) => Some(**value),
+        None => None,
+    }
+}
+
+// Takes an id out, and what was in its box.
+fn taken(table: &mut IdTable<Box<u32>>, id: u64) -> Option<u32> {
+    match table.remove(id) {
+        Some(value) => Some(*value),
+        None => None,
+    }
+}
+
+// Holds an id that isn't held.
 fn hold(
-    table: &mut IdTable,
+    alloc: Global,
+    table: &mut IdTable<Box<u32>>,
     map: &mut BTreeMap<u64, u32>,
     id: u64,
-    place: u32,
+    value: u32,
 ) -> Result<(), Fail> {
-    if place == u32::MAX {
+    if table.get(id).is_some() {
         return Ok(());
     }
-    match table.get(id) {
-        Some(_) => table.set(id, place),
-        None => table.insert(id, place)?,
-    }
-    map.insert(id, place)?;
+    let Ok(()) = table.insert(id, Box::new(alloc, value)?) else {
+        return Err(Fail::new(format_args!("no memory")));
+    };
+    map.insert(id, value)?;
     Ok(())
 }
 
 fn call_both(
-    table: &mut IdTable,
+    alloc: Global,
+    table: &mut IdTable<Box<u32>>,
     map: &mut BTreeMap<u64, u32>,
     first: u64,
     ids: u64,
@@ -45,19 +63,34 @@ fn call_both(
     requires { 0 < ids }
 {
     let id = first.wrapping_add(draw(seed) % ids);
-    let place = (draw(seed) % 4_000_000_000) as u32;
+    let value = (draw(seed) % 4_000_000_000) as u32;
     if draw(seed) % 2 == 0 {
-        hold(table, map, id, place)?;
-    } else if table.remove(id) != map.remove(&id) {
+        hold(alloc, table, map, id, value)?;
+    } else if taken(table, id) != map.remove(&id) {
         return differ(id);
     }
-    if table.get(id) != map.get(&id).copied() || table.len() != map.len() {
+    if seen(table, id) != map.get(&id).copied() || table.len() != map.len() {
         return differ(id);
     }
     Ok(())
 }
 
-// Drawn calls on so many ids from the first one, a look at each id, and that nothing is left after a clear.
+// The table's ids, in order, are the map's.
+fn same_ids(
+    alloc: Global,
+    table: &IdTable<Box<u32>>,
+    map: &BTreeMap<u64, u32>,
+) -> Result<bool, Fail> {
+    let mut ids = table.ids(alloc)?;
+    ids.sort_unstable();
+    let mut keys = Vec::new(alloc);
+    for key in map.keys() {
+        keys.push(*key)?;
+    }
+    Ok(ids == keys)
+}
+
+// Drawn calls on so many ids from the first one, and then a look at each id.
 fn compare(alloc: Global, first: u64, ids: u64, seed: u64) -> Result<(), Fail>
     requires { 0 < ids }
 {
@@ -65,17 +98,16 @@ fn compare(alloc: Global, first: u64, ids: u64, seed: u64) -> Result<(), Fail>
     let mut map = BTreeMap::new(alloc);
     let mut seed = seed;
     for _ in 0..400 {
-        call_both(&mut table, &mut map, first, ids, &mut seed)?;
+        call_both(alloc, &mut table, &mut map, first, ids, &mut seed)?;
     }
     for k in 0..ids {
         let id = first.wrapping_add(k);
-        if table.get(id) != map.get(&id).copied() {
+        if seen(&table, id) != map.get(&id).copied() {
             return differ(id);
         }
     }
-    table.clear();
-    if !table.is_empty() || table.get(0).is_some() {
-        return differ(0);
+    if !same_ids(alloc, &table, &map)? {
+        return differ(first);
     }
     Ok(())
 }

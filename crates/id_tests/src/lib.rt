@@ -5,3 +5,5 @@
 mod drawn;
 #[cfg(test)]
 mod rows;
+#[cfg(test)]
+mod spent;

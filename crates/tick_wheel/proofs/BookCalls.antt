@@ -1,241 +1,314 @@
--- What the calls of a book make of its table, its lanes and its index.
-use Rattle.std.proofs.Common.{◌≡◌, ◌≢◌, ℕ, ◌+◌, ◌<◌, ◌≤◌, cond, nat_eq, List, [], ◌∷◌, length, Option, Some, None, option_map, IsSome, is_some, refl, sym, ap, ◌∙◌, subst, arith, ⊎_elim}
-use Rattle.std.specs.List.{sum_by}
+-- What the calls of a book make of its table, its slots and its index.
+use Rattle.std.proofs.Common.{◌≡◌, ◌≢◌, ℕ, zero, suc, ◌+◌, ◌-◌, ◌*◌, ◌/◌, ◌%◌, ◌<◌, ◌≤◌, ◌==◌, cond, nat_eq, List, [], ◌∷◌, ◌++◌, length, take, get_or, slice_get, Option, Some, None, Result, Ok, Err, slice_index, option_map, option_to_list, is_some, true, false, refl, sym, ap, ◌∙◌, subst, arith, ⊎_elim}
+use Rattle.std.specs.List.{sum_by, Contains}
+use Rattle.std.proofs.lemmas.List.{append-nil, append_assoc}
+use Rattle.std.proofs.lemmas.List.Elements.{Contains-append_left, Contains-append_right, Contains-append_cases}
 use Rattle.std.specs.List.Sorted.{IsPermutation}
 use Rattle.std.proofs.lemmas.List.Sorted.{Contains-permutation, IsPermutation-sym}
-use Rattle.std.specs.Option.{IfNone}
-use Rattle.std.proofs.lemmas.Grind.{common_steps}
+use Rattle.std.specs.Option.{IsSome, IfNone}
+use Rattle.std.specs.Result.{OnOk}
 use Rattle.std.proofs.lemmas.Bool.{cases_eq}
-use Rattle.std.proofs.lemmas.List.Sums.{sum_by-cons}
+use Rattle.std.proofs.lemmas.Grind.{common_steps}
 use Rattle.std.proofs.lemmas.Option.{none-some, same_Some}
-use Rattle.id_table.specs.Pairs.{place_of}
-use Rattle.timer_lanes.specs.declared.lanes.Found.{Found}
-use Rattle.timer_lanes.specs.Found.{Finds}
-use Rattle.timer_lanes.specs.Gathering.{ListsSlot}
-use Rattle.timer_lanes.specs.Lanes.{Held, HasOneMore, IsMoved, lane_at, all_held, in_slot_of}
-use Rattle.tick_wheel.specs.Book.{IsBook, id_at}
+use Rattle.id_table.specs.Pairs.{value_of, with_number, AreDistinct}
+use Rattle.timer_slots.specs.Seen.{SlotsSeen, id_in, list_of, spot_at, tail_at, tail_of, times}
+use Rattle.timer_slots.specs.Steps.{Puts, Moves}
+use Rattle.tick_wheel.specs.Book.{IsBook, IsDueFrom, IsGone, IsPut, key_list, key_of_value, key_option, keys_from, spot_of}
+use Rattle.tick_wheel.specs.Held.{Held, held_in, held_of, seen_pairs}
 use Rattle.tick_wheel.specs.Place.{slot_for}
-use Rattle.tick_wheel.specs.Table.{Index, IsUnique, IsLeft, PlacesAnew, ListsIds, held_at, moved}
-use Rattle.tick_wheel.proofs.Booked.{book_once, lane_found, found_lane, once_unique, same_held, held_more, held_less, held_moved}
+use Rattle.tick_wheel.specs.Table.{IsLeft, PlacesAnew, ListsIds, held_at, moved}
+use Rattle.tick_wheel.specs.declared.timed.Timed.{Timed}
+use Rattle.tick_wheel.proofs.Flat.{option_from, option_into}
+use Rattle.tick_wheel.proofs.Booked.{at_yes, at_no, held_has, held_same, value_held, free_value, free_held, spot_has, value_spot, free_spot, unique_seen, seen_number, sum_number}
 use Rattle.tick_wheel.proofs.Inverse.{inverse_add, inverse_drop, inverse_move}
 
-ones : {B : Type 0} (xs : List B) → sum_by (λ (_ : B). 1) xs ≡ length xs
-ones [] = refl
-ones {B = B} (x ∷ xs) = sum_by-cons (λ (_ : B). 1) x xs ∙ ap (λ n. 1 + n) (ones xs) ∙ (omega arith)
+is_not_none : {X : Type 0} (o : Option X) (x : X) → o ≡ Some x → o ≢ None
+is_not_none o x is none = none-some x (sym none ∙ is)
 
-is_none : (o : Option ℕ) → ((x : ℕ) → o ≡ Some x → ⊥) → o ≡ None
-is_none None never = refl
-is_none (Some x) never = absurd (never x refl)
+to_some : {X : Type 0} (o : Option X) (x : X) → o ≡ Some x → IsSome o
+to_some {X = X} o x is = ap (λ (p : Option X). is_some p) is
 
 pub if_none : {X : Type 0} (o : Option X) (P : Type 0) → o ≡ None → P → IfNone o P
 if_none {X = X} o P is p = subst (λ (q : Option X). IfNone q P) (sym is) p
 
+pub put_stands : (slots mid : SlotsSeen) (slot id spot : ℕ) → Puts slots mid slot id spot → IsSome (spot_at mid spot)
+put_stands slots mid slot id spot puts = to_some (spot_at mid spot) id (puts.values spot ∙ at_yes spot spot (Some id) (spot_at slots spot) refl)
+
+pub on_ok : {X E : Type 0} (r : Result X E) (P : Type 0) → P → OnOk r P
+on_ok (Ok x) P p = p
+on_ok (Err e) P p = tt
+
+pub equal_zero : (n : ℕ) → nat_eq n 0 ≡ true → n ≡ 0
+equal_zero n t = grind (arith, common_steps)
+
+plus_zero : (n : ℕ) → n + 0 ≡ n
+plus_zero n = omega arith
+
+one_more : (n : ℕ) → suc n ≡ n + 1
+one_more n = omega arith
+
+next : (spot n : ℕ) → spot + 1 + n ≡ spot + suc n
+next spot n = omega arith
+
+-- a spot is its slot and its place
+spot_slot : (spot slot place : ℕ) → place < 4294967296 → spot ≡ slot * 4294967296 + place → spot / 4294967296 ≡ slot
+spot_slot spot slot place low is = omega (arith, low, is)
+
+spot_parts : (spot slot : ℕ) → spot / 4294967296 ≡ slot → spot ≡ slot * 4294967296 + spot % 4294967296
+spot_parts spot slot is = omega (arith, is)
+
+-- where an id is seen at a spot, the slot's list has it there
+in_list : (slots : SlotsSeen) (q id : ℕ) → spot_at slots q ≡ Some id → id_in slots.lists q ≡ Some id
+in_list slots q id is =
+    elim (times slots.late q == 0) as (λ b. cond b (id_in slots.lists q) None ≡ Some id → id_in slots.lists q ≡ Some id) [
+      | true ↦ λ e. e
+      | false ↦ λ e. absurd (none-some id e)
+    ] is
+
 module _ {T : Type 0} where
-  -- the id of a lane
-  lane_of_id : (o : Option (ℕ × Held T)) (id : ℕ) → option_map (λ (x : ℕ × Held T). x.0) o ≡ Some id → (h : Held T) × (o ≡ Some (id, h))
-  lane_of_id None id is = absurd (none-some id is)
-  lane_of_id (Some x) id is = (x.1, (λ i. Some (same_Some x.0 id is i, x.1)))
+  -- the same ids at the same spots
+  pub book_same : (pairs : List (ℕ × (ℕ × Timed T))) (slots new : SlotsSeen) → IsBook pairs slots → ((q : ℕ) → spot_at new q ≡ spot_at slots q) → IsBook pairs new
+  book_same pairs slots new book same = record {
+    linked = record {
+      there = λ a b is. same b ∙ book.linked.there a b is;
+      back = λ a b is. book.linked.back a b (sym (same b) ∙ is);
+    };
+    distinct = book.distinct;
+  }
 
-  id_some : (o : Option (ℕ × Held T)) (x : ℕ × Held T) → o ≡ Some x → option_map (λ (y : ℕ × Held T). y.0) o ≡ Some x.0
-  id_some o x is = ap (option_map (λ (y : ℕ × Held T). y.0)) is
+  -- an id comes
+  module _ (old new : List (ℕ × (ℕ × Timed T))) (slots slots' : SlotsSeen) (slot id spot : ℕ) (timed : Timed T) (book : IsBook old slots)
+      (puts : Puts slots slots' slot id spot) (free : held_at (seen_pairs old) id ≡ None)
+      (values : (q : ℕ) → value_of new q ≡ cond (nat_eq q id) (Some (spot, timed)) (value_of old q)) (distinct : AreDistinct new) where
+    spots : (q : ℕ) → spot_of new q ≡ cond (nat_eq q id) (Some spot) (spot_of old q)
+    spots q = ⊎_elim
+        (λ e. ap (option_map (λ (v : ℕ × Timed T). v.0)) (values q ∙ at_yes q id (Some (spot, timed)) (value_of old q) e) ∙ sym (at_yes q id (Some spot) (spot_of old q) e))
+        (λ ne. ap (option_map (λ (v : ℕ × Timed T). v.0)) (values q ∙ at_no q id (Some (spot, timed)) (value_of old q) ne) ∙ sym (at_no q id (Some spot) (spot_of old q) ne))
+        (cases_eq q id)
 
-  id_none : (o : Option (ℕ × Held T)) → o ≡ None → option_map (λ (y : ℕ × Held T). y.0) o ≡ None
-  id_none o is = ap (option_map (λ (y : ℕ × Held T). y.0)) is
-
-  is_none_held : (o : Option (Held T)) → ((x : Held T) → o ≡ Some x → ⊥) → o ≡ None
-  is_none_held None never = refl
-  is_none_held (Some x) never = absurd (never x refl)
-
-  pub one_length : (old new : List (Option (ℕ × Held T))) (lane : ℕ) (x : ℕ × Held T) → HasOneMore old new lane x → length (all_held new) ≡ length (all_held old) + 1
-  one_length old new lane x more = let sum = more.sums (λ _. 1) in omega (arith, sum, ones (all_held new), ones (all_held old))
-
-  module _ (ps : List (ℕ × ℕ)) (ls : List (Option (ℕ × Held T))) (v : Index T) (book : IsBook ps ls) (view : all_held ls ≡ v) where
-    -- an id has a place where it has an entry
-    pub held_place : (id : ℕ) (h : Held T) → held_at v id ≡ Some h → (k : ℕ) × (place_of ps id ≡ Some k) × (lane_at ls k ≡ Some (id, h))
-    held_place id h is =
-        let r = found_lane ls id h (ap (λ (es : Index T). held_at es id) view ∙ is) in
-        (r.0, book.linked.back id r.0 (id_some (lane_at ls r.0) (id, h) r.1), r.1)
-
-    pub place_held : (id k : ℕ) → place_of ps id ≡ Some k → (h : Held T) × (lane_at ls k ≡ Some (id, h)) × (held_at v id ≡ Some h)
-    place_held id k is =
-        let r = lane_of_id (lane_at ls k) id (book.linked.there id k is) in
-        (r.0, r.1, ap (λ (es : Index T). held_at es id) (sym view) ∙ lane_found ls k (id, r.0) (book_once ps ls book.linked) r.1)
-
-    pub free_place : (id : ℕ) → held_at v id ≡ None → place_of ps id ≡ None
-    free_place id free = is_none (place_of ps id) (λ k is. none-some _ (sym free ∙ (place_held id k is).2))
-
-    pub free_held : (id : ℕ) → place_of ps id ≡ None → held_at v id ≡ None
-    free_held id free = is_none_held (held_at v id) (λ h is. none-some _ (sym free ∙ (held_place id h is).1))
-
-    pub holds_same : (id : ℕ) → is_some (place_of ps id) ≡ is_some (held_at v id)
-    holds_same id =
-        elim (place_of ps id) as (λ o. place_of ps id ≡ o → is_some o ≡ is_some (held_at v id)) [
-          | None ↦ λ is. sym (ap (λ (o : Option (Held T)). is_some o) (free_held id is))
-          | Some k ↦ λ is. sym (ap (λ (o : Option (Held T)). is_some o) (place_held id k is).2)
-        ] refl
-
-    pub book_len : length ps ≡ length v
-    book_len = book.size ∙ ap (λ (es : Index T). length es) view
-
-    pub unique_now : IsUnique v
-    unique_now = subst IsUnique view (once_unique ls (book_once ps ls book.linked))
-
-    -- an entry comes
-    module _ (ps' : List (ℕ × ℕ)) (new : List (Option (ℕ × Held T))) (lane : ℕ) (x : ℕ × Held T) (more : HasOneMore ls new lane x) (free : held_at v x.0 ≡ None)
-        (places : (q : ℕ) → place_of ps' q ≡ cond (nat_eq q x.0) (Some lane) (place_of ps q)) (len : length ps' ≡ length ps + 1) where
-      pub insert_book : IsBook ps' new
-      insert_book = record {
-        linked = inverse_add (place_of ps) (place_of ps') (id_at ls) (id_at new) x.0 lane book.linked (free_place x.0 free) (id_none (lane_at ls lane) more.empty) places
-            (id_some (lane_at new lane) x more.here) (λ k ne. ap (option_map (λ (y : ℕ × Held T). y.0)) (more.others k ne));
-        size = let size = book.size in omega (arith, len, size, one_length ls new lane x more);
-      }
-
-      pub insert_held : (q : ℕ) → held_at (all_held new) q ≡ cond (nat_eq x.0 q) (Some x.1) (held_at v q)
-      insert_held q =
-          held_more ls new lane x (book_once ps ls book.linked) (book_once ps' new insert_book.linked) more q ∙ ap (λ (es : Index T). cond (nat_eq x.0 q) (Some x.1) (held_at es q)) view
-
-      pub insert_unique : IsUnique (all_held new)
-      insert_unique = once_unique new (book_once ps' new insert_book.linked)
-
-    -- an entry that came goes again
-    pub back_held : (mid new : List (Option (ℕ × Held T))) (lane : ℕ) (x y : ℕ × Held T) → HasOneMore ls mid lane x → HasOneMore new mid lane y → all_held new ≡ all_held ls
-    back_held mid new lane x y more less = same_held new ls (λ k. back_at mid new lane x y more less k)
-      where
-        back_at : (mid new : List (Option (ℕ × Held T))) (lane : ℕ) (x y : ℕ × Held T) → HasOneMore ls mid lane x → HasOneMore new mid lane y → (k : ℕ) → lane_at new k ≡ lane_at ls k
-        back_at mid new lane x y more less k =
-            ⊎_elim (λ same. ap (lane_at new) same ∙ less.empty ∙ sym more.empty ∙ ap (lane_at ls) (sym same)) (λ ne. sym (less.others k ne) ∙ more.others k ne) (cases_eq k lane)
-
-    pub back_book : (ps' : List (ℕ × ℕ)) (mid new : List (Option (ℕ × Held T))) (lane : ℕ) (x y : ℕ × Held T) → ps' ≡ ps → HasOneMore ls mid lane x → HasOneMore new mid lane y → IsBook ps' new
-    back_book ps' mid new lane x y same more less =
-        subst (λ (qs : List (ℕ × ℕ)). IsBook qs new) (sym same) (record {
-          linked = record {
-            there = λ a b is. ap (option_map (λ (y : ℕ × Held T). y.0)) (back_lane b) ∙ book.linked.there a b is;
-            back = λ a b is. book.linked.back a b (ap (option_map (λ (y : ℕ × Held T). y.0)) (sym (back_lane b)) ∙ is);
-          };
-          size = book.size ∙ ap (λ (es : Index T). length es) (sym (back_held mid new lane x y more less));
-        })
-      where
-        back_lane : (k : ℕ) → lane_at new k ≡ lane_at ls k
-        back_lane k =
-            ⊎_elim (λ e. ap (lane_at new) e ∙ less.empty ∙ sym more.empty ∙ ap (lane_at ls) (sym e)) (λ ne. sym (less.others k ne) ∙ more.others k ne) (cases_eq k lane)
-
-    -- an entry leaves
-    module _ (ps' : List (ℕ × ℕ)) (new : List (Option (ℕ × Held T))) (id lane : ℕ) (y : ℕ × Held T) (is : place_of ps id ≡ Some lane) (less : HasOneMore new ls lane y)
-        (places : (q : ℕ) → place_of ps' q ≡ cond (nat_eq q id) None (place_of ps q)) (len : length ps ≡ length ps' + 1) where
-      pub remove_id : y.0 ≡ id
-      remove_id = ap (λ (z : ℕ × Held T). z.0) (same_Some y (id, (place_held id lane is).0) (sym less.here ∙ (place_held id lane is).1))
-
-      pub remove_was : held_at v id ≡ Some y.1
-      remove_was = (place_held id lane is).2 ∙ ap (λ (z : ℕ × Held T). Some z.1) (sym (same_Some y (id, (place_held id lane is).0) (sym less.here ∙ (place_held id lane is).1)))
-
-      pub remove_book : IsBook ps' new
-      remove_book = record {
-        linked = inverse_drop (place_of ps) (place_of ps') (id_at ls) (id_at new) id lane book.linked is places (id_none (lane_at new lane) less.empty)
-            (λ k ne. ap (option_map (λ (y : ℕ × Held T). y.0)) (sym (less.others k ne)));
-        size = let size = book.size in omega (arith, len, size, one_length new ls lane y less);
-      }
-
-      pub remove_held : (q : ℕ) → held_at (all_held new) q ≡ cond (nat_eq id q) None (held_at v q)
-      remove_held q =
-          subst (λ n. held_at (all_held new) q ≡ cond (nat_eq n q) None (held_at v q)) remove_id
-          (held_less ls new lane y (book_once ps ls book.linked) (book_once ps' new remove_book.linked) less q ∙ ap (λ (es : Index T). cond (nat_eq y.0 q) None (held_at es q)) view)
-
-      pub remove_unique : IsUnique (all_held new)
-      remove_unique = once_unique new (book_once ps' new remove_book.linked)
-
-    pub none_gone : (id : ℕ) → held_at v id ≡ None → (q : ℕ) → held_at v q ≡ cond (nat_eq id q) None (held_at v q)
-    none_gone id free q = ⊎_elim
-        (λ same. ap (held_at v) (sym same) ∙ free ∙ sym (here id q (held_at v q) same))
-        (λ ne. sym (there id q (held_at v q) ne)) (cases_eq id q)
-      where
-        here : (a b : ℕ) (o : Option (Held T)) → a ≡ b → cond (nat_eq a b) None o ≡ None
-        here a b o same = grind (arith, common_steps)
-
-        there : (a b : ℕ) (o : Option (Held T)) → a ≢ b → cond (nat_eq a b) None o ≡ o
-        there a b o ne = grind (arith, common_steps)
-
-    -- an entry of a slot is placed anew
-    module _ (from tick to lane : ℕ) (found : Found) (finds : Finds ls from found) (to_is : to ≡ slot_for tick found.due) where
-      pub found_held : held_at v found.id ≡ Some finds.held
-      found_held = ap (λ (es : Index T). held_at es found.id) (sym view) ∙ lane_found ls found.lane (found.id, finds.held) (book_once ps ls book.linked) finds.is
-
-      pub found_place : place_of ps found.id ≡ Some found.lane
-      found_place = book.linked.back found.id found.lane (id_some (lane_at ls found.lane) (found.id, finds.held) finds.is)
-
-      pub found_some : IsSome (lane_at ls found.lane)
-      found_some = subst (λ (o : Option (ℕ × Held T)). IsSome o) (sym finds.is) refl
-
-      module _ (ps' : List (ℕ × ℕ)) (new : List (Option (ℕ × Held T))) (move : (x : ℕ × Held T) × IsMoved ls new found.lane lane to x)
-          (places : (q : ℕ) → place_of ps' q ≡ cond (nat_eq q found.id) (Some lane) (place_of ps q)) (len : length ps' ≡ length ps) where
-        same_x : move.0 ≡ (found.id, finds.held)
-        same_x = same_Some move.0 (found.id, finds.held) (sym move.1.was ∙ finds.is)
-
-        moves : IsMoved ls new found.lane lane to (found.id, finds.held)
-        moves = subst (λ (x : ℕ × Held T). IsMoved ls new found.lane lane to x) same_x move.1
-
-        pub moved_book : IsBook ps' new
-        moved_book = record {
-          linked = inverse_move (place_of ps) (place_of ps') (id_at ls) (id_at new) found.id found.lane lane book.linked found_place (id_none (lane_at ls lane) moves.free) places
-              (id_some (lane_at new lane) (in_slot_of (found.id, finds.held) to) moves.here) (id_none (lane_at new found.lane) moves.gone)
-              (λ k ne far. ap (option_map (λ (y : ℕ × Held T). y.0)) (moves.others k ne far));
-          size =
-              let sum = moves.sums (λ _. 1) in
-              let size = book.size in
-              omega (arith, sum, ones (all_held new), ones (all_held ls), size, len);
-        }
-
-        pub placed_anew : PlacesAnew v (all_held new) from tick
-        placed_anew =
-            let to' : to ≡ slot_for tick finds.held.due = to_is ∙ ap (slot_for tick) (sym finds.due_is) in
-            record {
-              id = found.id;
-              held = finds.held;
-              was = found_held;
-              slot_is = finds.slot_is;
-              at = λ q. held_moved ls new found.lane lane to (found.id, finds.held) (book_once ps ls book.linked) (book_once ps' new moved_book.linked) moves q
-                  ∙ (λ i. cond (nat_eq found.id q) (Some (moved finds.held (to' i))) (held_at (view i) q));
-              unique = once_unique new (book_once ps' new moved_book.linked);
-              sums = λ f. moves.sums f ∙ (λ i. sum_by f (view i) + f (found.id, moved finds.held (to' i)));
-            }
-
-    pub nothing_left : (from : ℕ) → ((k : ℕ) (x : ℕ × Held T) → lane_at ls k ≡ Some x → x.1.slot ≢ from) → IsLeft from v
-    nothing_left from none id h is = let r = held_place id h is in none r.0 (id, h) r.2
-
-    pub none_listed : (slot : ℕ) → ((k : ℕ) (x : ℕ × Held T) → lane_at ls k ≡ Some x → x.1.slot ≢ slot) → ListsIds v slot []
-    none_listed slot none = record {
-      each = λ g c. let low : c.0 < 0 = c.1 in absurd (omega (arith, low));
-      all = λ id h is at. absurd (nothing_left slot none id h is at);
+    pub put_book : IsBook new slots'
+    put_book = record {
+      linked = inverse_add (spot_of old) (spot_of new) (spot_at slots) (spot_at slots') id spot book.linked (free_spot old id (free_value old id free)) puts.free spots puts.values;
+      distinct = distinct;
     }
 
-    pub listed : (slot : ℕ) (items : List (ℕ × ℕ)) → ListsSlot ls slot items → ListsIds v slot items
-    listed slot items lists = record {
+    pub put_is : IsPut (seen_pairs old) (seen_pairs new) slot id timed
+    put_is q = ⊎_elim
+        (λ e.
+        value_held new q (spot, timed) (values q ∙ at_yes q id (Some (spot, timed)) (value_of old q) (sym e))
+        ∙ (ap (λ (s : ℕ). Some (held_in s timed)) puts.slot_is ∙ sym (at_yes id q (Some (held_in slot timed)) (held_at (seen_pairs old) q) e)))
+        (λ ne. held_same old new q (values q ∙ at_no q id (Some (spot, timed)) (value_of old q) (λ e. ne (sym e))) ∙ sym (at_no id q (Some (held_in slot timed)) (held_at (seen_pairs old) q) ne))
+        (cases_eq id q)
+
+  -- an id that came and could not be held leaves again
+  pub back_book : (pairs : List (ℕ × (ℕ × Timed T))) (slots mid new : SlotsSeen) (slot id spot : ℕ) → IsBook pairs slots → Puts slots mid slot id spot
+      → ((q : ℕ) → spot_at new q ≡ cond (nat_eq q spot) None (spot_at mid q)) → IsBook pairs new
+  back_book pairs slots mid new slot id spot book puts leaves =
+      book_same pairs slots new book (λ q. ⊎_elim
+      (λ e. leaves q ∙ (at_yes q spot None (spot_at mid q) e ∙ sym (ap (spot_at slots) e ∙ puts.free)))
+      (λ ne. leaves q ∙ (at_no q spot None (spot_at mid q) ne ∙ (puts.values q ∙ at_no q spot (Some id) (spot_at slots q) ne)))
+      (cases_eq q spot))
+
+  -- an id leaves
+  module _ (old new : List (ℕ × (ℕ × Timed T))) (slots : SlotsSeen) (id : ℕ) (value : ℕ × Timed T) (book : IsBook old slots) (was : value_of old id ≡ Some value) where
+    pub gone_stands : IsSome (spot_at slots value.0)
+    gone_stands = to_some (spot_at slots value.0) id (book.linked.there id value.0 (value_spot old id value was))
+
+    pub gone_book : (slots' : SlotsSeen) → ((q : ℕ) → value_of new q ≡ cond (nat_eq q id) None (value_of old q)) → AreDistinct new
+        → ((q : ℕ) → spot_at slots' q ≡ cond (nat_eq q value.0) None (spot_at slots q)) → IsBook new slots'
+    gone_book slots' values distinct leaves = record {
+      linked = inverse_drop (spot_of old) (spot_of new) (spot_at slots) (spot_at slots') id value.0 book.linked (value_spot old id value was)
+          (λ q. ⊎_elim
+          (λ e. free_spot new q (values q ∙ at_yes q id None (value_of old q) e) ∙ sym (at_yes q id None (spot_of old q) e))
+          (λ ne. ap (option_map (λ (v : ℕ × Timed T). v.0)) (values q ∙ at_no q id None (value_of old q) ne) ∙ sym (at_no q id None (spot_of old q) ne))
+          (cases_eq q id))
+          leaves;
+      distinct = distinct;
+    }
+
+    pub gone_was : (slot : ℕ) × (held_at (seen_pairs old) id ≡ Some (held_in slot value.1))
+    gone_was = (value.0 / 4294967296, value_held old id value was)
+
+  pub gone_is : (old new : List (ℕ × (ℕ × Timed T))) (id : ℕ) → ((q : ℕ) → value_of new q ≡ cond (nat_eq q id) None (value_of old q))
+      → IsGone (seen_pairs old) (seen_pairs new) id
+  gone_is old new id values q = ⊎_elim
+      (λ e. free_held new q (values q ∙ at_yes q id None (value_of old q) (sym e)) ∙ sym (at_yes id q None (held_at (seen_pairs old) q) e))
+      (λ ne. held_same old new q (values q ∙ at_no q id None (value_of old q) (λ e. ne (sym e))) ∙ sym (at_no id q None (held_at (seen_pairs old) q) ne))
+      (cases_eq id q)
+
+  -- an id is at another spot
+  module _ (old new : List (ℕ × (ℕ × Timed T))) (slots slots' : SlotsSeen) (slot id from to : ℕ) (book : IsBook old slots) (moves : Moves slots slots' slot id from to) where
+    pub moved_value : (value : ℕ × Timed T) × (value_of old id ≡ Some value) × (value.0 ≡ from)
+    moved_value = spot_has old id from (book.linked.back id from moves.was)
+
+    pub moved_held : value_of old id ≢ None
+    moved_held = is_not_none (value_of old id) moved_value.0 moved_value.1
+
+    module _ (list : new ≡ with_number old id to)
+        (values : (q : ℕ) → value_of new q ≡ cond (nat_eq q id) (option_map (λ (value : ℕ × Timed T). (to, value.1)) (value_of old q)) (value_of old q))
+        (distinct : AreDistinct new) where
+      here : value_of new id ≡ Some (to, moved_value.0.1)
+      here = values id ∙ (at_yes id id (option_map (λ (value : ℕ × Timed T). (to, value.1)) (value_of old id)) (value_of old id) refl
+          ∙ ap (option_map (λ (value : ℕ × Timed T). (to, value.1))) moved_value.1)
+
+      others : (q : ℕ) → q ≢ id → value_of new q ≡ value_of old q
+      others q ne = values q ∙ at_no q id (option_map (λ (value : ℕ × Timed T). (to, value.1)) (value_of old q)) (value_of old q) ne
+
+      pub moved_book : IsBook new slots'
+      moved_book = record {
+        linked = inverse_move (spot_of old) (spot_of new) (spot_at slots) (spot_at slots') id from to book.linked (book.linked.back id from moves.was) moves.free
+            (λ q. ⊎_elim
+            (λ e. ap (spot_of new) e ∙ (value_spot new id (to, moved_value.0.1) here ∙ sym (at_yes q id (Some to) (spot_of old q) e)))
+            (λ ne. ap (option_map (λ (v : ℕ × Timed T). v.0)) (others q ne) ∙ sym (at_no q id (Some to) (spot_of old q) ne))
+            (cases_eq q id))
+            moves.values;
+        distinct = distinct;
+      }
+
+      -- within its slot
+      pub moved_seen : slot ≡ from / 4294967296 → seen_pairs new ≡ seen_pairs old
+      moved_seen same =
+          ap seen_pairs list
+          ∙ seen_number old id to (λ value is.
+          let own : moved_value.0 ≡ value = same_Some moved_value.0 value (sym moved_value.1 ∙ is) in
+          ap (λ (v : ℕ × Timed T). v.0 / 4294967296) (sym own) ∙ (ap (λ (n : ℕ). n / 4294967296) moved_value.2 ∙ (sym same ∙ sym moves.slot_is)))
+
+      -- into the slot where it belongs
+      pub moved_anew : (first tick : ℕ) (value : ℕ × Timed T) → from / 4294967296 ≡ first → value_of old id ≡ Some value → slot ≡ slot_for tick value.1.due
+          → PlacesAnew (seen_pairs old) (seen_pairs new) first tick
+      moved_anew first tick value was_in own is =
+          let v : ℕ × Timed T = moved_value.0 in
+          let at_due : slot_for tick value.1.due ≡ slot_for tick v.1.due = ap (λ (w : ℕ × Timed T). slot_for tick w.1.due) (same_Some value v (sym own ∙ moved_value.1)) in
+          let placed : held_of (to, v.1) ≡ moved (held_of v) (slot_for tick v.1.due) = ap (λ (s : ℕ). held_in s v.1) (moves.slot_is ∙ (is ∙ at_due)) in
+          record {
+            id = id;
+            held = held_of v;
+            was = value_held old id v moved_value.1;
+            slot_is = ap (λ (n : ℕ). n / 4294967296) moved_value.2 ∙ was_in;
+            at = λ q. ⊎_elim
+                (λ e.
+                ap (held_at (seen_pairs new)) (sym e)
+                ∙ (value_held new id (to, v.1) here ∙ (ap (λ (h : Held T). Some h) placed ∙ sym (at_yes id q (Some (moved (held_of v) (slot_for tick v.1.due))) (held_at (seen_pairs old) q) e))))
+                (λ ne.
+                held_same old new q (others q (λ e. ne (sym e))) ∙ sym (at_no id q (Some (moved (held_of v) (slot_for tick v.1.due))) (held_at (seen_pairs old) q) ne))
+                (cases_eq id q);
+            unique = unique_seen new distinct;
+            sums = λ f.
+                let sum = sum_number f old id to v moved_value.1 in
+                let now = ap (λ (ps : List (ℕ × (ℕ × Timed T))). sum_by f (seen_pairs ps)) list in
+                let same = ap (λ (h : Held T). f (id, h)) placed in
+                omega (arith, sum, now, same);
+          }
+
+  -- the last id in a list is held where the table has it there
+  pub stands_is : (pairs : List (ℕ × (ℕ × Timed T))) (slots : SlotsSeen) (id spot count : ℕ) → IsBook pairs slots → spot_of pairs id ≡ Some spot
+      → spot ≡ tail_at slots (count - 1) → count ≡ length slots.late → IsSome (spot_at slots (tail_of slots))
+  stands_is pairs slots id spot count book held tail count_is =
+      subst (λ s. IsSome (spot_at slots s)) (tail ∙ ap (λ n. tail_at slots (n - 1)) count_is) (to_some (spot_at slots spot) id (book.linked.there id spot held))
+
+  -- what is last in a slot
+  pub left_of : (pairs : List (ℕ × (ℕ × Timed T))) (slots : SlotsSeen) (slot : ℕ) → IsBook pairs slots → ((q id : ℕ) → spot_at slots q ≡ Some id → q / 4294967296 ≢ slot)
+      → IsLeft slot (seen_pairs pairs)
+  left_of pairs slots slot book none id held is same =
+      let v = held_has pairs id held is in
+      none v.0.0 id (book.linked.there id v.0.0 (value_spot pairs id v.0 v.1)) (ap (λ (h : Held T). h.slot) v.2 ∙ same)
+
+  pub found_there : (pairs : List (ℕ × (ℕ × Timed T))) (slots : SlotsSeen) (id spot : ℕ) → IsBook pairs slots → spot_at slots spot ≡ Some id → value_of pairs id ≢ None
+  found_there pairs slots id spot book is =
+      let v = spot_has pairs id spot (book.linked.back id spot is) in
+      is_not_none (value_of pairs id) v.0 v.1
+
+  pub found_due : (pairs : List (ℕ × (ℕ × Timed T))) (slots : SlotsSeen) (id spot slot tick : ℕ) (value : ℕ × Timed T) → IsBook pairs slots → spot_at slots spot ≡ Some id
+      → spot / 4294967296 ≡ slot → value_of pairs id ≡ Some value → IsDueFrom (seen_pairs pairs) slot tick → tick ≤ value.1.due
+  found_due pairs slots id spot slot tick value book is in_slot own due =
+      let at : value.0 ≡ spot = same_Some value.0 spot (sym (value_spot pairs id value own) ∙ book.linked.back id spot is) in
+      due id (held_of value) (value_held pairs id value own) (ap (λ (n : ℕ). n / 4294967296) at ∙ in_slot)
+
+  -- the keys of ids at spots one behind the other
+  keys_step : (pairs : List (ℕ × (ℕ × Timed T))) (spot : ℕ) (ids : List ℕ) (n : ℕ) → n < length ids
+      → keys_from pairs spot (take n ids) ++ key_list pairs (spot + n) (get_or ids n 0) ≡ keys_from pairs spot (take (suc n) ids)
+  keys_step pairs spot [] n low = absurd (omega (arith, low))
+  keys_step pairs spot (id ∷ ids) zero low = ap (λ s. key_list pairs s id) (plus_zero spot) ∙ sym (append-nil (key_list pairs spot id))
+  keys_step pairs spot (id ∷ ids) (suc n) low =
+      append_assoc (key_list pairs spot id) (keys_from pairs (spot + 1) (take n ids)) (key_list pairs (spot + suc n) (get_or ids n 0))
+      ∙ ap (λ (ks : List (ℕ × ℕ)). key_list pairs spot id ++ ks)
+      (ap (λ s. keys_from pairs (spot + 1) (take n ids) ++ key_list pairs s (get_or ids n 0)) (sym (next spot n)) ∙ keys_step pairs (spot + 1) ids n (omega (arith, low)))
+
+  pub keys_next : (pairs : List (ℕ × (ℕ × Timed T))) (first spot : ℕ) (ids : List ℕ) (n : ℕ) (keys : List (ℕ × ℕ)) → keys ≡ keys_from pairs first (take n ids)
+      → spot ≡ first + n → n < length ids → keys ++ key_list pairs spot (get_or ids n 0) ≡ keys_from pairs first (take (n + 1) ids)
+  keys_next pairs first spot ids n keys is spot_is low =
+      ap (λ (ks : List (ℕ × ℕ)). ks ++ key_list pairs spot (get_or ids n 0)) is
+      ∙ (ap (λ s. keys_from pairs first (take n ids) ++ key_list pairs s (get_or ids n 0)) spot_is
+      ∙ (keys_step pairs first ids n low ∙ ap (λ m. keys_from pairs first (take m ids)) (one_more n)))
+
+  keys_to : (pairs : List (ℕ × (ℕ × Timed T))) (spot : ℕ) (ids : List ℕ) (g : ℕ × ℕ) → Contains (keys_from pairs spot ids) g
+      → (i : ℕ) × (i < length ids) × Contains (key_list pairs (spot + i) (get_or ids i 0)) g
+  keys_to pairs spot [] g c = absurd (omega (arith, c.1))
+  keys_to pairs spot (id ∷ ids) g c = ⊎_elim
+      (λ first. (zero, omega arith, subst (λ s. Contains (key_list pairs s id) g) (sym (plus_zero spot)) first))
+      (λ behind.
+      let r = keys_to pairs (spot + 1) ids g behind in
+      (suc r.0, omega (arith, r.1), subst (λ s. Contains (key_list pairs s (get_or ids r.0 0)) g) (next spot r.0) r.2))
+      (Contains-append_cases (key_list pairs spot id) (keys_from pairs (spot + 1) ids) g c)
+
+  keys_at : (pairs : List (ℕ × (ℕ × Timed T))) (spot : ℕ) (ids : List ℕ) (i id : ℕ) (g : ℕ × ℕ) → slice_get ids i ≡ Some id
+      → Contains (key_list pairs (spot + i) id) g → Contains (keys_from pairs spot ids) g
+  keys_at pairs spot [] i id g is c = absurd (none-some id is)
+  keys_at pairs spot (x ∷ xs) zero id g is c =
+      Contains-append_left (key_list pairs spot x) (keys_from pairs (spot + 1) xs) g
+      (subst (λ s. Contains (key_list pairs s x) g) (plus_zero spot) (subst (λ y. Contains (key_list pairs (spot + 0) y) g) (sym (same_Some x id is)) c))
+  keys_at pairs spot (x ∷ xs) (suc i) id g is c =
+      Contains-append_right (key_list pairs spot x) (keys_from pairs (spot + 1) xs) g
+      (keys_at pairs (spot + 1) xs i id g is (subst (λ s. Contains (key_list pairs s id) g) (sym (next spot i)) c))
+
+  -- the keys of a slot
+  module _ (pairs : List (ℕ × (ℕ × Timed T))) (slots : SlotsSeen) (slot : ℕ) (ids : List ℕ) (book : IsBook pairs slots)
+      (list : ids ≡ list_of slots.lists slot) (short : length ids < 4294967296) where
+    key_held : (spot : ℕ) (o : Option (ℕ × Timed T)) (id : ℕ) (key : ℕ × ℕ) → key_of_value spot id o ≡ Some key
+        → (v : ℕ × Timed T) × (o ≡ Some v) × ((v.0 ≡ spot) × ((v.1.order ≡ key.0) × (id ≡ key.1)))
+    key_held spot None id key is = absurd (none-some key is)
+    key_held spot (Some v) id key is = ⊎_elim
+        (λ e.
+        let same : (v.1.order, id) ≡ key = same_Some (v.1.order, id) key (sym (at_yes v.0 spot (Some (v.1.order, id)) None e) ∙ is) in
+        (v, refl, (e, (ap (λ (k : ℕ × ℕ). k.0) same, ap (λ (k : ℕ × ℕ). k.1) same))))
+        (λ ne. absurd (none-some key (sym (at_no v.0 spot (Some (v.1.order, id)) None ne) ∙ is)))
+        (cases_eq v.0 spot)
+
+    stands_in : (q id : ℕ) → spot_at slots q ≡ Some id → q / 4294967296 ≡ slot → slice_get ids (q % 4294967296) ≡ Some id
+    stands_in q id is same =
+        ap (λ (zs : List ℕ). slice_get zs (q % 4294967296)) (list ∙ ap (list_of slots.lists) (sym same)) ∙ in_list slots q id is
+
+    pub listed : (keys : List (ℕ × ℕ)) → keys ≡ keys_from pairs (slot * 4294967296) ids → ListsIds (seen_pairs pairs) slot keys
+    listed keys is = record {
       each = λ g c.
-          let r = lists.each g c in
-          (r.1.0, ap (λ (es : Index T). held_at es g.1) (sym view) ∙ lane_found ls r.0 (g.1, r.1.0) (book_once ps ls book.linked) r.1.1, r.1.2, r.1.3);
-      all = λ id h is at.
-          let r = held_place id h is in
-          lists.all r.0 (id, h) r.2 at;
+          let r = keys_to pairs (slot * 4294967296) ids g (subst (λ (ks : List (ℕ × ℕ)). Contains ks g) is c) in
+          let id : ℕ = get_or ids r.0 0 in
+          let spot : ℕ = slot * 4294967296 + r.0 in
+          let v = key_held spot (value_of pairs id) id g (option_from (key_of_value spot id (value_of pairs id)) g r.2) in
+          let own : held_at (seen_pairs pairs) g.1 ≡ Some (held_of v.0) = ap (held_at (seen_pairs pairs)) (sym v.2.1.1) ∙ value_held pairs id v.0 v.1 in
+          (held_of v.0, own, spot_slot v.0.0 slot r.0 (omega (arith, r.1, short)) v.2.0, v.2.1.0);
+      all = λ id held at same.
+          let v = held_has pairs id held at in
+          let in_slot : v.0.0 / 4294967296 ≡ slot = ap (λ (h : Held T). h.slot) v.2 ∙ same in
+          let there = stands_in v.0.0 id (book.linked.there id v.0.0 (value_spot pairs id v.0 v.1)) in_slot in
+          let spot : ℕ = slot * 4294967296 + v.0.0 % 4294967296 in
+          let key : key_of_value spot id (value_of pairs id) ≡ Some (held.order, id) =
+          ap (key_of_value spot id) v.1 ∙ (at_yes v.0.0 spot (Some (v.0.1.order, id)) None (spot_parts v.0.0 slot in_slot) ∙ ap (λ (h : Held T). Some (h.order, id)) v.2) in
+          subst (λ (ks : List (ℕ × ℕ)). Contains ks (held.order, id)) (sym is)
+          (keys_at pairs (slot * 4294967296) ids (v.0.0 % 4294967296) id (held.order, id) there
+          (option_into (key_of_value spot id (value_of pairs id)) (held.order, id) key));
     }
 
-    pub listed_permuted : (slot : ℕ) (items sorted : List (ℕ × ℕ)) → ListsSlot ls slot items → IsPermutation items sorted → ListsIds v slot sorted
-    listed_permuted slot items sorted lists moved =
-        let l = listed slot items lists in
-        record {
-          each = λ g c. l.each g (Contains-permutation sorted items g (IsPermutation-sym items sorted moved) c);
-          all = λ id h is at. Contains-permutation items sorted (h.order, id) moved (l.all id h is at);
-        }
+  pub only_keys : (pairs : List (ℕ × (ℕ × Timed T))) (first spot : ℕ) (ids : List ℕ) (key : ℕ × ℕ) → spot ≡ first + 0 → length ids ≡ 1
+      → key_option pairs spot (slice_index ids 0) ≡ Some key → key ∷ [] ≡ keys_from pairs first ids
+  only_keys pairs first spot [] key spot_is len is = absurd (omega (arith, len))
+  only_keys pairs first spot (id ∷ []) key spot_is len is =
+      sym (ap (λ (o : Option (ℕ × ℕ)). option_to_list o ++ []) (ap (λ s. key_option pairs s id) (sym (spot_is ∙ plus_zero first)) ∙ is))
+  only_keys pairs first spot (id ∷ other ∷ ids) key spot_is len is = absurd (omega (arith, len))
 
-    pub found_due : (from tick : ℕ) (found : Found) (finds : Finds ls from found)
-        → ((id : ℕ) (h : Held T) → held_at v id ≡ Some h → h.slot ≡ from → tick ≤ h.due) → tick ≤ found.due
-    found_due from tick found finds later =
-        subst (λ n. tick ≤ n) finds.due_is (later found.id finds.held
-        (ap (λ (es : Index T). held_at es found.id) (sym view) ∙ lane_found ls found.lane (found.id, finds.held) (book_once ps ls book.linked) finds.is) finds.slot_is)
-
-    pub lane_some : (id k : ℕ) → place_of ps id ≡ Some k → IsSome (lane_at ls k)
-    lane_some id k is = subst (λ (o : Option (ℕ × Held T)). IsSome o) (sym (place_held id k is).1) refl
-
-    pub view_gone : (id : ℕ) → place_of ps id ≡ None → (q : ℕ) → held_at (all_held ls) q ≡ cond (nat_eq id q) None (held_at v q)
-    view_gone id none q = ap (λ (es : Index T). held_at es q) view ∙ none_gone id (free_held id none) q
-
-    pub unique_view : IsUnique (all_held ls)
-    unique_view = once_unique ls (book_once ps ls book.linked)
+  pub listed_permuted : (pairs : List (ℕ × (ℕ × Timed T))) (slot : ℕ) (keys sorted : List (ℕ × ℕ)) → ListsIds (seen_pairs pairs) slot keys → IsPermutation keys sorted
+      → ListsIds (seen_pairs pairs) slot sorted
+  listed_permuted pairs slot keys sorted lists same = record {
+    each = λ g c. lists.each g (Contains-permutation sorted keys g (IsPermutation-sym keys sorted same) c);
+    all = λ id held is slot_is. Contains-permutation keys sorted (held.order, id) same (lists.all id held is slot_is);
+  }

@@ -1,166 +1,153 @@
--- From the lanes to the index: what is found of an id, where one entry comes, leaves or moves.
-use Rattle.std.proofs.Common.{zero, suc, ◌≡◌, ◌≢◌, ℕ, false, cond, nat_eq, List, [], ◌∷◌, ◌++◌, Option, Some, None, option_map, option_to_list, refl, sym, ap, ◌∙◌, arith, ⊎_elim}
-use Rattle.std.specs.List.{IsDistinct, AllByRecursion}
-use Rattle.std.specs.Map.{lookup, keys_of}
+-- From the pairs of a table to the index: what is held of an id, and where an id gets another spot.
+use Rattle.std.proofs.Common.{◌≡◌, ◌≢◌, ℕ, ◌+◌, ◌/◌, cond, nat_eq, false, List, [], ◌∷◌, length, map, Option, Some, None, option_map, is_some, Bor, refl, sym, ap, ◌∙◌, arith, ⊎_elim, eq-eqb, ne_eqb}
+use Rattle.std.specs.List.{AllByRecursion, count_by, sum_by}
+use Rattle.std.specs.Map.{keys_of}
+use Rattle.std.specs.Option.{option_copied}
 use Rattle.std.proofs.lemmas.Bool.{cases_eq}
 use Rattle.std.proofs.lemmas.Grind.{common_steps}
+use Rattle.std.proofs.lemmas.List.{length-map, nil_from_length}
+use Rattle.std.proofs.lemmas.List.Sums.{sum_by-cons}
 use Rattle.std.proofs.lemmas.Map.Keys.{IsDistinct-cons}
 use Rattle.std.proofs.lemmas.Option.{none-some, same_Some}
-use Rattle.id_table.specs.Pairs.{place_of}
-use Rattle.timer_lanes.specs.Lanes.{Held, HasOneMore, IsMoved, lane_at, all_held, in_slot_of}
-use Rattle.tick_wheel.specs.Book.{AreInverse, id_at}
-use Rattle.tick_wheel.specs.Table.{IsUnique, held_at, moved}
+use Rattle.id_table.specs.Pairs.{value_of, has_id, with_number, AreDistinct}
+use Rattle.id_table.proofs.Values.{count-cons, one_of_id, value_here, value_later}
+use Rattle.tick_wheel.specs.Book.{spot_of}
+use Rattle.tick_wheel.specs.Held.{Held, held_of, seen_pair, seen_pairs}
+use Rattle.tick_wheel.specs.Table.{IsUnique, held_at}
+use Rattle.tick_wheel.specs.declared.timed.Timed.{Timed}
+use Rattle.tick_wheel.proofs.Views.{lookup_here, lookup_there, none_distinct, unmapped}
 
-pub option_ext : {A : Type 0} (o p : Option A) → ((x : A) → o ≡ Some x → p ≡ Some x) → ((x : A) → p ≡ Some x → o ≡ Some x) → o ≡ p
-option_ext None None f g = refl
-option_ext None (Some x) f g = g x refl
-option_ext (Some x) p f g = sym (f x refl)
-
-at_yes : {A : Type 0} (a b : ℕ) (x o : Option A) → a ≡ b → cond (nat_eq a b) x o ≡ x
+pub at_yes : {A : Type 0} (a b : ℕ) (x o : Option A) → a ≡ b → cond (nat_eq a b) x o ≡ x
 at_yes {A = A} a b x o same = grind (arith, common_steps)
 
-at_no : {A : Type 0} (a b : ℕ) (x o : Option A) → a ≢ b → cond (nat_eq a b) x o ≡ o
+pub at_no : {A : Type 0} (a b : ℕ) (x o : Option A) → a ≢ b → cond (nat_eq a b) x o ≡ o
 at_no {A = A} a b x o apart = grind (arith, common_steps)
 
 pub flip_eq : {A : Type 0} (a b : ℕ) (x o : Option A) → cond (nat_eq a b) x o ≡ cond (nat_eq b a) x o
 flip_eq {A = A} a b x o = ⊎_elim (λ same. at_yes a b x o same ∙ sym (at_yes b a x o (sym same))) (λ ne. at_no a b x o ne ∙ sym (at_no b a x o (λ e. ne (sym e)))) (cases_eq a b)
 
-none_distinct : IsDistinct nat_eq []
-unfolding IsDistinct
-none_distinct = tt
+mapped_some : {X Y : Type 0} (f : X → Y) (o : Option X) (y : Y) → option_map f o ≡ Some y → (x : X) × (o ≡ Some x) × (f x ≡ y)
+mapped_some f None y is = absurd (none-some y is)
+mapped_some f (Some x) y is = (x, refl, same_Some (f x) y is)
+
+-- what is lent is there
+pub copied_some : {X : Type 0} (o : Option (Bor X)) → is_some o ≡ is_some (option_copied o)
+copied_some None = refl
+copied_some (Some b) = refl
 
 module _ {T : Type 0} where
-  -- no id lies in two lanes
-  pub AreOnce : List (Option (ℕ × Held T)) → Type 0
-  AreOnce lanes = (i j : ℕ) (x y : ℕ × Held T) → lane_at lanes i ≡ Some x → lane_at lanes j ≡ Some y → x.0 ≡ y.0 → i ≡ j
-
-  id_of : (o : Option (ℕ × Held T)) (x : ℕ × Held T) → o ≡ Some x → option_map (λ (y : ℕ × Held T). y.0) o ≡ Some x.0
-  id_of o x is = ap (option_map (λ (y : ℕ × Held T). y.0)) is
-
-  pub book_once : (pairs : List (ℕ × ℕ)) (lanes : List (Option (ℕ × Held T))) → AreInverse (place_of pairs) (id_at lanes) → AreOnce lanes
-  unfolding AreOnce
-  book_once pairs lanes inverse i j x y at also same =
-      let a = inverse.back x.0 i (id_of (lane_at lanes i) x at) in
-      let b = inverse.back y.0 j (id_of (lane_at lanes j) y also) in
-      same_Some i j (sym a ∙ ap (place_of pairs) same ∙ b)
-
-  lookup_here : (q : ℕ) (e : ℕ × Held T) (es : List (ℕ × Held T)) → q ≡ e.0 → lookup (nat_eq q) (e ∷ es) ≡ Some e.1
-  lookup_here q e es same = grind (arith, common_steps)
-
-  lookup_there : (q : ℕ) (e : ℕ × Held T) (es : List (ℕ × Held T)) → q ≢ e.0 → lookup (nat_eq q) (e ∷ es) ≡ lookup (nat_eq q) es
-  lookup_there q e es apart = grind (arith, common_steps)
-
-  once_tail : (o : Option (ℕ × Held T)) (lanes : List (Option (ℕ × Held T))) → AreOnce (o ∷ lanes) → AreOnce lanes
-  unfolding AreOnce
-  once_tail o lanes once i j x y at also same = let k = once (suc i) (suc j) x y at also same in omega (arith, k)
-
-  -- what lies in a lane is found by its id
-  pub lane_found : (lanes : List (Option (ℕ × Held T))) (k : ℕ) (x : ℕ × Held T) → AreOnce lanes → lane_at lanes k ≡ Some x → held_at (all_held lanes) x.0 ≡ Some x.1
-  unfolding AreOnce
-  lane_found [] k x once at = absurd (none-some x at)
-  lane_found (None ∷ lanes) zero x once at = absurd (none-some x at)
-  lane_found (None ∷ lanes) (suc k) x once at = lane_found lanes k x (once_tail None lanes once) at
-  lane_found (Some y ∷ lanes) zero x once at =
-      let same : y ≡ x = same_Some y x at in
-      lookup_here x.0 y (all_held lanes) (ap (λ (z : ℕ × Held T). z.0) (sym same)) ∙ ap (λ (z : ℕ × Held T). Some z.1) same
-  lane_found (Some y ∷ lanes) (suc k) x once at =
+  -- what is held of an id is what the table has of it
+  pub held_value : (pairs : List (ℕ × (ℕ × Timed T))) (id : ℕ) → held_at (seen_pairs pairs) id ≡ option_map held_of (value_of pairs id)
+  held_value [] id = refl
+  held_value (pair ∷ pairs) id =
       ⊎_elim
-      (λ same. let e = once zero (suc k) y x refl at (sym same) in absurd (omega (arith, e)))
-      (λ ne. lookup_there x.0 y (all_held lanes) ne ∙ lane_found lanes k x (once_tail (Some y) lanes once) at)
-      (cases_eq x.0 y.0)
+      (λ same. lookup_here id (seen_pair pair) (seen_pairs pairs) same ∙ sym (ap (option_map held_of) (value_here id pair pairs same)))
+      (λ ne. lookup_there id (seen_pair pair) (seen_pairs pairs) ne ∙ (held_value pairs id ∙ sym (ap (option_map held_of) (value_later id pair pairs ne))))
+      (cases_eq id pair.0)
 
-  -- what is found of an id lies in a lane
-  pub found_lane : (lanes : List (Option (ℕ × Held T))) (id : ℕ) (h : Held T) → held_at (all_held lanes) id ≡ Some h → (k : ℕ) × (lane_at lanes k ≡ Some (id, h))
-  found_lane [] id h is = absurd (none-some h is)
-  found_lane (None ∷ lanes) id h is = let r = found_lane lanes id h is in (suc r.0, r.1)
-  found_lane (Some y ∷ lanes) id h is =
-      ⊎_elim
-      (λ same.
-      let at : y.1 ≡ h = same_Some y.1 h (sym (lookup_here id y (all_held lanes) same) ∙ is) in
-      (zero, (λ i. Some (sym same i, at i))))
-      (λ ne. let r = found_lane lanes id h (sym (lookup_there id y (all_held lanes) ne) ∙ is) in (suc r.0, r.1))
-      (cases_eq id y.0)
+  pub held_same : (old new : List (ℕ × (ℕ × Timed T))) (id : ℕ) → value_of new id ≡ value_of old id → held_at (seen_pairs new) id ≡ held_at (seen_pairs old) id
+  held_same old new id same = held_value new id ∙ (ap (option_map held_of) same ∙ sym (held_value old id))
 
-  apart_keys : (id : ℕ) (lanes : List (Option (ℕ × Held T))) → ((j : ℕ) (y : ℕ × Held T) → lane_at lanes j ≡ Some y → id ≢ y.0) → AllByRecursion (λ k. nat_eq id k ≡ false) (keys_of (all_held lanes))
-  apart_keys id [] apart = tt
-  apart_keys id (None ∷ lanes) apart = apart_keys id lanes (λ j y at. apart (suc j) y at)
-  apart_keys id (Some x ∷ lanes) apart = (different id x.0 (apart zero x refl), apart_keys id lanes (λ j y at. apart (suc j) y at))
+  pub value_held : (pairs : List (ℕ × (ℕ × Timed T))) (id : ℕ) (value : ℕ × Timed T) → value_of pairs id ≡ Some value → held_at (seen_pairs pairs) id ≡ Some (held_of value)
+  value_held pairs id value is = held_value pairs id ∙ ap (option_map held_of) is
+
+  pub held_has : (pairs : List (ℕ × (ℕ × Timed T))) (id : ℕ) (held : Held T) → held_at (seen_pairs pairs) id ≡ Some held
+      → (value : ℕ × Timed T) × (value_of pairs id ≡ Some value) × (held_of value ≡ held)
+  held_has pairs id held is = mapped_some held_of (value_of pairs id) held (sym (held_value pairs id) ∙ is)
+
+  pub free_value : (pairs : List (ℕ × (ℕ × Timed T))) (id : ℕ) → held_at (seen_pairs pairs) id ≡ None → value_of pairs id ≡ None
+  free_value pairs id is = unmapped held_of (value_of pairs id) (sym (held_value pairs id) ∙ is)
+
+  pub free_held : (pairs : List (ℕ × (ℕ × Timed T))) (id : ℕ) → value_of pairs id ≡ None → held_at (seen_pairs pairs) id ≡ None
+  free_held pairs id is = held_value pairs id ∙ ap (option_map held_of) is
+
+  pub spot_has : (pairs : List (ℕ × (ℕ × Timed T))) (id spot : ℕ) → spot_of pairs id ≡ Some spot
+      → (value : ℕ × Timed T) × (value_of pairs id ≡ Some value) × (value.0 ≡ spot)
+  spot_has pairs id spot is = mapped_some (λ (value : ℕ × Timed T). value.0) (value_of pairs id) spot is
+
+  pub value_spot : (pairs : List (ℕ × (ℕ × Timed T))) (id : ℕ) (value : ℕ × Timed T) → value_of pairs id ≡ Some value → spot_of pairs id ≡ Some value.0
+  value_spot pairs id value is = ap (option_map (λ (value : ℕ × Timed T). value.0)) is
+
+  pub free_spot : (pairs : List (ℕ × (ℕ × Timed T))) (id : ℕ) → value_of pairs id ≡ None → spot_of pairs id ≡ None
+  free_spot pairs id is = ap (option_map (λ (value : ℕ × Timed T). value.0)) is
+
+  -- no id is seen twice
+  apart_keys : (id : ℕ) (pairs : List (ℕ × (ℕ × Timed T))) → count_by (has_id id) pairs ≡ 0 → AllByRecursion (λ k. nat_eq id k ≡ false) (keys_of (seen_pairs pairs))
+  apart_keys id [] none = tt
+  apart_keys id (pair ∷ pairs) none =
+      let split = count-cons (has_id id) pair pairs in
+      (ne_eqb id pair.0 (λ same. omega (arith, none, split, one_of_id id pair same)), apart_keys id pairs (omega (arith, none, split)))
+
+  pub unique_seen : (pairs : List (ℕ × (ℕ × Timed T))) → AreDistinct pairs → IsUnique (seen_pairs pairs)
+  unique_seen [] distinct = none_distinct
+  unique_seen (pair ∷ pairs) distinct =
+      IsDistinct-cons nat_eq pair.0 (keys_of (seen_pairs pairs))
+      (apart_keys pair.0 pairs (omega (arith, distinct pair.0, count-cons (has_id pair.0) pair pairs, one_of_id pair.0 pair refl)))
+      (unique_seen pairs (λ id. omega (arith, distinct id, count-cons (has_id id) pair pairs)))
+
+  pub seen_len : (pairs : List (ℕ × (ℕ × Timed T))) → length (seen_pairs pairs) ≡ length pairs
+  seen_len pairs = length-map pairs seen_pair
+
+  pub seen_none : (pairs : List (ℕ × (ℕ × Timed T))) (seen : List (ℕ × Held T)) → seen_pairs pairs ≡ seen → seen ≡ [] → pairs ≡ []
+  seen_none pairs seen view none = nil_from_length pairs (sym (seen_len pairs) ∙ ap (λ (es : List (ℕ × Held T)). length es) (view ∙ none))
+
+  -- whether something is held of an id
+  pub holds_same : (pairs : List (ℕ × (ℕ × Timed T))) (seen : List (ℕ × Held T)) (id : ℕ) (o : Option (Bor (ℕ × Timed T))) → seen_pairs pairs ≡ seen
+      → option_copied o ≡ value_of pairs id → is_some o ≡ is_some (held_at seen id)
+  holds_same pairs seen id o view is =
+      copied_some o ∙ (ap (λ (p : Option (ℕ × Timed T)). is_some p) is ∙ (sym (mapped (value_of pairs id))
+      ∙ (sym (ap (λ (p : Option (Held T)). is_some p) (held_value pairs id)) ∙ ap (λ (es : List (ℕ × Held T)). is_some (held_at es id)) view)))
     where
-      different : (a b : ℕ) → a ≢ b → nat_eq a b ≡ false
-      different a b ne = grind (arith, common_steps)
+      mapped : (p : Option (ℕ × Timed T)) → is_some (option_map held_of p) ≡ is_some p
+      mapped None = refl
+      mapped (Some v) = refl
 
-  -- no id is found twice
-  pub once_unique : (lanes : List (Option (ℕ × Held T))) → AreOnce lanes → IsUnique (all_held lanes)
-  unfolding AreOnce
-  once_unique [] once = none_distinct
-  once_unique (None ∷ lanes) once = once_unique lanes (once_tail None lanes once)
-  once_unique (Some x ∷ lanes) once =
-      IsDistinct-cons nat_eq x.0 (keys_of (all_held lanes))
-      (apart_keys x.0 lanes (λ j y at same. let e = once zero (suc j) x y refl at same in omega (arith, e)))
-      (once_unique lanes (once_tail (Some x) lanes once))
+  pub seen_keys : (pairs : List (ℕ × (ℕ × Timed T))) → map (λ (pair : ℕ × (ℕ × Timed T)). pair.0) pairs ≡ keys_of (seen_pairs pairs)
+  seen_keys [] = refl
+  seen_keys (pair ∷ pairs) = ap (λ (ks : List ℕ). pair.0 ∷ ks) (seen_keys pairs)
 
-  -- lanes that hold the same hold the same in all
-  none_held : (lanes : List (Option (ℕ × Held T))) → ((k : ℕ) → lane_at lanes k ≡ None) → all_held lanes ≡ []
-  none_held [] none = refl
-  none_held (None ∷ lanes) none = none_held lanes (λ k. none (suc k))
-  none_held (Some x ∷ lanes) none = absurd (none-some x (sym (none zero)))
+  -- an id gets another spot
+  number_here : (pair : ℕ × (ℕ × Timed T)) (pairs : List (ℕ × (ℕ × Timed T))) (id number : ℕ) → id ≡ pair.0
+      → with_number (pair ∷ pairs) id number ≡ (pair.0, (number, pair.1.1)) ∷ pairs
+  number_here pair pairs id number e = rw (eq-eqb id pair.0 e) refl
 
-  pub same_held : (lanes others : List (Option (ℕ × Held T))) → ((k : ℕ) → lane_at lanes k ≡ lane_at others k) → all_held lanes ≡ all_held others
-  same_held [] others same = sym (none_held others (λ k. sym (same k)))
-  same_held (o ∷ lanes) [] same = none_held (o ∷ lanes) same
-  same_held (o ∷ lanes) (p ∷ others) same =
-      let rest = same_held lanes others (λ k. same (suc k)) in
-      let first = same zero in
-      (λ i. option_to_list (first i) ++ rest i)
+  number_later : (pair : ℕ × (ℕ × Timed T)) (pairs : List (ℕ × (ℕ × Timed T))) (id number : ℕ) → id ≢ pair.0
+      → with_number (pair ∷ pairs) id number ≡ pair ∷ with_number pairs id number
+  number_later pair pairs id number ne = rw (ne_eqb id pair.0 ne) refl
 
-  -- one entry more, one less, one elsewhere, as the index sees it
-  pub held_more : (old new : List (Option (ℕ × Held T))) (lane : ℕ) (x : ℕ × Held T) → AreOnce old → AreOnce new → HasOneMore old new lane x
-      → (q : ℕ) → held_at (all_held new) q ≡ cond (nat_eq x.0 q) (Some x.1) (held_at (all_held old) q)
-  held_more old new lane x once once' more q =
+  -- nothing of it is seen where the slot is the same
+  pub seen_number : (pairs : List (ℕ × (ℕ × Timed T))) (id number : ℕ)
+      → ((value : ℕ × Timed T) → value_of pairs id ≡ Some value → value.0 / 4294967296 ≡ number / 4294967296)
+      → seen_pairs (with_number pairs id number) ≡ seen_pairs pairs
+  seen_number [] id number same = refl
+  seen_number (pair ∷ pairs) id number same =
       ⊎_elim
-      (λ same. ap (held_at (all_held new)) (sym same) ∙ lane_found new lane x once' more.here ∙ sym (at_yes x.0 q (Some x.1) (held_at (all_held old) q) same))
-      (λ ne. option_ext _ _
-      (λ h is.
-      let r = found_lane new q h is in
-      let apart : r.0 ≢ lane = λ e. ne (ap (λ (y : ℕ × Held T). y.0) (same_Some x (q, h) (sym more.here ∙ ap (lane_at new) (sym e) ∙ r.1))) in
-      lane_found old r.0 (q, h) once (sym (more.others r.0 apart) ∙ r.1))
-      (λ h is.
-      let r = found_lane old q h is in
-      let apart : r.0 ≢ lane = λ e. none-some (q, h) (sym more.empty ∙ ap (lane_at old) (sym e) ∙ r.1) in
-      lane_found new r.0 (q, h) once' (more.others r.0 apart ∙ r.1))
-      ∙ sym (at_no x.0 q (Some x.1) (held_at (all_held old) q) ne))
-      (cases_eq x.0 q)
+      (λ e.
+      ap seen_pairs (number_here pair pairs id number e)
+      ∙ (λ i. (pair.0, record { due = pair.1.1.due; order = pair.1.1.order; slot = sym (same pair.1 (value_here id pair pairs e)) i; item = pair.1.1.item }) ∷ seen_pairs pairs))
+      (λ ne.
+      ap seen_pairs (number_later pair pairs id number ne)
+      ∙ ap (λ (es : List (ℕ × Held T)). seen_pair pair ∷ es) (seen_number pairs id number (λ value is. same value (value_later id pair pairs ne ∙ is))))
+      (cases_eq id pair.0)
 
-  pub held_less : (old new : List (Option (ℕ × Held T))) (lane : ℕ) (x : ℕ × Held T) → AreOnce old → AreOnce new → HasOneMore new old lane x
-      → (q : ℕ) → held_at (all_held new) q ≡ cond (nat_eq x.0 q) None (held_at (all_held old) q)
-  unfolding AreOnce
-  held_less old new lane x once once' less q =
+  -- sums
+  pub sum_number : (f : ℕ × Held T → ℕ) (pairs : List (ℕ × (ℕ × Timed T))) (id number : ℕ) (value : ℕ × Timed T) → value_of pairs id ≡ Some value
+      → sum_by f (seen_pairs (with_number pairs id number)) + f (id, held_of value) ≡ sum_by f (seen_pairs pairs) + f (id, held_of (number, value.1))
+  sum_number f [] id number value is = absurd (none-some value is)
+  sum_number f (pair ∷ pairs) id number value is =
       ⊎_elim
-      (λ same. option_ext _ None
-      (λ h is.
-      let r = found_lane new q h is in
-      let apart : r.0 ≢ lane = λ e. none-some (q, h) (sym less.empty ∙ ap (lane_at new) (sym e) ∙ r.1) in
-      absurd (apart (once r.0 lane (q, h) x (less.others r.0 apart ∙ r.1) less.here (sym same))))
-      (λ h is. absurd (none-some h is))
-      ∙ sym (at_yes x.0 q None (held_at (all_held old) q) same))
-      (λ ne. sym (at_no x.0 q (Some x.1) (held_at (all_held new) q) ne) ∙ sym (held_more new old lane x once' once less q) ∙ sym (at_no x.0 q None (held_at (all_held old) q) ne))
-      (cases_eq x.0 q)
-
-  pub held_moved : (old new : List (Option (ℕ × Held T))) (lane to slot : ℕ) (x : ℕ × Held T) → AreOnce old → AreOnce new → IsMoved old new lane to slot x
-      → (q : ℕ) → held_at (all_held new) q ≡ cond (nat_eq x.0 q) (Some (moved x.1 slot)) (held_at (all_held old) q)
-  held_moved old new lane to slot x once once' move q =
-      ⊎_elim
-      (λ same. ap (held_at (all_held new)) (sym same) ∙ lane_found new to (in_slot_of x slot) once' move.here ∙ sym (at_yes x.0 q (Some (moved x.1 slot)) (held_at (all_held old) q) same))
-      (λ ne. option_ext _ _
-      (λ h is.
-      let r = found_lane new q h is in
-      let far : r.0 ≢ to = λ e. ne (ap (λ (y : ℕ × Held T). y.0) (same_Some (in_slot_of x slot) (q, h) (sym move.here ∙ ap (lane_at new) (sym e) ∙ r.1))) in
-      let apart : r.0 ≢ lane = λ e. none-some (q, h) (sym move.gone ∙ ap (lane_at new) (sym e) ∙ r.1) in
-      lane_found old r.0 (q, h) once (sym (move.others r.0 apart far) ∙ r.1))
-      (λ h is.
-      let r = found_lane old q h is in
-      let apart : r.0 ≢ lane = λ e. ne (ap (λ (y : ℕ × Held T). y.0) (same_Some x (q, h) (sym move.was ∙ ap (lane_at old) (sym e) ∙ r.1))) in
-      let far : r.0 ≢ to = λ e. none-some (q, h) (sym move.free ∙ ap (lane_at old) (sym e) ∙ r.1) in
-      lane_found new r.0 (q, h) once' (move.others r.0 apart far ∙ r.1))
-      ∙ sym (at_no x.0 q (Some (moved x.1 slot)) (held_at (all_held old) q) ne))
-      (cases_eq x.0 q)
+      (λ e.
+      let own : pair.1 ≡ value = same_Some pair.1 value (sym (value_here id pair pairs e) ∙ is) in
+      let now = ap (λ (ps : List (ℕ × (ℕ × Timed T))). sum_by f (seen_pairs ps)) (number_here pair pairs id number e) in
+      let new = sum_by-cons f (seen_pair (pair.0, (number, pair.1.1))) (seen_pairs pairs) in
+      let old = sum_by-cons f (seen_pair pair) (seen_pairs pairs) in
+      let a : f (id, held_of value) ≡ f (seen_pair pair) = (λ i. f (e i, held_of (sym own i))) in
+      let b : f (id, held_of (number, value.1)) ≡ f (seen_pair (pair.0, (number, pair.1.1))) = (λ i. f (e i, held_of (number, (sym own i).1))) in
+      omega (arith, now, new, old, a, b))
+      (λ ne.
+      let rest = sum_number f pairs id number value (sym (value_later id pair pairs ne) ∙ is) in
+      let now = ap (λ (ps : List (ℕ × (ℕ × Timed T))). sum_by f (seen_pairs ps)) (number_later pair pairs id number ne) in
+      let new = sum_by-cons f (seen_pair pair) (seen_pairs (with_number pairs id number)) in
+      let old = sum_by-cons f (seen_pair pair) (seen_pairs pairs) in
+      omega (arith, rest, now, new, old))
+      (cases_eq id pair.0)

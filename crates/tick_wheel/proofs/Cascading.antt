@@ -3,7 +3,7 @@ use Rattle.std.proofs.Common.{◌≡◌, ◌≢◌, ℕ, ◌+◌, ◌%◌, ◌<�
 use Rattle.std.proofs.lemmas.Bool.{cases_eq}
 use Rattle.std.proofs.lemmas.Grind.{common_steps}
 use Rattle.std.proofs.lemmas.Option.{none-some, same_Some}
-use Rattle.timer_lanes.specs.Lanes.{Held}
+use Rattle.tick_wheel.specs.Held.{Held}
 use Rattle.tick_wheel.specs.declared.timer.Timer.{Timer}
 use Rattle.tick_wheel.specs.Place.{slot_for, IsWheel, IsAhead, turning_slot}
 use Rattle.tick_wheel.specs.Table.{Index, IsUnique, AreApart, AreAhead, PlacesAnew, Rearranges, held_at, ranked_at, rank_of, in_slot, moved}

@@ -12,7 +12,7 @@ use Rattle.std.proofs.lemmas.Map.Entries.{lookup_from_place}
 use Rattle.std.proofs.lemmas.Map.Keys.{IsDistinct-from_apart, apart_from_distinct}
 use Rattle.std.proofs.lemmas.Map.Views.{All-values_from_lookup}
 use Rattle.std.proofs.lemmas.Option.{slice_get-get_or}
-use Rattle.timer_lanes.specs.Lanes.{Held}
+use Rattle.tick_wheel.specs.Held.{Held}
 use Rattle.tick_wheel.specs.declared.timer.Timer.{Timer}
 use Rattle.tick_wheel.specs.Kept.{timers_of}
 use Rattle.tick_wheel.specs.Place.{IsWheel, IsAhead, turning_slot}
@@ -20,6 +20,10 @@ use Rattle.tick_wheel.specs.Steps.{count_turning}
 use Rattle.tick_wheel.specs.Table.{Index, AreApart, AreAhead, rank_of, timer_of, in_slot}
 use Rattle.tick_wheel.proofs.InOrder.{values, sum-in_order, unequal}
 use Rattle.tick_wheel.proofs.Places.{due_from_turning}
+
+pub ones : {X : Type 0} (xs : List X) → sum_by (λ (_ : X). 1) xs ≡ length xs
+ones [] = refl
+ones {X = X} (x ∷ xs) = sum_by-cons (λ (_ : X). 1) x xs ∙ ap (λ n. 1 + n) (ones xs) ∙ (omega arith)
 
 module _ {A : Type 0} where
   -- as many or fewer pass the one test, where whatever passes it passes the other
@@ -87,10 +91,6 @@ module _ {A : Type 0} where
   -- as many timers as entries
   pub length-timers_of : (index : Index A) → AreApart index → length (timers_of index) ≡ length index
   length-timers_of index apart = sym (ones (timers_of index)) ∙ sum-timers_of (λ _. 1) index apart ∙ ones index
-    where
-      ones : {B : Type 0} (xs : List B) → sum_by (λ (_ : B). 1) xs ≡ length xs
-      ones [] = refl
-      ones {B = B} (x ∷ xs) = sum_by-cons (λ (_ : B). 1) x xs ∙ ap (λ n. 1 + n) (ones xs) ∙ (omega arith)
 
   -- what stands in the slot that turns is due within its width
   pub in_slot-le : (index : Index A) (first width now : ℕ) → AreApart index → AreAhead now index → IsWheel first width → (now + 1) % width ≡ 0

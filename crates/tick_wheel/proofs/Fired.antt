@@ -8,13 +8,14 @@ use Rattle.std.proofs.lemmas.List.{get_or_default, append_assoc, append-nil}
 use Rattle.std.proofs.lemmas.List.Elements.{Contains-get_or}
 use Rattle.std.proofs.lemmas.List.Sorted.{IsNonDecreasingBy-short}
 use Rattle.std.proofs.lemmas.Option.{none-some, same_Some}
-use Rattle.timer_lanes.specs.Lanes.{Held}
+use Rattle.tick_wheel.specs.Handouts.{handouts_of}
+use Rattle.tick_wheel.specs.Held.{Held}
 use Rattle.tick_wheel.specs.declared.timer.Timer.{Timer}
-use Rattle.tick_wheel.specs.Firing.{IsFiring, IsPartOf, key_at}
+use Rattle.tick_wheel.specs.Firing.{IsFiring, IsPartOf, Fires, key_at}
 use Rattle.tick_wheel.specs.Kept.{numbered, timers_of}
 use Rattle.tick_wheel.specs.Place.{IsAhead}
 use Rattle.tick_wheel.specs.Table.{Index, IsUnique, AreApart, AreAhead, AreSettled, ListsIds, held_at, timer_of}
-use Rattle.tick_wheel.specs.TimerList.{due_at, due_later, items_of, without}
+use Rattle.tick_wheel.specs.TimerList.{due_at, due_later, without}
 use Rattle.tick_wheel.proofs.InOrder.{first_passes, filter_filter, filter_none, filter_all}
 use Rattle.tick_wheel.proofs.Keeping.{was_held, gone_ranks}
 use Rattle.tick_wheel.proofs.Places.{slot_from_due, due_from_slot, ahead_at_next}
@@ -35,7 +36,7 @@ module _ {A : Type 0} where
   }
 
   -- no key
-  pub firing_none : (index : Index A) (slot : ℕ) → ListsIds index slot [] → IsFiring slot [] 0 index
+  firing_none : (index : Index A) (slot : ℕ) → ListsIds index slot [] → IsFiring slot [] 0 index
   firing_none index slot lists = firing_first index slot [] lists (IsNonDecreasingBy-short (λ (k : ℕ × ℕ). k.0) [] (omega arith))
 
   -- one key alone
@@ -159,13 +160,29 @@ module _ {A : Type 0} (index : Index A) (now : ℕ) (keys : List (ℕ × ℕ)) (
       is_later : (a b : ℕ) → a ≢ b → not (a == b) ≡ true
       is_later a b d = grind (arith, common_steps)
 
--- the item that left stands behind those that did
-pub moved_on : {A : Type 0} (before after : List A) (due rest : List (Timer A)) (t : Timer A) → due ≡ t ∷ rest → after ≡ before ++ t.item ∷ []
-    → before ++ items_of due ≡ after ++ items_of rest
-moved_on {A = A} before after due rest t is more =
-    ap (λ (ts : List (Timer A)). before ++ items_of ts) is ∙ sym (append_assoc before (t.item ∷ []) (items_of rest)) ∙ ap (λ (xs : List A). xs ++ items_of rest) (sym more)
+-- what was handed out of a timer stands behind what was before
+pub moved_on : {A X : Type 0} (handout : ℕ → A → X) (before after : List X) (due rest : List (Timer A)) (t : Timer A) (x : X) → due ≡ t ∷ rest → x ≡ handout t.id t.item
+    → after ≡ before ++ x ∷ [] → before ++ handouts_of handout due ≡ after ++ handouts_of handout rest
+moved_on {A = A} {X = X} handout before after due rest t x is given more =
+    ap (λ (ts : List (Timer A)). before ++ handouts_of handout ts) is ∙ ap (λ (y : X). before ++ y ∷ handouts_of handout rest) (sym given)
+    ∙ sym (append_assoc before (x ∷ []) (handouts_of handout rest)) ∙ ap (λ (xs : List X). xs ++ handouts_of handout rest) (sym more)
 
--- where nothing is due any more, all items have left
-pub all_moved : {A : Type 0} (due fired : List A) (rest : List (Timer A)) → rest ≡ [] → due ≡ fired ++ items_of rest → fired ≡ due
-all_moved {A = A} due fired rest none is =
-    sym (append-nil fired) ∙ ap (λ (ts : List (Timer A)). fired ++ items_of ts) (sym none) ∙ sym is
+-- where nothing is due any more, all has been handed out
+pub all_moved : {A X : Type 0} (handout : ℕ → A → X) (due fired : List X) (rest : List (Timer A)) → rest ≡ [] → due ≡ fired ++ handouts_of handout rest → fired ≡ due
+all_moved {A = A} handout due fired rest none is =
+    sym (append-nil fired) ∙ ap (λ (ts : List (Timer A)). fired ++ handouts_of handout ts) (sym none) ∙ sym is
+
+-- where the slot has no timer, the tick fires nothing, and all stays as it is
+pub fires_none : {A X : Type 0} (handout : ℕ → A → X) (index : Index A) (now steps : ℕ) (fired : List X) → ListsIds index ((now + 1) % 256) [] → AreApart index → AreAhead now index
+    → AreSettled (now + 1) index → fired ≡ [] → Fires handout now index index steps steps fired
+fires_none {A = A} {X = X} handout index now steps fired lists apart ahead settled empty =
+    let firing = firing_none index ((now + 1) % 256) lists in
+    let n = none_due index now [] 0 firing apart (omega arith) ahead settled in
+    record {
+      apart = apart;
+      ahead = fired_ahead index now [] 0 firing apart (omega arith) ahead settled;
+      part = λ id held is. is;
+      fired_is = empty ∙ sym (ap (λ (ts : List (Timer A)). handouts_of handout ts) n.0);
+      rest = sym n.1;
+      counted = sym (ap (λ (xs : List X). steps + length xs) empty ∙ omega arith);
+    }

@@ -3,8 +3,10 @@ pub mod Booked
 pub mod ByDue
 pub mod CascadeLoop
 pub mod Cascading
+pub mod ClearLoop
 pub mod Counting
 pub mod Fired
+pub mod Flat
 pub mod FireLoop
 pub mod Ids
 pub mod InOrder

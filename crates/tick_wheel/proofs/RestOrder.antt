@@ -6,9 +6,8 @@ use Rattle.std.specs.Ordering.{nat_cmp}
 use Rattle.std.proofs.lemmas.Grind.{common_steps}
 use Rattle.std.proofs.lemmas.List.Elements.{Contains-push_cases}
 use Rattle.std.proofs.lemmas.List.Sums.{sum_by-cons}
-use Rattle.timer_lanes.specs.declared.entry.Entry.{Entry}
 use Rattle.tick_wheel.specs.declared.timer.Timer.{Timer}
-use Rattle.tick_wheel.specs.Resting.{key_of_entry, timer_of_entry}
+use Rattle.tick_wheel.specs.Resting.{Entry, key_of_entry, timer_of_entry}
 use Rattle.tick_wheel.specs.TimerList.{by_due}
 use Rattle.tick_wheel.proofs.ByDue.{first_due}
 use Rattle.tick_wheel.proofs.InOrder.{values, find_here, sorted_keep, found_keep, keep_found, values_keep}
@@ -68,10 +67,10 @@ module _ {A : Type 0} where
   once_rest e es once q = let most = once q in omega (arith, most, sum_by-cons (is_id q) e es)
 
   pub rest_order : (es : List (Entry A)) (xs : List (ℕ × Timer A)) → T (is_sorted nat_cmp xs)
-      → ((e : Entry A) → Contains es e → find nat_cmp e.order xs ≡ Some (timer_of_entry e))
-      → ((k : ℕ) (t : Timer A) → find nat_cmp k xs ≡ Some t → (e : Entry A) × Contains es e × (e.order ≡ k) × (timer_of_entry e ≡ t))
+      → ((e : Entry A) → Contains es e → find nat_cmp e.value.1.order xs ≡ Some (timer_of_entry e))
+      → ((k : ℕ) (t : Timer A) → find nat_cmp k xs ≡ Some t → (e : Entry A) × Contains es e × (e.value.1.order ≡ k) × (timer_of_entry e ≡ t))
       → ((k l : ℕ) (t u : Timer A) → find nat_cmp k xs ≡ Some t → find nat_cmp l xs ≡ Some u → t.id ≡ u.id → k ≡ l)
-      → OnceIds es → Ascends es → ((e : Entry A) → Contains es e → e.order < 18446744073709551616)
+      → OnceIds es → Ascends es → ((e : Entry A) → Contains es e → e.value.1.order < 18446744073709551616)
       → map timer_of_entry es ≡ by_due (values xs)
   unfolding Ascends
   rest_order [] [] sorted each all ids once rises fits = refl
@@ -81,23 +80,23 @@ module _ {A : Type 0} where
   rest_order (e ∷ es) xs sorted each all ids once rises fits =
       let q : Timer A → Bool = λ t. not (t.id == e.id) in
       let rest : List (ℕ × Timer A) = filter (λ (x : ℕ × Timer A). q x.1) xs in
-      let own : find nat_cmp e.order xs ≡ Some (timer_of_entry e) = each e (here e es) in
-      let low : e.order < 18446744073709551616 = fits e (here e es) in
+      let own : find nat_cmp e.value.1.order xs ≡ Some (timer_of_entry e) = each e (here e es) in
+      let low : e.value.1.order < 18446744073709551616 = fits e (here e es) in
       let first : by_due (values xs) ≡ timer_of_entry e ∷ by_due (filter q (values xs)) =
-      first_due q xs e.order (timer_of_entry e) sorted own (not_itself e.id)
-      (λ n w f ne. not_equal w.id e.id (λ d. ne (ids n e.order w (timer_of_entry e) f own d)))
+      first_due q xs e.value.1.order (timer_of_entry e) sorted own (not_itself e.id)
+      (λ n w f ne. not_equal w.id e.id (λ d. ne (ids n e.value.1.order w (timer_of_entry e) f own d)))
       (λ n w f.
       let r = all n w f in
-      let due : r.0.due ≡ w.due = ap (λ (t : Timer A). t.due) r.3 in
+      let due : r.0.value.1.due ≡ w.due = ap (λ (t : Timer A). t.due) r.3 in
       ⊎_elim
-      (λ same. (omega (arith, due, ap (λ (y : Entry A). y.due) same), λ _. omega (arith, r.2, ap (λ (y : Entry A). y.order) same)))
+      (λ same. (omega (arith, due, ap (λ (y : Entry A). y.value.1.due) same), λ _. omega (arith, r.2, ap (λ (y : Entry A). y.value.1.order) same)))
       (λ behind.
       let le = rises.0 r.0 behind in
       let high = fits r.0 r.1 in
       (omega (arith, le, low, high, due), λ at. omega (arith, le, due, at, r.2)))
       (first_or_later e es r.0 r.1)) in
       let others = rest_order es rest (sorted_keep q xs sorted)
-      (λ x c. keep_found q xs x.order (timer_of_entry x) sorted (each x (later e es x c)) (not_equal x.id e.id (once_apart e es x once c)))
+      (λ x c. keep_found q xs x.value.1.order (timer_of_entry x) sorted (each x (later e es x c)) (not_equal x.id e.id (once_apart e es x once c)))
       (λ k t f.
       let was = found_keep q xs k t sorted f in
       let r = all k t was.0 in (

@@ -1,12 +1,10 @@
--- The rest of a wheel: its lanes in order, and what leaves them.
+-- The rest of a wheel: its cells in order, and what leaves them.
 use Rattle.std.proofs.Common.{zero, suc, ◌≡◌, ◌≢◌, ℕ, ◌+◌, ◌-◌, ◌^◌, ◌<◌, ◌≤◌, ◌==◌, true, false, cond, nat_eq, List, [], ◌∷◌, ◌++◌, length, map, take, drop, get_or, slice_get, Option, Some, None, option_map, option_to_list, refl, sym, ap, ◌∙◌, subst, arith, ⊎_elim}
 use Rattle.std.specs.Cmp.{nat_eq_equiv}
-use Rattle.std.specs.FinMap.Entries.{find}
 use Rattle.std.specs.List.{flat_map, sum_by, IsDistinct, AllByRecursion, Contains}
 use Rattle.std.specs.List.Sorted.{IsPermutation, IsNonDecreasingBy}
 use Rattle.std.specs.Map.{keys_of}
 use Rattle.std.specs.Option.{MatchOption}
-use Rattle.std.specs.Ordering.{nat_cmp}
 use Rattle.std.proofs.lemmas.Bool.{cases_eq}
 use Rattle.std.proofs.lemmas.Grind.{common_steps}
 use Rattle.std.proofs.lemmas.List.{append-nil, append_assoc, length_push, length-map, get_or_default, get_or_append_left, get_or_push, nil_from_length, take_at}
@@ -16,15 +14,18 @@ use Rattle.std.proofs.lemmas.List.Sums.{sum_by-append, sum_by-cons}
 use Rattle.std.proofs.lemmas.Map.Keys.{IsDistinct-head, IsDistinct-tail}
 use Rattle.std.proofs.lemmas.Map.Views.{Contains-from_lookup, lookup-from_Contains}
 use Rattle.std.proofs.lemmas.Option.{none-some, same_Some, slice_get-map, slice_get-get_or, slice_get_within, get_or_from_slice_get}
-use Rattle.timer_lanes.specs.declared.entry.Entry.{Entry}
-use Rattle.timer_lanes.specs.Lanes.{Held, entry_seen}
+use Rattle.id_table.specs.Cells.{pair_of}
+use Rattle.tick_wheel.specs.declared.timed.Timed.{Timed}
 use Rattle.tick_wheel.specs.declared.timer.Timer.{Timer}
 use Rattle.tick_wheel.specs.Kept.{IsKept, numbered, timers_of}
 use Rattle.tick_wheel.specs.Place.{IsAhead}
-use Rattle.tick_wheel.specs.Resting.{Fit, IsPacked, IsResting, entries_back, key_of, key_of_entry, rest_seen, timer_of_entry}
-use Rattle.tick_wheel.specs.Table.{Index, AreApart, held_at}
+use Rattle.tick_wheel.specs.Held.{Held, held_of, seen_pair, seen_pairs}
+use Rattle.tick_wheel.specs.Resting.{Entry, Fit, IsPacked, IsResting, entries_back, key_of, key_of_entry, rest_seen, timer_of_entry}
+use Rattle.tick_wheel.specs.Table.{Index, AreApart, held_at, timer_of}
 use Rattle.tick_wheel.specs.TimerList.{by_due}
-use Rattle.tick_wheel.proofs.RestOrder.{Ascends, is_id, ascends_push, rest_order, first_or_later}
+use Rattle.tick_wheel.proofs.Counting.{ones}
+use Rattle.tick_wheel.proofs.Flat.{flat_from, flat_into, option_from, option_into}
+use Rattle.tick_wheel.proofs.RestOrder.{here, Ascends, ascends_push, rest_order, first_or_later}
 use Rattle.tick_wheel.proofs.Views.{numbered_sorted, found_held, held_found}
 
 pub match_none : {X : Type 0} (o : Option X) (P : Type 0) (Q : X → Type 0) → o ≡ None → P → MatchOption o P Q
@@ -40,18 +41,9 @@ unfolding or_zero
 sum_option f None = refl
 sum_option f (Some x) = omega (arith, sum_by-cons f x [])
 
-sum_flat : {X : Type 0} (f : X → ℕ) (os : List (Option X)) → sum_by f (flat_map option_to_list os) ≡ sum_by (or_zero f) os
-sum_flat f [] = refl
-sum_flat f (o ∷ os) =
-    omega (arith, sum_by-append f (option_to_list o) (flat_map option_to_list os), sum_option f o, sum_flat f os, sum_by-cons (or_zero f) o os)
-
 sum_map : {X Y : Type 0} (f : Y → ℕ) (g : X → Y) (xs : List X) → sum_by f (map g xs) ≡ sum_by (λ x. f (g x)) xs
 sum_map f g [] = refl
 sum_map f g (x ∷ xs) = omega (arith, sum_by-cons f (g x) (map g xs), sum_map f g xs, sum_by-cons (λ y. f (g y)) x xs)
-
-ones : {X : Type 0} (xs : List X) → sum_by (λ (_ : X). 1) xs ≡ length xs
-ones [] = refl
-ones {X = X} (x ∷ xs) = sum_by-cons (λ (_ : X). 1) x xs ∙ ap (λ n. 1 + n) (ones xs) ∙ (omega arith)
 
 -- what is in a mapped list is made of something
 mapped_from : {X Y : Type 0} (g : X → Y) (xs : List X) (y : Y) → Contains (map g xs) y → (x : X) × Contains xs x × (g x ≡ y)
@@ -70,40 +62,11 @@ mapped_into {X = X} {Y = Y} g xs x c =
     let there : slice_get (map g xs) c.0 ≡ Some (g x) = slice_get-map g xs c.0 ∙ ap (option_map g) at in
     (c.0, slice_get_within (map g xs) c.0 (g x) there, get_or_from_slice_get (map g xs) c.0 (g x) (g x) there)
 
--- what stands in a list of options
-option_from : {X : Type 0} (o : Option X) (x : X) → Contains (option_to_list o) x → o ≡ Some x
-option_from None x c = absurd (omega (arith, c.1))
-option_from (Some y) x c = ⊎_elim (λ same. ap Some same) (λ behind. absurd (omega (arith, behind.1))) (first_or_later y [] x c)
-
-option_into : {X : Type 0} (o : Option X) (x : X) → o ≡ Some x → Contains (option_to_list o) x
-option_into {X = X} o x is = subst (λ (p : Option X). Contains (option_to_list p) x) (sym is) (zero, omega arith, refl)
-
-flat_from : {X : Type 0} (os : List (Option X)) (x : X) → Contains (flat_map option_to_list os) x → Contains os (Some x)
-flat_from [] x c = absurd (omega (arith, c.1))
-flat_from (o ∷ os) x c = ⊎_elim
-    (λ first. (zero, omega arith, option_from o x first))
-    (λ behind. let r = flat_from os x behind in (suc r.0, omega (arith, r.1), r.2))
-    (Contains-append_cases (option_to_list o) (flat_map option_to_list os) x c)
-
-flat_into : {X : Type 0} (os : List (Option X)) (x : X) → Contains os (Some x) → Contains (flat_map option_to_list os) x
-flat_into [] x c = absurd (omega (arith, c.1))
-flat_into (o ∷ os) x c = ⊎_elim
-    (λ first. Contains-append_left (option_to_list o) (flat_map option_to_list os) x (option_into o x first))
-    (λ behind. Contains-append_right (option_to_list o) (flat_map option_to_list os) x (flat_into os x behind))
-    (first_or_later o os (Some x) c)
-
-at_place : {X : Type 0} (os : List (Option X)) (x : X) → Contains os (Some x) → (k : ℕ) × (k < length os) × (get_or os k None ≡ Some x)
-at_place [] x c = absurd (omega (arith, c.1))
-at_place (o ∷ os) x c = ⊎_elim
-    (λ first. (zero, omega arith, first))
-    (λ behind. let r = at_place os x behind in (suc r.0, omega (arith, r.1), r.2))
-    (first_or_later o os (Some x) c)
-
 abbrev one_if_same : ℕ → ℕ → ℕ
 one_if_same a b = cond (a == b) 1 0
 
 module _ {A : Type 0} where
-  -- the entries from the last lane to the first
+  -- the entries from the last cell to the first
   back_push : (ls : List (Option (Entry A))) (o : Option (Entry A)) → entries_back (ls ++ o ∷ []) ≡ option_to_list o ++ entries_back ls
   back_push [] o = sym (append-nil (option_to_list o))
   back_push (l ∷ ls) o =
@@ -138,7 +101,22 @@ module _ {A : Type 0} where
   back_none (None ∷ ls) is (suc k) = back_none ls (sym (append-nil (entries_back ls)) ∙ is) k
   back_none (Some e ∷ ls) is k = absurd (omega (arith, length_push (entries_back ls) e, ap (λ (es : List (Entry A)). length es) is))
 
-  -- a rest that is seen as nothing has empty lanes alone
+  -- the pairs of cells
+  pair_from : (o : Option (Entry A)) (p : ℕ × (ℕ × Timed A)) → Contains (pair_of o) p → (e : Entry A) × (o ≡ Some e) × ((e.id, e.value) ≡ p)
+  pair_from None p c = absurd (omega (arith, c.1))
+  pair_from (Some e) p c = ⊎_elim (λ first. (e, refl, first)) (λ behind. absurd (omega (arith, behind.1))) (first_or_later (e.id, e.value) [] p c)
+
+  sum_pair : (f : ℕ × (ℕ × Timed A) → ℕ) (o : Option (Entry A)) → sum_by f (pair_of o) ≡ or_zero (λ (e : Entry A). f (e.id, e.value)) o
+  unfolding or_zero
+  sum_pair f None = refl
+  sum_pair f (Some e) = omega (arith, sum_by-cons f (e.id, e.value) [])
+
+  sum_cells : (f : ℕ × (ℕ × Timed A) → ℕ) (os : List (Option (Entry A))) → sum_by f (flat_map pair_of os) ≡ sum_by (or_zero (λ (e : Entry A). f (e.id, e.value))) os
+  sum_cells f [] = refl
+  sum_cells f (o ∷ os) =
+      omega (arith, sum_by-append f (pair_of o) (flat_map pair_of os), sum_pair f o, sum_cells f os, sum_by-cons (or_zero (λ (e : Entry A). f (e.id, e.value))) o os)
+
+  -- a rest that is seen as nothing has empty cells alone
   pub seen_none : (ls : List (Option (Entry A))) (v : List (Timer A)) → rest_seen ls ≡ v → v ≡ [] → (k : ℕ) → get_or ls k None ≡ None
   seen_none ls v seen none =
       back_none ls (nil_from_length (entries_back ls) (omega (arith, length-map (entries_back ls) timer_of_entry, ap (λ (ts : List (Timer A)). length ts) (seen ∙ none))))
@@ -151,14 +129,14 @@ module _ {A : Type 0} where
       packed i j e le (omega (arith, low, length_push ls o)) (get_or_append_left ls (o ∷ []) None i (omega (arith, le, low)) ∙ some)
       (get_or_append_left ls (o ∷ []) None j low ∙ none)
 
-  popped_is : (ls new : List (Option (Entry A))) (r : Option (Option (Entry A))) (lane : Option (Entry A)) → ls ≡ new ++ option_to_list r → r ≡ Some lane → ls ≡ new ++ lane ∷ []
-  popped_is ls new r lane is some = is ∙ ap (λ (o : Option (Option (Entry A))). new ++ option_to_list o) some
+  popped_is : (ls new : List (Option (Entry A))) (r : Option (Option (Entry A))) (cell : Option (Entry A)) → ls ≡ new ++ option_to_list r → r ≡ Some cell → ls ≡ new ++ cell ∷ []
+  popped_is ls new r cell is some = is ∙ ap (λ (o : Option (Option (Entry A))). new ++ option_to_list o) some
 
-  -- the last lane is empty: nothing is left
-  pub none_popped : (left : ℕ) (ls new : List (Option (Entry A))) (r : Option (Option (Entry A))) (lane : Option (Entry A)) → IsResting left ls → ls ≡ new ++ option_to_list r
-      → r ≡ Some lane → lane ≡ None → IsResting left new × ((rest_seen ls ≡ []) × (rest_seen new ≡ []))
-  none_popped left ls new r lane rest is some none =
-      let all : ls ≡ new ++ None ∷ [] = popped_is ls new r lane is some ∙ ap (λ (o : Option (Entry A)). new ++ o ∷ []) none in
+  -- the last cell is empty: nothing is left
+  pub none_popped : (left : ℕ) (ls new : List (Option (Entry A))) (r : Option (Option (Entry A))) (cell : Option (Entry A)) → IsResting left ls → ls ≡ new ++ option_to_list r
+      → r ≡ Some cell → cell ≡ None → IsResting left new × ((rest_seen ls ≡ []) × (rest_seen new ≡ []))
+  none_popped left ls new r cell rest is some none =
+      let all : ls ≡ new ++ None ∷ [] = popped_is ls new r cell is some ∙ ap (λ (o : Option (Entry A)). new ++ o ∷ []) none in
       let packed : IsPacked (new ++ None ∷ []) = subst (λ (xs : List (Option (Entry A))). IsPacked xs) all rest.packed in
       let empty : entries_back new ≡ [] = none_back new (λ k. each k packed (get_or new k None) refl) in
       let back : entries_back ls ≡ entries_back new = ap entries_back all ∙ back_push new None in (
@@ -178,10 +156,10 @@ module _ {A : Type 0} where
           slice_low (x ∷ xs) (suc k) e at = let r = slice_low xs k e at in omega (arith, r)
 
   -- an entry leaves
-  pub some_popped : (left : ℕ) (ls new : List (Option (Entry A))) (r : Option (Option (Entry A))) (lane : Option (Entry A)) (e : Entry A) → IsResting left ls
-      → ls ≡ new ++ option_to_list r → r ≡ Some lane → lane ≡ Some e → (1 ≤ left) × IsResting (left - 1) new × (rest_seen ls ≡ timer_of_entry e ∷ rest_seen new)
-  some_popped left ls new r lane e rest is some at =
-      let all : ls ≡ new ++ Some e ∷ [] = popped_is ls new r lane is some ∙ ap (λ (o : Option (Entry A)). new ++ o ∷ []) at in
+  pub some_popped : (left : ℕ) (ls new : List (Option (Entry A))) (r : Option (Option (Entry A))) (cell : Option (Entry A)) (e : Entry A) → IsResting left ls
+      → ls ≡ new ++ option_to_list r → r ≡ Some cell → cell ≡ Some e → (1 ≤ left) × IsResting (left - 1) new × (rest_seen ls ≡ timer_of_entry e ∷ rest_seen new)
+  some_popped left ls new r cell e rest is some at =
+      let all : ls ≡ new ++ Some e ∷ [] = popped_is ls new r cell is some ∙ ap (λ (o : Option (Entry A)). new ++ o ∷ []) at in
       let back : entries_back ls ≡ e ∷ entries_back new = ap entries_back all ∙ back_push new (Some e) in
       let size : left ≡ length (entries_back new) + 1 = rest.size ∙ ap (λ (es : List (Entry A)). length es) back ∙ (omega arith) in (
         omega (arith, size),
@@ -189,7 +167,7 @@ module _ {A : Type 0} where
         ap (map timer_of_entry) back,
       )
 
-  -- entries that are ordered by their keys ascend from the last lane on
+  -- entries that are ordered by their keys ascend from the last cell on
   ascends_back : (ls : List (Option (Entry A))) → IsNonDecreasingBy key_of ls → ((e : Entry A) → Contains ls (Some e) → key_of_entry e < 340282366920938463463374607431768211455)
       → Ascends (entries_back ls)
   unfolding Ascends
@@ -234,45 +212,45 @@ module _ {A : Type 0} where
       apart : (a b : ℕ) → a ≢ b → one_if_same a b ≡ 0
       apart a b ne = grind (arith, common_steps)
 
-  -- a wheel's lanes in order
-  module _ (index : Index A) (ls sorted : List (Option (Entry A))) (unique : AreApart index) (fits : Fit index) (all_is : flat_map option_to_list ls ≡ map entry_seen index)
+  -- a wheel's cells in order
+  module _ (index : Index A) (ls sorted : List (Option (Entry A))) (unique : AreApart index) (fits : Fit index) (all_is : seen_pairs (flat_map pair_of ls) ≡ index)
       (same : IsPermutation ls sorted) (rises : IsNonDecreasingBy key_of sorted) where
-    -- an entry of a lane is held
-    lane_held : (e : Entry A) → Contains sorted (Some e) → (h : Held A) × (held_at index e.id ≡ Some h) × (entry_seen (e.id, h) ≡ e)
-    lane_held e c =
-        let there = subst (λ (es : List (Entry A)). Contains es e) all_is (flat_into ls e (Contains-permutation sorted ls (Some e) (IsPermutation-sym ls sorted same) c)) in
-        let r = mapped_from entry_seen index e there in
-        let id : r.0.0 ≡ e.id = ap (λ (x : Entry A). x.id) r.2 in
-        (r.0.1, subst (λ q. held_at index q ≡ Some r.0.1) id (lookup-from_Contains nat_eq_equiv r.0.0 r.0.1 index unique.unique r.1), subst (λ q. entry_seen (q, r.0.1) ≡ e) id r.2)
+    -- an entry of a cell is held
+    cell_held : (e : Entry A) → Contains sorted (Some e) → held_at index e.id ≡ Some (held_of e.value)
+    cell_held e c =
+        let pair = flat_into pair_of ls (Some e) (e.id, e.value) (Contains-permutation sorted ls (Some e) (IsPermutation-sym ls sorted same) c) (here (e.id, e.value) []) in
+        let there = subst (λ (es : Index A). Contains es (e.id, held_of e.value)) all_is (mapped_into seen_pair (flat_map pair_of ls) (e.id, e.value) pair) in
+        lookup-from_Contains nat_eq_equiv e.id (held_of e.value) index unique.unique there
 
-    held_lane : (id : ℕ) (h : Held A) → held_at index id ≡ Some h → Contains sorted (Some (entry_seen (id, h)))
-    held_lane id h is =
-        Contains-permutation ls sorted (Some (entry_seen (id, h))) same
-        (flat_from ls (entry_seen (id, h)) (subst (λ (es : List (Entry A)). Contains es (entry_seen (id, h))) (sym all_is)
-        (mapped_into entry_seen index (id, h) (Contains-from_lookup equal_keys id h index is))))
+    -- what is held lies in a cell
+    held_cell : (id : ℕ) (h : Held A) → held_at index id ≡ Some h → (e : Entry A) × Contains sorted (Some e) × (seen_pair (e.id, e.value) ≡ (id, h))
+    held_cell id h is =
+        let there = subst (λ (es : Index A). Contains es (id, h)) (sym all_is) (Contains-from_lookup equal_keys id h index is) in
+        let pair = mapped_from seen_pair (flat_map pair_of ls) (id, h) there in
+        let cell = flat_from pair_of ls pair.0 pair.1 in
+        let entry = pair_from cell.0 pair.0 cell.2 in
+        (entry.0, Contains-permutation ls sorted (Some entry.0) same (subst (λ (o : Option (Entry A)). Contains ls o) entry.1 cell.1), ap seen_pair entry.2 ∙ pair.2)
       where
         equal_keys : (a b : ℕ) → nat_eq a b ≡ true → a ≡ b
         equal_keys a b t = grind (arith, common_steps)
 
-    lane_fits : (e : Entry A) → Contains sorted (Some e) → (key_of_entry e < 340282366920938463463374607431768211455) × (e.order < 18446744073709551616)
-    lane_fits e c =
-        let h = lane_held e c in
-        let f = fits e.id h.0 h.1 in
-        let due : h.0.due ≡ e.due = ap (λ (x : Entry A). x.due) h.2 in
-        let order : h.0.order ≡ e.order = ap (λ (x : Entry A). x.order) h.2 in
-        (omega (arith, f.0, f.1, due, order), omega (arith, f.1, order))
+    cell_fits : (e : Entry A) → Contains sorted (Some e) → (key_of_entry e < 340282366920938463463374607431768211455) × (e.value.1.order < 18446744073709551616)
+    cell_fits e c =
+        let f = fits e.id (held_of e.value) (cell_held e c) in
+        (omega (arith, f.0, f.1), f.1)
 
     -- sums are the same
-    sum_index : (f : Entry A → ℕ) → sum_by f (entries_back sorted) ≡ sum_by (λ (x : ℕ × Held A). f (entry_seen x)) index
+    sum_index : (f : ℕ × Held A → ℕ) → sum_by (λ (e : Entry A). f (e.id, held_of e.value)) (entries_back sorted) ≡ sum_by f index
     sum_index f =
-        sum_back f sorted ∙ sum_by-IsPermutation (or_zero f) ls sorted same ∙ sym (sum_flat f ls) ∙ ap (sum_by f) all_is ∙ sum_map f entry_seen index
+        sum_back (λ (e : Entry A). f (e.id, held_of e.value)) sorted ∙ sum_by-IsPermutation (or_zero (λ (e : Entry A). f (e.id, held_of e.value))) ls sorted same
+        ∙ sym (sum_cells (λ (p : ℕ × (ℕ × Timed A)). f (seen_pair p)) ls) ∙ sym (sum_map f seen_pair (flat_map pair_of ls)) ∙ ap (sum_by f) all_is
 
     pub rested_kept : (left : ℕ) → left ≡ length index → IsResting left sorted
     rested_kept left is = record {
       size = is ∙ sym (ones index) ∙ sym (sum_index (λ _. 1)) ∙ ones (entries_back sorted);
       packed = λ i j e le low some none.
           let c : Contains sorted (Some e) = (i, omega (arith, le, low), at_default sorted i (Some e) (omega (arith, le, low)) some) in
-          let f = lane_fits e c in
+          let f = cell_fits e c in
           let r = rises i j None le low in
           let first : key_of (get_or sorted i None) ≡ 340282366920938463463374607431768211455 - key_of_entry e = ap key_of some in
           let last : key_of (get_or sorted j None) ≡ 0 = ap key_of none in
@@ -285,25 +263,26 @@ module _ {A : Type 0} where
     pub rested_seen : rest_seen sorted ≡ by_due (timers_of index)
     rested_seen =
         rest_order (entries_back sorted) (numbered index) (numbered_sorted index)
-        (λ e c.
-        let h = lane_held e (back_from sorted e c) in
-        let found = held_found index e.id h.0 unique h.1 in
-        subst (λ n. find nat_cmp n (numbered index) ≡ Some (timer_of_entry e)) (ap (λ (x : Entry A). x.order) h.2)
-        (found ∙ ap (λ (x : Entry A). Some (timer_of_entry x)) h.2))
+        (λ e c. held_found index e.id (held_of e.value) unique (cell_held e (back_from sorted e c)))
         (λ k t f.
         let m = found_held index k t unique f in
-        (entry_seen (t.id, m.0), back_into sorted (entry_seen (t.id, m.0)) (held_lane t.id m.0 m.1), ap (λ (r : ℕ × Timer A). r.0) m.2, ap (λ (r : ℕ × Timer A). r.1) m.2))
+        let r = held_cell t.id m.0 m.1 in (
+          r.0,
+          back_into sorted r.0 r.1,
+          ap (λ (x : ℕ × Held A). x.1.order) r.2 ∙ ap (λ (x : ℕ × Timer A). x.0) m.2,
+          ap (λ (x : ℕ × Held A). timer_of x.0 x.1) r.2 ∙ ap (λ (x : ℕ × Timer A). x.1) m.2,
+        ))
         (λ k l t u f g id.
         let m = found_held index k t unique f in
         let n = found_held index l u unique g in
         let one : m.0 ≡ n.0 = same_Some m.0 n.0 (sym m.1 ∙ ap (held_at index) id ∙ n.1) in
         sym (ap (λ (r : ℕ × Timer A). r.0) m.2) ∙ ap (λ (h : Held A). h.order) one ∙ ap (λ (r : ℕ × Timer A). r.0) n.2)
-        (λ q. let most = count_ids index q unique.unique in omega (arith, sum_index (is_id q), most))
-        (ascends_back sorted rises (λ e c. (lane_fits e c).0))
-        (λ e c. (lane_fits e (back_from sorted e c)).1)
+        (λ q. let most = count_ids index q unique.unique in omega (arith, sum_index (λ (x : ℕ × Held A). cond (x.0 == q) 1 0), most))
+        (ascends_back sorted rises (λ e c. (cell_fits e c).0))
+        (λ e c. (cell_fits e (back_from sorted e c)).1)
 
   -- as the code hands them on
-  pub rested_back : (index : Index A) (ls lent sorted back : List (Option (Entry A))) (left : ℕ) → AreApart index → Fit index → flat_map option_to_list ls ≡ map entry_seen index → lent ≡ ls
+  pub rested_back : (index : Index A) (ls lent sorted back : List (Option (Entry A))) (left : ℕ) → AreApart index → Fit index → seen_pairs (flat_map pair_of ls) ≡ index → lent ≡ ls
       → IsPermutation lent sorted → IsNonDecreasingBy key_of sorted → back ≡ sorted → left ≡ length index
       → IsResting left back × (rest_seen back ≡ by_due (timers_of index))
   rested_back index ls lent sorted back left apart fits all_is lent_is same rises back_is left_is =

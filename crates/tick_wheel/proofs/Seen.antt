@@ -7,17 +7,18 @@ use Rattle.std.proofs.lemmas.Grind.{common_steps}
 use Rattle.std.proofs.lemmas.List.{length-map, nil_from_length}
 use Rattle.std.proofs.lemmas.List.Sums.{length-filter}
 use Rattle.std.proofs.lemmas.Option.{none-some}
-use Rattle.timer_lanes.specs.Lanes.{Held}
+use Rattle.tick_wheel.specs.Handouts.{HandsOut, handouts_of}
+use Rattle.tick_wheel.specs.Held.{Held}
 use Rattle.tick_wheel.specs.declared.timer.Timer.{Timer}
 use Rattle.tick_wheel.specs.Firing.{IsPartOf}
 use Rattle.tick_wheel.specs.Kept.{timers_of, IsKept}
 use Rattle.tick_wheel.specs.Place.{IsAhead, slot_for}
 use Rattle.tick_wheel.specs.Steps.{count_due, turning_bound, tick_bound}
 use Rattle.tick_wheel.specs.Table.{Index, AreApart, AreAhead, held_at, ranked_at, timer_of}
-use Rattle.tick_wheel.specs.TimerList.{TimerList, timer_at, without, cancelled, scheduled, due_at, due_later, items_of, Ticks}
+use Rattle.tick_wheel.specs.TimerList.{TimerList, timer_at, without, cancelled, scheduled, due_at, due_later, Ticks}
 use Rattle.tick_wheel.proofs.Counting.{length-timers_of}
 use Rattle.tick_wheel.proofs.Places.{ahead_from_delay}
-use Rattle.tick_wheel.proofs.Views.{timers_push, timers_same, timer_at-timers_of}
+use Rattle.tick_wheel.proofs.Views.{none_distinct, unmapped, timers_push, timers_same, timer_at-timers_of}
 
 module _ {A : Type 0} where
   abbrev pub seen_of : ℕ → Index A → TimerList A
@@ -41,11 +42,7 @@ module _ {A : Type 0} where
 
   pub seen_free : (tick : ℕ) (index : Index A) (v : TimerList A) (id : ℕ) → AreApart index → seen_of tick index ≡ v
       → timer_at id v.timers ≡ None → held_at index id ≡ None
-  seen_free tick index v id apart seen free = unmapped (held_at index id) (seen_timer tick index v id apart seen ∙ free)
-    where
-      unmapped : (o : Option (Held A)) → option_map (timer_of id) o ≡ None → o ≡ None
-      unmapped None e = refl
-      unmapped (Some h) e = absurd (none-some _ (sym e))
+  seen_free tick index v id apart seen free = unmapped (timer_of id) (held_at index id) (seen_timer tick index v id apart seen ∙ free)
 
   pub seen_empty : (tick : ℕ) (index : Index A) (v : TimerList A) → AreApart index → seen_of tick index ≡ v → v.timers ≡ [] → index ≡ []
   seen_empty tick index v apart seen empty =
@@ -82,21 +79,25 @@ module _ {A : Type 0} where
       → n ≤ m + (count_due (tick + 1) (timers_of index) + turning_bound (tick + 1) (timers_of index)) → n ≤ m + tick_bound v
   seen_bound tick index v n m seen le = subst (λ (w : TimerList A). n ≤ m + tick_bound w) seen le
 
-  pub count_fired : (tick : ℕ) (ts : List (Timer A)) (fired : List A) → fired ≡ items_of (due_at tick ts) → length fired ≡ count_due tick ts
-  count_fired tick ts fired is =
-      ap (λ (xs : List A). length xs) is ∙ length-map (due_at tick ts) (λ (t : Timer A). t.item) ∙ length-filter (λ (t : Timer A). t.due == tick) ts
+  pub count_fired : {X : Type 0} (handout : ℕ → A → X) (tick : ℕ) (ts : List (Timer A)) (fired : List X) → fired ≡ handouts_of handout (due_at tick ts) → length fired ≡ count_due tick ts
+  count_fired {X} handout tick ts fired is =
+      ap (λ (xs : List X). length xs) is ∙ length-map (due_at tick ts) (λ (t : Timer A). handout t.id t.item) ∙ length-filter (λ (t : Timer A). t.due == tick) ts
 
-  pub seen_tick : (tick : ℕ) (index mid index' : Index A) (v : TimerList A) (fired : List A) → seen_of tick index ≡ v
-      → timers_of mid ≡ timers_of index → fired ≡ items_of (due_at (tick + 1) (timers_of mid)) → timers_of index' ≡ due_later (tick + 1) (timers_of mid)
-      → Ticks v (seen_of (tick + 1) index') fired
-  seen_tick tick index mid index' v fired seen same is rest =
+  pub seen_tick : {X : Type 0} (handout : ℕ → A → X) (tick : ℕ) (index mid index' : Index A) (v : TimerList A) (fired : List X) → seen_of tick index ≡ v
+      → timers_of mid ≡ timers_of index → fired ≡ handouts_of handout (due_at (tick + 1) (timers_of mid)) → timers_of index' ≡ due_later (tick + 1) (timers_of mid)
+      → HandsOut handout v (seen_of (tick + 1) index') fired
+  seen_tick handout tick index mid index' v fired seen same is rest =
       let at : tick + 1 ≡ v.tick + 1 = ap (λ (w : TimerList A). w.tick + 1) seen in
       let ts : timers_of mid ≡ v.timers = same ∙ ap (λ (w : TimerList A). w.timers) seen in
       record {
         now = at;
-        fired = is ∙ ap (λ (xs : List (Timer A)). items_of (due_at (tick + 1) xs)) ts;
+        fired = is ∙ ap (λ (xs : List (Timer A)). handouts_of handout (due_at (tick + 1) xs)) ts;
         rest = rest ∙ ap (λ (xs : List (Timer A)). due_later (tick + 1) xs) ts;
       }
+
+  -- where what each carries is handed out
+  pub items_ticked : (old new : TimerList A) (items : List A) → HandsOut (λ (id : ℕ) (item : A). item) old new items → Ticks old new items
+  items_ticked old new items t = record { now = t.now; fired = t.fired; rest = t.rest }
 
   pub kept_fired : (tick next : ℕ) (index index' : Index A) → tick < 2 ^ 63 → IsKept tick next index → AreApart index' → AreAhead (tick + 1) index' → IsPartOf index' index
       → IsKept (tick + 1) next index'
@@ -114,19 +115,16 @@ length_nil {A = A} xs e = ap (λ (ys : List A). length ys) e
 pub ahead_placed : (now delay slot : ℕ) → slot ≡ slot_for now (now + delay) → 0 < delay → delay ≤ 4294967295 → IsAhead now (now + delay) slot
 ahead_placed now delay slot is low high = subst (λ s. IsAhead now (now + delay) s) (sym is) (ahead_from_delay now (now + delay) (omega (arith, low)) (omega (arith, high)))
 
-none_distinct : IsDistinct nat_eq []
-unfolding IsDistinct
-none_distinct = tt
-
 module _ {A : Type 0} where
   pub seen_low : (tick : ℕ) (index : Index A) (v : TimerList A) → seen_of tick index ≡ v → v.tick < 2 ^ 63 → tick < 2 ^ 63
   seen_low tick index v seen low = subst (λ n. n < 2 ^ 63) (sym (ap (λ (w : TimerList A). w.tick) seen)) low
 
   -- the steps of what was placed anew and of what fired
-  pub fired_bound : (tick : ℕ) (before mid after : ℕ) (ts : List (Timer A)) {ms : List (Timer A)} (fired : List A) → ms ≡ ts → fired ≡ items_of (due_at tick ms)
-      → mid ≤ before + turning_bound tick ts → after ≡ mid + length fired → after ≤ before + (count_due tick ts + turning_bound tick ts)
-  fired_bound tick before mid after ts {ms} fired same is turned all =
-      let n : length fired ≡ count_due tick ts = count_fired tick ms fired is ∙ ap (λ (xs : List (Timer A)). count_due tick xs) same in
+  pub fired_bound : {X : Type 0} (handout : ℕ → A → X) (tick : ℕ) (before mid after : ℕ) (ts : List (Timer A)) {ms : List (Timer A)} (fired : List X) → ms ≡ ts
+      → fired ≡ handouts_of handout (due_at tick ms) → mid ≤ before + turning_bound tick ts → after ≡ mid + length fired
+      → after ≤ before + (count_due tick ts + turning_bound tick ts)
+  fired_bound handout tick before mid after ts {ms} fired same is turned all =
+      let n : length fired ≡ count_due tick ts = count_fired handout tick ms fired is ∙ ap (λ (xs : List (Timer A)). count_due tick xs) same in
       omega (arith, turned, all, n)
 
   pub kept_new : (start : ℕ) (index : Index A) → start ≤ 2 ^ 62 → index ≡ [] → IsKept start 0 index

@@ -15,13 +15,14 @@ use Rattle.std.proofs.lemmas.Map.Keys.{IsDistinct-IsPermutation, IsStrictlyIncre
 use Rattle.std.proofs.lemmas.Map.Made.{nil_from_lookup}
 use Rattle.std.proofs.lemmas.Map.Views.{Contains-keys_from_lookup, IsSome-lookup_from_Contains}
 use Rattle.std.proofs.lemmas.Option.{none-some, same_Some}
-use Rattle.timer_lanes.specs.Lanes.{Held}
+use Rattle.tick_wheel.specs.Handouts.{handouts_of}
+use Rattle.tick_wheel.specs.Held.{Held}
 use Rattle.tick_wheel.specs.declared.timer.Timer.{Timer}
 use Rattle.tick_wheel.specs.InOrder.{in_order}
 use Rattle.tick_wheel.specs.Kept.{timers_of}
 use Rattle.tick_wheel.specs.Sweep.{IsListed}
 use Rattle.tick_wheel.specs.Table.{Index, AreApart, held_at, ranked_at, rank_of, timer_of}
-use Rattle.tick_wheel.specs.TimerList.{timer_at, by_id, items_of}
+use Rattle.tick_wheel.specs.TimerList.{timer_at, by_id}
 use Rattle.tick_wheel.proofs.InOrder.{values, unequal, sorted-in_order, find-in_order, same_in_order, find_here, find_there, sorted_cons}
 use Rattle.tick_wheel.proofs.Views.{timer_at-timers_of}
 
@@ -166,7 +167,9 @@ module _ {A : Type 0} where
   pub behind_none : (xs ys : List A) → ys ≡ [] → xs ≡ ys ++ xs
   behind_none xs ys none = ap (λ (zs : List A). zs ++ xs) (sym none)
 
-  pub all_swept : (index0 index : Index A) (items : List A) → items_of (by_id (timers_of index0)) ≡ items ++ items_of (by_id (timers_of index)) → index ≡ []
-      → items ≡ items_of (by_id (timers_of index0))
-  all_swept index0 index items moved empty =
-      sym (append-nil items) ∙ ap (λ (es : List (ℕ × Held A)). items ++ items_of (by_id (map (λ (r : ℕ × Timer A). r.1) (in_order (map (λ (e : ℕ × Held A). rank_of e.0 e.1) es))))) (sym empty) ∙ sym moved
+  pub all_swept : {X : Type 0} (handout : ℕ → A → X) (index0 index : Index A) (given : List X)
+      → handouts_of handout (by_id (timers_of index0)) ≡ given ++ handouts_of handout (by_id (timers_of index)) → index ≡ [] → given ≡ handouts_of handout (by_id (timers_of index0))
+  all_swept handout index0 index given moved empty =
+      sym (append-nil given)
+      ∙ ap (λ (es : List (ℕ × Held A)). given ++ handouts_of handout (by_id (map (λ (r : ℕ × Timer A). r.1) (in_order (map (λ (e : ℕ × Held A). rank_of e.0 e.1) es))))) (sym empty)
+      ∙ sym moved

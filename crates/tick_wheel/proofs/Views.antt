@@ -9,21 +9,30 @@ use Rattle.std.proofs.lemmas.Grind.{common_steps}
 use Rattle.std.proofs.lemmas.List.{map-append}
 use Rattle.std.proofs.lemmas.Map.Keys.{IsDistinct-head, IsDistinct-tail}
 use Rattle.std.proofs.lemmas.Option.{none-some, same_Some}
-use Rattle.timer_lanes.specs.Lanes.{Held}
+use Rattle.tick_wheel.specs.Held.{Held}
 use Rattle.tick_wheel.specs.declared.timer.Timer.{Timer}
 use Rattle.tick_wheel.specs.Kept.{numbered, timers_of}
 use Rattle.tick_wheel.specs.Table.{Index, IsUnique, AreApart, AreBelow, held_at, ranked_at, rank_of, timer_of}
 use Rattle.tick_wheel.specs.TimerList.{timer_at, without}
 use Rattle.tick_wheel.proofs.InOrder.{values, unequal, option_ext, sorted-in_order, find-in_order, same_in_order, find_here, find_there, find_cases, find_push, sorted_push, sorted_keep, found_keep, keep_found, values_keep, first_found, found_first}
 
+pub none_distinct : IsDistinct nat_eq []
+unfolding IsDistinct
+none_distinct = tt
+
+-- where nothing is made of an option it is nothing
+pub unmapped : {X Y : Type 0} (f : X → Y) (o : Option X) → option_map f o ≡ None → o ≡ None
+unmapped f None is = refl
+unmapped f (Some x) is = absurd (none-some (f x) (sym is))
+
 module _ {A : Type 0} where
   abbrev ranks : List (ℕ × Held A) → List (ℕ × Timer A)
   ranks es = map (λ (e : ℕ × Held A). rank_of e.0 e.1) es
 
-  lookup_here : (q : ℕ) (e : ℕ × Held A) (es : List (ℕ × Held A)) → q ≡ e.0 → lookup (nat_eq q) (e ∷ es) ≡ Some e.1
+  pub lookup_here : (q : ℕ) (e : ℕ × Held A) (es : List (ℕ × Held A)) → q ≡ e.0 → lookup (nat_eq q) (e ∷ es) ≡ Some e.1
   lookup_here q e es same = grind (arith, common_steps)
 
-  lookup_there : (q : ℕ) (e : ℕ × Held A) (es : List (ℕ × Held A)) → q ≢ e.0 → lookup (nat_eq q) (e ∷ es) ≡ lookup (nat_eq q) es
+  pub lookup_there : (q : ℕ) (e : ℕ × Held A) (es : List (ℕ × Held A)) → q ≢ e.0 → lookup (nat_eq q) (e ∷ es) ≡ lookup (nat_eq q) es
   lookup_there q e es apart = grind (arith, common_steps)
 
   looked_apart : (k q : ℕ) (es : List (ℕ × Held A)) (h : Held A) → AllByRecursion (λ y. nat_eq k y ≡ false) (keys_of es)

@@ -1,10 +1,11 @@
 -- The index while one slot fires: its entries leave in the order in which they were gathered.
 use Rattle.std.specs.Prelude.{◌≡◌, ℕ, ◌+◌, ◌<◌, ◌≤◌, List, Some, length, slice_index_or}
 use Rattle.std.specs.List.Sorted.{IsNonDecreasingBy}
-use Rattle.timer_lanes.specs.Lanes.{Held}
+use Rattle.tick_wheel.specs.Handouts.{handouts_of}
+use Rattle.tick_wheel.specs.Held.{Held}
 use Rattle.tick_wheel.specs.Kept.{timers_of}
 use Rattle.tick_wheel.specs.Table.{Index, AreApart, AreAhead, held_at}
-use Rattle.tick_wheel.specs.TimerList.{due_at, due_later, items_of}
+use Rattle.tick_wheel.specs.TimerList.{due_at, due_later}
 
 -- a number of scheduling and an id
 abbrev pub key_at : List (ℕ × ℕ) → ℕ → ℕ × ℕ
@@ -24,10 +25,10 @@ module _ {T : Type 0} where
   IsPartOf new old = (id : ℕ) (held : Held T) → held_at new id ≡ Some held → held_at old id ≡ Some held
 
   -- what was due at the next tick has left, in order of scheduling, and each was one step
-  pub record Fires (now : ℕ) (old new : Index T) (before after : ℕ) (fired : List T) : Type 0 where
+  pub record Fires {X : Type 0} (handout : ℕ → T → X) (now : ℕ) (old new : Index T) (before after : ℕ) (fired : List X) : Type 0 where
     pub apart : AreApart new
     pub ahead : AreAhead (now + 1) new
     pub part : IsPartOf new old
-    pub fired_is : fired ≡ items_of (due_at (now + 1) (timers_of old))
+    pub fired_is : fired ≡ handouts_of handout (due_at (now + 1) (timers_of old))
     pub rest : timers_of new ≡ due_later (now + 1) (timers_of old)
     pub counted : after ≡ before + length fired

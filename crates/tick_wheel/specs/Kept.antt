@@ -1,6 +1,6 @@
 -- What a wheel shows of its index, and what the index keeps.
 use Rattle.std.specs.Prelude.{ℕ, ◌≤◌, ◌<◌, ◌^◌, List, map}
-use Rattle.timer_lanes.specs.Lanes.{Held}
+use Rattle.tick_wheel.specs.Held.{Held}
 use Rattle.tick_wheel.specs.declared.timer.Timer.{Timer}
 use Rattle.tick_wheel.specs.InOrder.{in_order}
 use Rattle.tick_wheel.specs.Table.{Index, AreApart, AreBelow, AreAhead, rank_of}

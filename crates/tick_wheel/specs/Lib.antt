@@ -1,5 +1,7 @@
 pub mod Book
 pub mod Firing
+pub mod Handouts
+pub mod Held
 pub mod InOrder
 pub mod Kept
 pub mod Place

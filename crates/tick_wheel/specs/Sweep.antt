@@ -1,6 +1,6 @@
 -- Ids in ascending order, and how far they were gone through.
 use Rattle.std.specs.Prelude.{◌≡◌, ℕ, ◌<◌, ◌≤◌, List, length, slice_index, Some}
-use Rattle.timer_lanes.specs.Lanes.{Held}
+use Rattle.tick_wheel.specs.Held.{Held}
 use Rattle.tick_wheel.specs.Table.{Index, held_at}
 
 -- the ids from this place on are those that the index holds

@@ -2,7 +2,7 @@
 use Rattle.std.specs.Prelude.{◌≡◌, ◌≢◌, ℕ, ◌+◌, ◌<◌, ◌≤◌, ◌==◌, List, Option, Some, option_map, nat_eq, count_by, if◌then◌else◌}
 use Rattle.std.specs.List.{IsDistinct, sum_by, Contains}
 use Rattle.std.specs.Map.{lookup, keys_of, values_of}
-use Rattle.timer_lanes.specs.Lanes.{Held}
+use Rattle.tick_wheel.specs.Held.{Held}
 use Rattle.tick_wheel.specs.Place.{IsAhead, IsSettled, slot_for}
 use Rattle.tick_wheel.specs.declared.timer.Timer.{Timer}
 

@@ -1,11 +1,14 @@
--- A wheel of ids: each timer carries its id.
+-- A wheel of ids: its timers carry nothing, and are seen as if each carried its id.
 use Rattle.std.specs.Prelude.{◌≡◌, ℕ, ◌+◌, List, map}
-use Rattle.std.specs.List.{All}
 use Rattle.tick_wheel.specs.declared.timer.Timer.{Timer}
 use Rattle.tick_wheel.specs.TimerList.{TimerList, due_at, due_later}
 
-abbrev pub CarryTheirIds : List (Timer ℕ) → Type 0
-CarryTheirIds = All (λ (t : Timer ℕ). t.item ≡ t.id)
+module _ {T : Type 0} where
+  abbrev pub with_id : Timer T → Timer ℕ
+  with_id t = record { due = t.due; id = t.id; item = t.id }
+
+  abbrev pub with_ids : TimerList T → TimerList ℕ
+  with_ids list = record { tick = list.tick; timers = map with_id list.timers }
 
 abbrev pub ids_of : List (Timer ℕ) → List ℕ
 ids_of = map (λ (t : Timer ℕ). t.id)

@@ -1,14 +1,19 @@
-//! The book: the entries in their lanes, the table that knows each id's lane, and the count of the steps that a tick takes.
-ghost use Rattle.std.specs.Prelude.{◌≡◌};
+//! The book: the timers by their ids in a table, their ids in the lists of the slots, and the count of the steps that a tick takes.
+ghost use Rattle.std.specs.Prelude.{◌≡◌, ◌+◌, ◌*◌, ◌<◌, ◌++◌, length, true, false, Some, None, IsSome, IfOk, IfErr, IfSome, IfNone, OnOk, OnErr};
+ghost use Rattle.timer_slots.specs.Seen.{spot_at, tail_of};
+ghost use Rattle.tick_wheel.specs.Book.{IsBook, IsDueFrom, IsGone, IsHeldAs, IsPut, key_list, key_option, keys_from, moves_of, spot_of};
+ghost use Rattle.tick_wheel.specs.Held.{seen_pairs};
+ghost use Rattle.tick_wheel.specs.Table.{held_at, IsLeft, PlacesAnew};
 
 use crate::place::slot_of;
+use crate::timed::Timed;
 use crate::timer::ScheduleFault;
 use fan_base::Memory;
-use id_table::IdTable;
+use id_table::{Cell, IdTable};
 use std::alloc::{AllocError, Global};
 use std::marker::Model;
 use std::sync::ledger::{Blank, Book as Tally, Ledger, Share};
-use timer_lanes::{Entry, Lanes};
+use timer_slots::{MOST_WAITING, Slots, spot_of};
 
 /// How many steps were taken. It takes no bytes, and only an entry that a tick takes out of its slot raises it.
 #[derive(Drop)]
@@ -48,52 +53,274 @@ impl<L: Ledger> Steps<L> {
     }
 }
 
-// So many ids have a table of some 2 MB.
-const MANY: usize = 65536;
-
-// Touches the ids of keys in a table, one behind the other.
-fn touch_all(table: &mut IdTable, keys: &[(u64, u64)])
+// Touches ids in a table, one behind the other.
+fn touch_all<T>(table: &mut IdTable<(u64, Timed<T>)>, ids: &[u64])
     ensures { table.new ≡ table.old }
 {
-    for key in keys {
-        table.touch(key.1);
+    for id in ids {
+        table.touch(*id);
     }
 }
 
-// Entries by their ids, each in a slot. Contracts see the list of the ids with what is held of them.
+// Touches the ids that may move as the spots that wait are cleared.
+fn touch_moving<T>(table: &mut IdTable<(u64, Timed<T>)>, slots: &Slots)
+    ensures { table.new ≡ table.old }
+{
+    for place in 0..slots.waits() {
+        if let Some(last) = slots.last_of_waiting(place) {
+            table.touch(last.id);
+        }
+    }
+}
+
+// Whether the table has an id at this spot.
+fn is_at<T>(table: &IdTable<(u64, Timed<T>)>, id: u64, spot: u64) -> bool
+    ensures { result ≡ true → spot_of table.now id ≡ Some spot }
+{
+    let Some((own, _)) = table.get(id) else {
+        return false;
+    };
+    *own == spot
+}
+
+// Whether the last id in the list of the spot that is cleared next is held, as far as the table tells.
+fn tail_stands<T>(table: &IdTable<(u64, Timed<T>)>, slots: &Slots) -> bool
+    requires book { IsBook table.now slots.now }
+    requires waits { 0 < length slots.now.late }
+    ensures { result ≡ true → IsSome (spot_at slots.now (tail_of slots.now)) }
+{
+    let Some(tail) = slots.last_of_waiting(slots.waits() - 1) else {
+        return false;
+    };
+    is_at(table, tail.id, tail.spot)
+}
+
+// Clears one of the spots that wait, and tells the table where the id is that moved there.
+fn clear_one<T>(table: &mut IdTable<(u64, Timed<T>)>, slots: &mut Slots)
+    requires book { IsBook table.old slots.old }
+    requires waits { 0 < length slots.old.late }
+    ensures book { IsBook table.new slots.new }
+    ensures seen { seen_pairs table.new ≡ seen_pairs table.old }
+    ensures waits { length slots.new.late + 1 ≡ length slots.old.late }
+{
+    let stands = tail_stands(table, slots);
+    if let Some(moved) = slots.clear_one(stands) {
+        table.set(moved.id, moved.to);
+    }
+}
+
+// Clears all spots that wait. The ids that may move are touched before, so that the processor fetches what the table has of them side by side.
+fn clear_all<T>(table: &mut IdTable<(u64, Timed<T>)>, slots: &mut Slots)
+    requires book { IsBook table.old slots.old }
+    ensures book { IsBook table.new slots.new }
+    ensures seen { seen_pairs table.new ≡ seen_pairs table.old }
+    ensures none { length slots.new.late ≡ 0 }
+{
+    touch_moving(table, slots);
+    while slots.waits() > 0 {
+        clear_one(table, slots);
+    }
+}
+
+// Sees to it that there is room for one more spot that waits.
+fn make_room<T>(table: &mut IdTable<(u64, Timed<T>)>, slots: &mut Slots)
+    requires book { IsBook table.old slots.old }
+    ensures book { IsBook table.new slots.new }
+    ensures seen { seen_pairs table.new ≡ seen_pairs table.old }
+    ensures room { length slots.new.late < 64 }
+{
+    if slots.waits() < MOST_WAITING {
+        return;
+    }
+    clear_all(table, slots);
+}
+
+// Puts a timer into a slot, or gives its item back where there is no memory.
+fn put<T>(
+    table: &mut IdTable<(u64, Timed<T>)>,
+    slots: &mut Slots,
+    slot: usize,
+    id: u64,
+    timed: Timed<T>,
+) -> Result<(), ScheduleFault<T>>
+    requires slot { slot < 1024 }
+    requires book { IsBook table.old slots.old }
+    requires free { held_at (seen_pairs table.old) id ≡ None }
+    requires room { length slots.old.late < 64 }
+    ensures book { IsBook table.new slots.new }
+    ensures ok { OnOk result (IsPut (seen_pairs table.old) (seen_pairs table.new) slot id timed) }
+    ensures back { IfErr result (λ fault. fault ≡ ScheduleFault.Memory timed.item) }
+    ensures refused { OnErr result (table.new ≡ table.old) }
+{
+    let spot = match slots.append(slot, id) {
+        Ok(spot) => spot,
+        Err(_) => return Err(ScheduleFault::Memory(timed.item)),
+    };
+    if let Err((_, timed)) = table.insert(id, (spot, timed)) {
+        slots.leave(spot);
+        return Err(ScheduleFault::Memory(timed.item));
+    }
+    Ok(())
+}
+
+// Takes an id's timer out.
+fn take_out<T>(table: &mut IdTable<(u64, Timed<T>)>, slots: &mut Slots, id: u64) -> Option<Timed<T>>
+    requires book { IsBook table.old slots.old }
+    requires room { length slots.old.late < 64 }
+    ensures book { IsBook table.new slots.new }
+    ensures some { IfSome result (λ timed. IsHeldAs (seen_pairs table.old) id timed) }
+    ensures none { IfNone result (held_at (seen_pairs table.old) id ≡ None) }
+    ensures same { IfNone result (table.new ≡ table.old) }
+    ensures gone { IsGone (seen_pairs table.old) (seen_pairs table.new) id }
+{
+    let (spot, timed) = table.remove(id)?;
+    slots.leave(spot);
+    Some(timed)
+}
+
+// The same of an id whose slot is known.
+fn take_from<T>(
+    table: &mut IdTable<(u64, Timed<T>)>,
+    slots: &mut Slots,
+    slot: usize,
+    id: u64,
+) -> Option<Timed<T>>
+    requires slot { slot < 1024 }
+    requires book { IsBook table.old slots.old }
+    requires room { length slots.old.late < 64 }
+    ensures book { IsBook table.new slots.new }
+    ensures some { IfSome result (λ timed. IsHeldAs (seen_pairs table.old) id timed) }
+    ensures none { IfNone result (held_at (seen_pairs table.old) id ≡ None) }
+    ensures same { IfNone result (table.new ≡ table.old) }
+    ensures gone { IsGone (seen_pairs table.old) (seen_pairs table.new) id }
+{
+    let (spot, timed) = table.remove(id)?;
+    slots.leave_from(slot, spot);
+    Some(timed)
+}
+
+// Places the last timer of a slot anew, which is one step, and gives false where the slot has none. Where there is no memory, nothing
+// has changed.
+fn move_last<T, L: Ledger>(
+    table: &mut IdTable<(u64, Timed<T>)>,
+    slots: &mut Slots,
+    from: usize,
+    tick: u64,
+    steps: &mut Steps<L>,
+) -> Result<bool, Memory>
+    requires slot { from < 1024 }
+    requires book { IsBook table.old slots.old }
+    requires none { length slots.old.late ≡ 0 }
+    requires due { IsDueFrom (seen_pairs table.old) from tick }
+    ensures book { IsBook table.new slots.new }
+    ensures some { IfOk result (λ one. one ≡ true → PlacesAnew (seen_pairs table.old) (seen_pairs table.new) from tick) }
+    ensures none { IfOk result (λ one. one ≡ false → IsLeft from (seen_pairs table.old)) }
+    ensures same { IfOk result (λ one. one ≡ false → table.new ≡ table.old) }
+    ensures refused { OnErr result (table.new ≡ table.old) }
+    ensures steps { steps.new ≡ steps.old + moves_of result }
+{
+    let Some(found) = slots.last(from) else {
+        return Ok(false)
+    };
+    let Some((_, timed)) = table.get(found.id) else {
+        unreachable!()
+    };
+    let to = slot_of(timed.due, tick);
+    let spot = slots.move_last(found, to)?;
+    table.set(found.id, spot);
+    steps.tick();
+    Ok(true)
+}
+
+// The number of scheduling and the id of a timer, where it stands at this spot.
+fn key_at<T>(table: &IdTable<(u64, Timed<T>)>, spot: u64, id: u64) -> Option<(u64, u64)>
+    ensures { result ≡ key_option table.now spot id }
+{
+    let (own, timed) = table.get(id)?;
+    if *own != spot {
+        return None;
+    }
+    Some((timed.order, id))
+}
+
+// Notes the number of scheduling and the id of a timer, where it stands at this spot. The first that is noted takes room for all that are left.
+fn note_key<T>(
+    table: &IdTable<(u64, Timed<T>)>,
+    spot: u64,
+    id: u64,
+    left: usize,
+    keys: &mut Vec<(u64, u64)>,
+) -> Result<(), AllocError>
+    ensures { OnOk result (keys.new.items ≡ keys.old.items ++ key_list table.now spot id) }
+{
+    let Some(key) = key_at(table, spot, id) else {
+        return Ok(())
+    };
+    keys.reserve(left)?;
+    keys.push(key)?;
+    Ok(())
+}
+
+// Those of a slot's list. An id that stands there and isn't at its spot has left, or is at another place of the list, too.
+fn keys_in<T>(
+    alloc: Global,
+    table: &IdTable<(u64, Timed<T>)>,
+    slot: usize,
+    ids: &[u64],
+) -> Result<Vec<(u64, u64)>, AllocError>
+    requires slot { slot < 1024 }
+    requires short { length ids.now < 4294967296 }
+    ensures { IfOk result (λ keys. keys.items ≡ keys_from table.now (slot * 4294967296) ids.now) }
+{
+    let mut keys = Vec::new(alloc);
+    for place in 0..ids.len() {
+        note_key(
+            table,
+            spot_of(slot, place),
+            ids[place],
+            ids.len() - place,
+            &mut keys,
+        )?;
+    }
+    Ok(keys)
+}
+
+// Timers by their ids, each in a slot. Contracts see the list of the ids with what is held of them.
 #[derive(Debug, Drop)]
 pub(crate) struct Book<T> {
-    table: IdTable,
-    lanes: Lanes<T>,
+    table: IdTable<(u64, Timed<T>)>,
+    slots: Slots,
 }
 
 impl<T> Model for Book<T> {
-    ghost use Rattle.std.specs.Prelude.{ℕ, List};
-    ghost use Rattle.timer_lanes.specs.Lanes.{Held, all_held};
+    ghost use Rattle.tick_wheel.specs.Held.{seen_pairs};
+    ghost use Rattle.tick_wheel.specs.Table.{Index};
     ghost use Rattle.tick_wheel.specs.Book.{IsBook};
 
-    ghost Value = { List (ℕ × Held T) };
+    ghost Value = { Index T };
 
-    ghost view = { λ book. all_held book.lanes };
+    ghost view = { λ book. seen_pairs book.table };
 
-    ghost invariant = { λ book. IsBook book.table book.lanes };
+    ghost invariant = { λ book. IsBook book.table book.slots };
 }
 
 impl<T> Book<T> {
-    ghost use Rattle.std.specs.Prelude.{◌≡◌, ◌≢◌, ℕ, ◌+◌, ◌<◌, ◌≤◌, ◌==◌, [], ◌∷◌, length, map, true, false, is_some, Some, None, IfSome, IfNone, IfOk, IfErr, OnOk, OnErr, if◌then◌else◌, option_to_list};
+    ghost use Rattle.std.specs.Prelude.{◌≡◌, ℕ, ◌+◌, ◌<◌, ◌≤◌, ◌==◌, [], ◌∷◌, length, true, false, is_some, Some, None, IfSome, IfNone, IfOk, IfErr, OnOk, OnErr, if◌then◌else◌, option_to_list};
     ghost use Rattle.std.specs.List.{flat_map};
     ghost use Rattle.std.specs.Map.{keys_of};
     ghost use Rattle.std.specs.List.Sorted.{IsNonDecreasingBy};
-    ghost use Rattle.timer_lanes.specs.Lanes.{Held, seen_entry, entry_seen};
-    ghost use Rattle.tick_wheel.specs.Book.{moves_of};
+    ghost use Rattle.id_table.specs.Cells.{pair_of};
+    ghost use Rattle.tick_wheel.specs.Book.{IsHeldAs, moves_of};
+    ghost use Rattle.tick_wheel.specs.Held.{Held, held_in, seen_pairs};
     ghost use Rattle.tick_wheel.specs.Table.{held_at, IsUnique, IsLeft, PlacesAnew, ListsIds};
 
     pub(crate) fn new(alloc: Global) -> Result<Book<T>, Memory>
         ensures { IfOk result (λ book. book ≡ []) }
     {
+        let slots = Slots::new(alloc)?;
         Ok(Book {
             table: IdTable::new(alloc),
-            lanes: Lanes::new(alloc)?,
+            slots,
         })
     }
 
@@ -112,51 +339,54 @@ impl<T> Book<T> {
     }
 
     // Puts an entry into a slot, or gives its item back where there is no memory.
-    pub(crate) fn insert(&mut self, slot: usize, entry: Entry<T>) -> Result<(), ScheduleFault<T>>
+    pub(crate) fn insert(
+        &mut self,
+        slot: usize,
+        id: u64,
+        timed: Timed<T>,
+    ) -> Result<(), ScheduleFault<T>>
         requires slot { slot < 1024 }
-        requires free { held_at self.old entry.id ≡ None }
-        ensures ok { OnOk result ((q : ℕ) → held_at self.new q ≡ (if entry.id == q then Some ((seen_entry slot entry).1) else held_at self.old q)) }
+        requires free { held_at self.old id ≡ None }
+        ensures ok { OnOk result ((q : ℕ) → held_at self.new q ≡ (if id == q then Some (held_in slot timed) else held_at self.old q)) }
         ensures unique { OnOk result (IsUnique self.new) }
-        ensures back { IfErr result (λ fault. fault ≡ ScheduleFault.Memory entry.item) }
+        ensures back { IfErr result (λ fault. fault ≡ ScheduleFault.Memory timed.item) }
         ensures refused { OnErr result (self.new ≡ self.old) }
     {
-        let id = entry.id;
-        let lane = match self.lanes.append(slot, entry) {
-            Ok(lane) => lane,
-            Err(entry) => return Err(ScheduleFault::Memory(entry.item)),
-        };
-        if let Err(_) = self.table.insert(id, lane) {
-            let entry = self.lanes.take(lane);
-            return Err(ScheduleFault::Memory(entry.item));
-        }
-        Ok(())
+        make_room(&mut self.table, &mut self.slots);
+        put(&mut self.table, &mut self.slots, slot, id, timed)
     }
 
     // Takes an id's entry out, which is no step of a tick.
-    pub(crate) fn remove(&mut self, id: u64) -> Option<Entry<T>>
-        ensures some { IfSome result (λ entry. (slot : ℕ) × (entry.id ≡ id) × (held_at self.old id ≡ Some ((seen_entry slot entry).1))) }
+    pub(crate) fn remove(&mut self, id: u64) -> Option<Timed<T>>
+        ensures some { IfSome result (λ timed. IsHeldAs self.old id timed) }
         ensures none { IfNone result (held_at self.old id ≡ None) }
         ensures same { IfNone result (self.new ≡ self.old) }
         ensures gone { (q : ℕ) → held_at self.new q ≡ (if id == q then None else held_at self.old q) }
         ensures unique { IsUnique self.new }
     {
-        let lane = self.table.remove(id)?;
-        let entry = self.lanes.take(lane);
-        Some(entry)
+        make_room(&mut self.table, &mut self.slots);
+        take_out(&mut self.table, &mut self.slots, id)
     }
 
-    // Takes an id's entry out, which is one step.
-    pub(crate) fn take<L: Ledger>(&mut self, id: u64, steps: &mut Steps<L>) -> Option<Entry<T>>
-        ensures some { IfSome result (λ entry. (slot : ℕ) × (entry.id ≡ id) × (held_at self.old id ≡ Some ((seen_entry slot entry).1))) }
+    // Takes an id's entry out, which is one step. It is quickest where the entry stands in this slot.
+    pub(crate) fn take<L: Ledger>(
+        &mut self,
+        slot: usize,
+        id: u64,
+        steps: &mut Steps<L>,
+    ) -> Option<Timed<T>>
+        requires { slot < 1024 }
+        ensures some { IfSome result (λ timed. IsHeldAs self.old id timed) }
         ensures none { IfNone result (held_at self.old id ≡ None) }
         ensures same { IfNone result (self.new ≡ self.old) }
         ensures gone { (q : ℕ) → held_at self.new q ≡ (if id == q then None else held_at self.old q) }
         ensures unique { IsUnique self.new }
         ensures steps { steps.new ≡ steps.old + length (option_to_list result) }
     {
-        let entry = self.remove(id)?;
+        make_room(&mut self.table, &mut self.slots);
+        let timed = take_from(&mut self.table, &mut self.slots, slot, id)?;
         steps.tick();
-        Some(entry)
+        Some(timed)
     }
 
     // Places an entry of a slot anew, which is one step, and gives false where the slot has none. Where there is no memory, nothing
@@ -175,39 +405,16 @@ impl<T> Book<T> {
         ensures refused { OnErr result (self.new ≡ self.old) }
         ensures steps { steps.new ≡ steps.old + moves_of result }
     {
-        let Some(found) = self.lanes.last(from) else {
-            return Ok(false)
-        };
-        let to = slot_of(found.due, tick);
-        let lane = self.lanes.move_to(found.lane, to)?;
-        self.table.set(found.id, lane);
-        steps.tick();
-        Ok(true)
+        clear_all(&mut self.table, &mut self.slots);
+        move_last(&mut self.table, &mut self.slots, from, tick, steps)
     }
 
-    // Touches the ids of keys in the table, where there are several. Nothing changes.
-    pub(crate) fn touch(&mut self, keys: &[(u64, u64)])
-        ensures { self.new ≡ self.old }
-    {
-        if keys.len() < 2 {
-            return;
-        }
-        touch_all(&mut self.table, keys);
-    }
-
-    // Touches the ids of a slot in the table, where that is so large that it isn't near by itself, and where there is memory to list them. Nothing
-    // changes.
-    pub(crate) fn touch_slot(&mut self, alloc: Global, slot: usize)
+    // Touches the ids of a slot in the table. Nothing changes.
+    pub(crate) fn touch_slot(&mut self, slot: usize)
         requires { slot < 1024 }
         ensures { self.new ≡ self.old }
     {
-        if self.table.len() < MANY {
-            return;
-        }
-        let Ok(keys) = self.lanes.gather(alloc, slot) else {
-            return
-        };
-        touch_all(&mut self.table, &keys);
+        touch_all(&mut self.table, self.slots.ids(slot));
     }
 
     // The number of scheduling and the id of a slot's only entry, where it is told at once that there is no other.
@@ -215,7 +422,11 @@ impl<T> Book<T> {
         requires { slot < 1024 }
         ensures { IfSome result (λ key. ListsIds self.now slot (key ∷ [])) }
     {
-        let key = self.lanes.only(slot)?;
+        let ids = self.slots.ids(slot);
+        if ids.len() != 1 {
+            return None;
+        }
+        let key = key_at(&self.table, spot_of(slot, 0), ids[0])?;
         Some(key)
     }
 
@@ -224,10 +435,8 @@ impl<T> Book<T> {
         requires { slot < 1024 }
         ensures { result ≡ true → ListsIds self.now slot [] }
     {
-        let Some(_) = self.lanes.last(slot) else {
-            return true;
-        };
-        false
+        let ids = self.slots.ids(slot);
+        ids.len() == 0
     }
 
     // The entries of a slot in the order of their scheduling: the number that each got, and its id.
@@ -236,7 +445,7 @@ impl<T> Book<T> {
         ensures lists { IfOk result (λ found. ListsIds self.now slot found.items) }
         ensures rises { IfOk result (λ found. IsNonDecreasingBy (λ (g : ℕ × ℕ). g.0) found.items) }
     {
-        let mut found = self.lanes.gather(alloc, slot)?;
+        let mut found = keys_in(alloc, &self.table, slot, self.slots.ids(slot))?;
         found.sort_unstable_by_key(|key| key.0);
         Ok(found)
     }
@@ -245,23 +454,23 @@ impl<T> Book<T> {
     pub(crate) fn ids(&self, alloc: Global) -> Result<Vec<u64>, AllocError>
         ensures { IfOk result (λ ids. ids.items ≡ keys_of self.now) }
     {
-        let ids = self.lanes.ids(alloc)?;
+        let ids = self.table.ids(alloc)?;
         Ok(ids)
     }
 
-    // The lanes alone, without memory.
-    pub(crate) fn into_entries(self) -> Vec<Option<Entry<T>>>
-        ensures { flat_map option_to_list result.items ≡ map entry_seen self }
+    // The table's cells alone, without memory.
+    pub(crate) fn into_cells(self) -> Vec<Option<Cell<(u64, Timed<T>)>>>
+        ensures { seen_pairs (flat_map pair_of result.items) ≡ self }
     {
-        let Book { lanes, .. } = self;
-        lanes.into_entries()
+        let Book { table, .. } = self;
+        table.into_cells()
     }
 
     // Lets a book go that holds nothing, also where its items may not be dropped.
     pub(crate) fn destroy_empty(self)
         requires { self ≡ [] }
     {
-        let Book { lanes, .. } = self;
-        lanes.destroy_empty();
+        let Book { table, .. } = self;
+        table.destroy_empty();
     }
 }

@@ -7,7 +7,6 @@ ghost use Rattle.tick_wheel.specs.Table.{AreApart, AreAhead, AreSettled, IsLeft,
 
 use crate::book::{Book, Steps};
 use fan_base::Memory;
-use std::alloc::Global;
 use std::sync::ledger::Ledger;
 
 // Places an entry of the slot that turns anew, and gives false where none is left there. Where the other slot can't take it, nothing
@@ -43,10 +42,9 @@ fn place_last<T, L: Ledger>(
     Ok(false)
 }
 
-// Places the entries of a wheel's slot anew, where the slot's turn comes with the next tick. Where many ids are held, the slot's are touched
-// before, so that the processor fetches what the table has of them side by side, and not one by one.
+// Places the entries of a wheel's slot anew, where the slot's turn comes with the next tick. Their ids are touched before, so that the
+// processor fetches what the table has of them side by side, and not one by one.
 fn cascade<T, L: Ledger>(
-    alloc: Global,
     book: &mut Book<T>,
     first: usize,
     width: u64,
@@ -68,7 +66,7 @@ fn cascade<T, L: Ledger>(
     if tick % width != 0 {
         return Ok(());
     }
-    book.touch_slot(alloc, first + (tick / width % 256) as usize);
+    book.touch_slot(first + (tick / width % 256) as usize);
     let mut more = true;
     while more {
         more = place_last(book, first, width, now, steps)?;
@@ -79,7 +77,6 @@ fn cascade<T, L: Ledger>(
 // Places anew what the next tick turns, the coarsest wheel first. Where it finds no memory on the way, the timers are the same. Most
 // ticks turn no slot, and end here with one test.
 pub(crate) fn settle<T, L: Ledger>(
-    alloc: Global,
     book: &mut Book<T>,
     now: u64,
     steps: &mut Steps<L>,
@@ -98,7 +95,7 @@ pub(crate) fn settle<T, L: Ledger>(
     if tick % 256 != 0 {
         return Ok(());
     }
-    cascade(alloc, book, 768, 16777216, now, steps)?;
-    cascade(alloc, book, 512, 65536, now, steps)?;
-    cascade(alloc, book, 256, 256, now, steps)
+    cascade(book, 768, 16777216, now, steps)?;
+    cascade(book, 512, 65536, now, steps)?;
+    cascade(book, 256, 256, now, steps)
 }

@@ -3,20 +3,22 @@ ghost use Rattle.std.specs.Prelude.{◌≡◌, ℕ, ◌+◌, ◌<◌, ◌≤◌,
 ghost use Rattle.tick_wheel.specs.Firing.{IsFiring, IsPartOf, Fires};
 ghost use Rattle.tick_wheel.specs.Kept.{timers_of};
 ghost use Rattle.tick_wheel.specs.Table.{AreApart, AreAhead, AreSettled};
-ghost use Rattle.tick_wheel.specs.TimerList.{due_at, due_later, items_of};
+ghost use Rattle.tick_wheel.specs.TimerList.{due_at, due_later};
+ghost use Rattle.tick_wheel.specs.Handouts.{handouts_of};
 
 use crate::book::{Book, Steps};
+use crate::handout::Handout;
 use fan_base::Memory;
 use std::alloc::Global;
 use std::sync::ledger::Ledger;
 
 // The next of what is due leaves.
-fn fire_first<T, L: Ledger>(
+fn fire_first<T, X: Handout<T>, L: Ledger>(
     book: &mut Book<T>,
     keys: &[(u64, u64)],
     place: usize,
     now: u64,
-    fired: &mut Vec<T>,
+    fired: &mut Vec<X>,
     steps: &mut Steps<L>,
 )
     requires now { now < 2 ^ 63 }
@@ -31,26 +33,27 @@ fn fire_first<T, L: Ledger>(
     ensures ahead { AreAhead now book.new }
     ensures settled { AreSettled (now + 1) book.new }
     ensures part { IsPartOf book.new book.old }
-    ensures fired { fired.old.items ++ items_of (due_at (now + 1) (timers_of book.old))
-        ≡ fired.new.items ++ items_of (due_at (now + 1) (timers_of book.new)) }
+    ensures fired { fired.old.items ++ handouts_of X.handout (due_at (now + 1) (timers_of book.old))
+        ≡ fired.new.items ++ handouts_of X.handout (due_at (now + 1) (timers_of book.new)) }
     ensures rest { due_later (now + 1) (timers_of book.new) ≡ due_later (now + 1) (timers_of book.old) }
     ensures len { vec_len fired.new ≤ vec_len fired.old + 1 }
     ensures capacity { vec_capacity fired.old ≤ vec_capacity fired.new }
     ensures steps { steps.new + vec_len fired.old ≡ steps.old + vec_len fired.new }
 {
     let (_, id) = keys[place];
-    let Some(entry) = book.take(id, steps) else {
+    let slot = ((now + 1) % 256) as usize;
+    let Some(timed) = book.take(slot, id, steps) else {
         return
     };
-    fired.push_reserved(entry.item);
+    fired.push_reserved(X::of(id, timed.item));
 }
 
-// What is due at the next tick leaves, in order of scheduling; there is room for it. Where there are several, their ids are touched before.
-fn fire<T, L: Ledger>(
+// What is due at the next tick leaves, in order of scheduling; there is room for it.
+fn fire<T, X: Handout<T>, L: Ledger>(
     book: &mut Book<T>,
     keys: &[(u64, u64)],
     now: u64,
-    fired: &mut Vec<T>,
+    fired: &mut Vec<X>,
     steps: &mut Steps<L>,
 )
     requires now { now < 2 ^ 63 }
@@ -63,22 +66,21 @@ fn fire<T, L: Ledger>(
     ensures apart { AreApart book.new }
     ensures ahead { AreAhead (now + 1) book.new }
     ensures part { IsPartOf book.new book.old }
-    ensures fired { fired.new.items ≡ items_of (due_at (now + 1) (timers_of book.old)) }
+    ensures fired { fired.new.items ≡ handouts_of X.handout (due_at (now + 1) (timers_of book.old)) }
     ensures rest { timers_of book.new ≡ due_later (now + 1) (timers_of book.old) }
     ensures steps { steps.new ≡ steps.old + vec_len fired.new }
 {
-    book.touch(keys);
     for place in 0..keys.len() {
         fire_first(book, keys, place, now, fired, steps);
     }
 }
 
 // What these keys name leaves, in their order. Where there is no memory for the list, nothing has changed.
-fn fire_keys<T, L: Ledger>(
+fn fire_keys<T, X: Handout<T>, L: Ledger>(
     book: &mut Book<T>,
     keys: &[(u64, u64)],
     now: u64,
-    fired: &mut Vec<T>,
+    fired: &mut Vec<X>,
     steps: &mut Steps<L>,
 ) -> Result<(), Memory>
     requires now { now < 2 ^ 63 }
@@ -87,7 +89,7 @@ fn fire_keys<T, L: Ledger>(
     requires ahead { AreAhead now book.old }
     requires settled { AreSettled (now + 1) book.old }
     requires empty { vec_len fired.old ≡ 0 }
-    ensures ok { OnOk result (Fires now book.old book.new steps.old steps.new fired.new.items) }
+    ensures ok { OnOk result (Fires X.handout now book.old book.new steps.old steps.new fired.new.items) }
     ensures refused { OnErr result (book.new ≡ book.old) }
     ensures still { OnErr result (steps.new ≡ steps.old) }
     ensures none { OnErr result (vec_len fired.new ≡ 0) }
@@ -98,11 +100,11 @@ fn fire_keys<T, L: Ledger>(
 }
 
 // The only timer of the slot leaves; there is room for it.
-fn fire_only<T, L: Ledger>(
+fn fire_only<T, X: Handout<T>, L: Ledger>(
     book: &mut Book<T>,
     key: (u64, u64),
     now: u64,
-    fired: &mut Vec<T>,
+    fired: &mut Vec<X>,
     steps: &mut Steps<L>,
 )
     requires now { now < 2 ^ 63 }
@@ -115,7 +117,7 @@ fn fire_only<T, L: Ledger>(
     ensures apart { AreApart book.new }
     ensures ahead { AreAhead (now + 1) book.new }
     ensures part { IsPartOf book.new book.old }
-    ensures fired { fired.new.items ≡ items_of (due_at (now + 1) (timers_of book.old)) }
+    ensures fired { fired.new.items ≡ handouts_of X.handout (due_at (now + 1) (timers_of book.old)) }
     ensures rest { timers_of book.new ≡ due_later (now + 1) (timers_of book.old) }
     ensures steps { steps.new ≡ steps.old + vec_len fired.new }
 {
@@ -123,11 +125,11 @@ fn fire_only<T, L: Ledger>(
 }
 
 // The only timer of the slot leaves. Where there is no memory for the list, nothing has changed.
-fn fire_one<T, L: Ledger>(
+fn fire_one<T, X: Handout<T>, L: Ledger>(
     book: &mut Book<T>,
     key: (u64, u64),
     now: u64,
-    fired: &mut Vec<T>,
+    fired: &mut Vec<X>,
     steps: &mut Steps<L>,
 ) -> Result<(), Memory>
     requires now { now < 2 ^ 63 }
@@ -136,7 +138,7 @@ fn fire_one<T, L: Ledger>(
     requires ahead { AreAhead now book.old }
     requires settled { AreSettled (now + 1) book.old }
     requires empty { vec_len fired.old ≡ 0 }
-    ensures ok { OnOk result (Fires now book.old book.new steps.old steps.new fired.new.items) }
+    ensures ok { OnOk result (Fires X.handout now book.old book.new steps.old steps.new fired.new.items) }
     ensures refused { OnErr result (book.new ≡ book.old) }
     ensures still { OnErr result (steps.new ≡ steps.old) }
     ensures none { OnErr result (vec_len fired.new ≡ 0) }
@@ -146,13 +148,13 @@ fn fire_one<T, L: Ledger>(
     Ok(())
 }
 
-// The slot of the next tick fires. Most slots have no timer, and one with a single timer needs no list of keys. Where there is no memory,
-// nothing has changed.
-pub(crate) fn fire_slot<T, L: Ledger>(
+// The timers of the next tick's slot leave, where there are several. Their ids are touched before, so that the processor fetches what the table has
+// of them side by side. Where there is no memory, nothing has changed.
+fn fire_several<T, X: Handout<T>, L: Ledger>(
     alloc: Global,
     book: &mut Book<T>,
     now: u64,
-    fired: &mut Vec<T>,
+    fired: &mut Vec<X>,
     steps: &mut Steps<L>,
 ) -> Result<(), Memory>
     requires now { now < 2 ^ 63 }
@@ -160,18 +162,42 @@ pub(crate) fn fire_slot<T, L: Ledger>(
     requires ahead { AreAhead now book.old }
     requires settled { AreSettled (now + 1) book.old }
     requires empty { vec_len fired.old ≡ 0 }
-    ensures ok { OnOk result (Fires now book.old book.new steps.old steps.new fired.new.items) }
+    ensures ok { OnOk result (Fires X.handout now book.old book.new steps.old steps.new fired.new.items) }
     ensures refused { OnErr result (book.new ≡ book.old) }
     ensures still { OnErr result (steps.new ≡ steps.old) }
     ensures none { OnErr result (vec_len fired.new ≡ 0) }
 {
     let slot = ((now + 1) % 256) as usize;
+    book.touch_slot(slot);
+    let keys = book.gather(alloc, slot)?;
+    fire_keys(book, &keys, now, fired, steps)
+}
+
+// The slot of the next tick fires. Most slots have no timer, and one with a single timer needs no list of keys. Where there is no memory,
+// nothing has changed.
+pub(crate) fn fire_slot<T, X: Handout<T>, L: Ledger>(
+    alloc: Global,
+    book: &mut Book<T>,
+    now: u64,
+    fired: &mut Vec<X>,
+    steps: &mut Steps<L>,
+) -> Result<(), Memory>
+    requires now { now < 2 ^ 63 }
+    requires apart { AreApart book.old }
+    requires ahead { AreAhead now book.old }
+    requires settled { AreSettled (now + 1) book.old }
+    requires empty { vec_len fired.old ≡ 0 }
+    ensures ok { OnOk result (Fires X.handout now book.old book.new steps.old steps.new fired.new.items) }
+    ensures refused { OnErr result (book.new ≡ book.old) }
+    ensures still { OnErr result (steps.new ≡ steps.old) }
+    ensures none { OnErr result (vec_len fired.new ≡ 0) }
+{
+    let slot = ((now + 1) % 256) as usize;
+    if book.is_left(slot) {
+        return Ok(());
+    }
     let Some(key) = book.only(slot) else {
-        if book.is_left(slot) {
-            return fire_keys(book, &[], now, fired, steps);
-        }
-        let keys = book.gather(alloc, slot)?;
-        return fire_keys(book, &keys, now, fired, steps);
+        return fire_several(alloc, book, now, fired, steps);
     };
     fire_one(book, key, now, fired, steps)
 }

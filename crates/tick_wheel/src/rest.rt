@@ -7,14 +7,15 @@ ghost use Rattle.tick_wheel.specs.Table.{AreApart};
 ghost use Rattle.tick_wheel.specs.TimerList.{by_due};
 
 use crate::book::Book;
+use crate::timed::Timed;
 use crate::timer::Timer;
+use id_table::{Cell, destroy_cells};
 use std::marker::Model;
-use timer_lanes::{Entry, destroy_lanes};
 
 /// The timers that a wheel held when it ended. Contracts see their list, the first one first.
 #[derive(Debug, Drop)]
 pub struct TimersRest<T> {
-    lanes: Vec<Option<Entry<T>>>,
+    cells: Vec<Option<Cell<(u64, Timed<T>)>>>,
     left: usize,
 }
 
@@ -26,29 +27,30 @@ impl<T> Model for TimersRest<T> {
 
     ghost use Rattle.tick_wheel.specs.Resting.{IsResting, rest_seen};
 
-    ghost view = { λ rest. rest_seen rest.lanes.items };
+    ghost view = { λ rest. rest_seen rest.cells.items };
 
-    ghost invariant = { λ rest. IsResting rest.left rest.lanes.items };
+    ghost invariant = { λ rest. IsResting rest.left rest.cells.items };
 }
 
-// A number that orders lanes: empty ones come first, then what is due last.
-fn key<T>(lane: &Option<Entry<T>>) -> u128
-    ensures { result ≡ key_of lane.now }
+// A number that orders cells: empty ones come first, then what is due last.
+fn key<T>(cell: &Option<Cell<(u64, Timed<T>)>>) -> u128
+    ensures { result ≡ key_of cell.now }
 {
-    match lane {
+    match cell {
         Some(entry) => {
-            u128::MAX - (entry.due as u128 * 18446744073709551616 + entry.order as u128)
+            let (_, timed) = &entry.value;
+            u128::MAX - (timed.due as u128 * 18446744073709551616 + timed.order as u128)
         }
         None => 0,
     }
 }
 
-// Brings the lanes into order, in place.
-fn order<T>(lanes: &mut [Option<Entry<T>>])
-    ensures same { IsPermutation lanes.old lanes.new }
-    ensures rises { IsNonDecreasingBy key_of lanes.new }
+// Brings the cells into order, in place.
+fn order<T>(cells: &mut [Option<Cell<(u64, Timed<T>)>>])
+    ensures same { IsPermutation cells.old cells.new }
+    ensures rises { IsNonDecreasingBy key_of cells.new }
 {
-    lanes.sort_unstable_by_key(|lane| key(lane));
+    cells.sort_unstable_by_key(|cell| key(cell));
 }
 
 // The rest of a wheel with these entries.
@@ -58,9 +60,9 @@ pub(crate) fn rest_of<T>(book: Book<T>) -> TimersRest<T>
     ensures { result ≡ by_due (timers_of book) }
 {
     let left = book.len();
-    let mut lanes = book.into_entries();
-    order(&mut lanes);
-    TimersRest { lanes, left }
+    let mut cells = book.into_cells();
+    order(&mut cells);
+    TimersRest { cells, left }
 }
 
 impl<T> TimersRest<T> {
@@ -78,8 +80,10 @@ impl<T> TimersRest<T> {
     pub fn pop(&mut self) -> Option<Timer<T>>
         ensures first { MatchOption result ((self.old ≡ []) × (self.new ≡ [])) (λ timer. self.old ≡ timer ∷ self.new) }
     {
-        let lane = self.lanes.pop()?;
-        let Entry { id, due, item, .. } = lane?;
+        let cell = self.cells.pop()?;
+        let Cell { id, value } = cell?;
+        let (_, timed) = value;
+        let Timed { due, item, .. } = timed;
         self.left -= 1;
         Some(Timer { due, id, item })
     }
@@ -88,7 +92,7 @@ impl<T> TimersRest<T> {
     pub fn destroy_empty(self)
         requires { self ≡ [] }
     {
-        let TimersRest { lanes, .. } = self;
-        destroy_lanes(lanes);
+        let TimersRest { cells, .. } = self;
+        destroy_cells(cells);
     }
 }

@@ -2,15 +2,16 @@
 use crate::book::{Book, Steps};
 use crate::cascade::settle;
 use crate::fire::fire_slot;
+use crate::handout::Handout;
 use crate::place::{MAX_DELAY, slot_of};
 use crate::rest::{TimersRest, rest_of};
 use crate::sweep::{list_ids, take_all};
+use crate::timed::Timed;
 use crate::timer::{ScheduleFault, Timer};
 use fan_base::Memory;
 use std::alloc::Global;
 use std::marker::Model;
 use std::sync::ledger::Ledger;
-use timer_lanes::Entry;
 
 /// Timers, each with an id of its own, and the number of ticks that were made. Contracts see the list of the timers in order
 /// of scheduling, and nothing of slots.
@@ -37,6 +38,7 @@ impl<T> Model for Timers<T> {
 impl<T> Timers<T> {
     ghost use Rattle.std.specs.Prelude.{◌≡◌, ℕ, ◌+◌, ◌<◌, ◌≤◌, ◌^◌, ◌↔◌, [], length, IsTrue, IsSome, Some, None, Ok, Err, IfOk, IfErr, OnOk, OnErr, vec_len};
     ghost use Rattle.tick_wheel.specs.TimerList.{TimerList, Ticks, timer_at, scheduled, cancelled, handed_back, items_of, by_id, by_due};
+    ghost use Rattle.tick_wheel.specs.Handouts.{HandsOut, handouts_of};
     ghost use Rattle.tick_wheel.specs.Steps.{tick_bound};
 
     /// Holds nothing, with `start` ticks made, at most 2^62. `Memory` comes where there is none for the slots.
@@ -103,13 +105,12 @@ impl<T> Timers<T> {
         }
         let due = self.ticks + delay;
         let slot = slot_of(due, self.ticks);
-        let entry = Entry {
-            id,
+        let timed = Timed {
             due,
             order: self.next,
             item,
         };
-        self.book.insert(slot, entry)?;
+        self.book.insert(slot, id, timed)?;
         self.next += 1;
         Ok(())
     }
@@ -119,7 +120,7 @@ impl<T> Timers<T> {
         ensures timer { result ≡ timer_at id self.old.timers }
         ensures rest { self.new ≡ cancelled self.old id }
     {
-        let Entry { due, item, .. } = self.book.remove(id)?;
+        let Timed { due, item, .. } = self.book.remove(id)?;
         Some(Timer { due, id, item })
     }
 
@@ -134,16 +135,12 @@ impl<T> Timers<T> {
         ensures steps { steps.new ≤ steps.old + tick_bound self.old }
         ensures counted { IfOk result (λ items. steps.old + length items.items ≤ steps.new) }
     {
-        let mut fired = Vec::new(self.alloc);
-        if let Err(error) = self.tick_into(steps, &mut fired) {
-            fired.destroy_empty();
-            return Err(error);
-        }
-        Ok(fired)
+        let items = self.tick_list(steps)?;
+        Ok(items)
     }
 
     /// As [`Timers::tick`], with a list that the caller keeps for all ticks, and that is empty: what fires takes memory only where the list has
-    /// no room for it. A refused call leaves it empty.
+    /// no room for it, and beside it for a list of keys where its slot has several ids. A refused call leaves it empty.
     pub fn tick_into<L: Ledger>(
         &mut self,
         steps: &mut Steps<L>,
@@ -157,10 +154,7 @@ impl<T> Timers<T> {
         ensures steps { steps.new ≤ steps.old + tick_bound self.old }
         ensures counted { OnOk result (steps.old + length fired.new.items ≤ steps.new) }
     {
-        let tick = self.ticks + 1;
-        settle(self.alloc, &mut self.book, self.ticks, steps)?;
-        fire_slot(self.alloc, &mut self.book, self.ticks, fired, steps)?;
-        self.ticks = tick;
+        self.tick_to(steps, fired)?;
         Ok(())
     }
 
@@ -170,10 +164,60 @@ impl<T> Timers<T> {
         ensures gone { OnOk result (self.new ≡ record { tick = self.old.tick; timers = [] }) }
         ensures refused { OnErr result (self.new ≡ self.old) }
     {
-        let ids = list_ids(self.alloc, &self.book)?;
-        let mut items = Vec::with_capacity(self.alloc, ids.len())?;
-        take_all(&mut self.book, &ids, &mut items);
+        let items = self.take_list()?;
         Ok(items)
+    }
+
+    // `tick` with what is handed out of each timer.
+    pub(crate) fn tick_list<X: Handout<T>, L: Ledger>(
+        &mut self,
+        steps: &mut Steps<L>,
+    ) -> Result<Vec<X>, Memory>
+        requires { self.old.tick < 2 ^ 63 }
+        ensures ok { IfOk result (λ handouts. HandsOut X.handout self.old self.new handouts.items) }
+        ensures refused { OnErr result (self.new ≡ self.old) }
+        ensures steps { steps.new ≤ steps.old + tick_bound self.old }
+        ensures counted { IfOk result (λ handouts. steps.old + length handouts.items ≤ steps.new) }
+    {
+        let mut fired = Vec::new(self.alloc);
+        if let Err(error) = self.tick_to(steps, &mut fired) {
+            fired.destroy_empty();
+            return Err(error);
+        }
+        Ok(fired)
+    }
+
+    // `tick_into` with what is handed out of each timer.
+    pub(crate) fn tick_to<X: Handout<T>, L: Ledger>(
+        &mut self,
+        steps: &mut Steps<L>,
+        fired: &mut Vec<X>,
+    ) -> Result<(), Memory>
+        requires tick { self.old.tick < 2 ^ 63 }
+        requires empty { vec_len fired.old ≡ 0 }
+        ensures ok { OnOk result (HandsOut X.handout self.old self.new fired.new.items) }
+        ensures refused { OnErr result (self.new ≡ self.old) }
+        ensures none { OnErr result (vec_len fired.new ≡ 0) }
+        ensures steps { steps.new ≤ steps.old + tick_bound self.old }
+        ensures counted { OnOk result (steps.old + length fired.new.items ≤ steps.new) }
+    {
+        let tick = self.ticks + 1;
+        settle(&mut self.book, self.ticks, steps)?;
+        fire_slot(self.alloc, &mut self.book, self.ticks, fired, steps)?;
+        self.ticks = tick;
+        Ok(())
+    }
+
+    // `cancel_all` with what is handed out of each timer.
+    pub(crate) fn take_list<X: Handout<T>>(&mut self) -> Result<Vec<X>, Memory>
+        ensures ok { IfOk result (λ handouts. handouts.items ≡ handouts_of X.handout (by_id self.old.timers)) }
+        ensures gone { OnOk result (self.new ≡ record { tick = self.old.tick; timers = [] }) }
+        ensures refused { OnErr result (self.new ≡ self.old) }
+    {
+        let ids = list_ids(self.alloc, &self.book)?;
+        let mut handouts = Vec::with_capacity(self.alloc, ids.len())?;
+        take_all(&mut self.book, &ids, &mut handouts);
+        Ok(handouts)
     }
 
     /// Ends the wheel and gives what it holds, by due tick and by order of scheduling where that is the same. It takes no memory.

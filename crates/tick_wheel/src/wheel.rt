@@ -18,10 +18,11 @@ pub enum Refuse {
     Memory,
 }
 
-/// Timers that carry their ids alone. Contracts see the list of the timers in order of scheduling.
+/// Timers that carry nothing: what fires is known by its id. Contracts see the list of the timers in order of scheduling, each with its id as
+/// its item.
 #[derive(Debug, Drop)]
 pub struct Wheel {
-    timers: Timers<u64>,
+    timers: Timers<()>,
 }
 
 impl Model for Wheel {
@@ -30,11 +31,9 @@ impl Model for Wheel {
 
     ghost Value = { TimerList ℕ };
 
-    ghost use Rattle.tick_wheel.specs.Wheel.{CarryTheirIds};
+    ghost use Rattle.tick_wheel.specs.Wheel.{with_ids};
 
-    ghost view = { λ wheel. wheel.timers };
-
-    ghost invariant = { λ wheel. CarryTheirIds wheel.timers.timers };
+    ghost view = { λ wheel. with_ids wheel.timers };
 }
 
 impl Wheel {
@@ -93,7 +92,7 @@ impl Wheel {
         ensures long { (result ≡ Err Refuse.DelayTooLong) ↔ (4294967295 < delay) }
         ensures refused { OnErr result (self.new ≡ self.old) }
     {
-        match self.timers.schedule(delay, id, id) {
+        match self.timers.schedule(delay, id, ()) {
             Ok(()) => Ok(()),
             Err(ScheduleFault::ZeroDelay(_)) => Err(Refuse::ZeroDelay),
             Err(ScheduleFault::DelayTooLong(_)) => Err(Refuse::DelayTooLong),
@@ -121,12 +120,12 @@ impl Wheel {
         ensures steps { steps.new ≤ steps.old + tick_bound self.old }
         ensures counted { IfOk result (λ ids. steps.old + length ids.items ≤ steps.new) }
     {
-        let ids = self.timers.tick(steps)?;
+        let ids = self.timers.tick_list(steps)?;
         Ok(ids)
     }
 
     /// As [`Wheel::tick`], with a list that the caller keeps for all ticks, and that is empty: what fires takes memory only where the list has
-    /// no room for it. A refused call leaves it empty.
+    /// no room for it, and beside it for a list of keys where its slot has several ids. A refused call leaves it empty.
     pub fn tick_into<L: Ledger>(
         &mut self,
         steps: &mut Steps<L>,
@@ -140,7 +139,7 @@ impl Wheel {
         ensures steps { steps.new ≤ steps.old + tick_bound self.old }
         ensures counted { OnOk result (steps.old + length ids.new.items ≤ steps.new) }
     {
-        self.timers.tick_into(steps, ids)?;
+        self.timers.tick_to(steps, ids)?;
         Ok(())
     }
 
@@ -150,7 +149,7 @@ impl Wheel {
         ensures gone { OnOk result (self.new ≡ record { tick = self.old.tick; timers = [] }) }
         ensures refused { OnErr result (self.new ≡ self.old) }
     {
-        let ids = self.timers.cancel_all()?;
+        let ids = self.timers.take_list()?;
         Ok(ids)
     }
 }

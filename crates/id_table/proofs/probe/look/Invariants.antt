@@ -3,8 +3,8 @@ use Rattle.id_table.specs.Cells.{id_at, mark_at, first_empty}
 use Rattle.id_table.specs.Ring.{home_of, distance}
 use Rattle.id_table.proofs.probe.look.Given as goal
 
-abbrev pub invariant-loop-bits : goal.invariant-loop-bits
-invariant-loop-bits g l =
+abbrev pub invariant-loop-cell : goal.invariant-loop-cell
+invariant-loop-cell g l =
     record {
       within : l.cell < length l.cells;
       passed : (j : ℕ) → j < length l.cells
@@ -12,5 +12,5 @@ invariant-loop-bits g l =
           → (0 < mark_at l.cells j) × (id_at l.cells j ≢ l.id);
     }
 
-abbrev pub decreases-loop-bits : goal.decreases-loop-bits
-decreases-loop-bits g l = distance (length l.cells) l.cell (first_empty l.cells)
+abbrev pub decreases-loop-cell : goal.decreases-loop-cell
+decreases-loop-cell g l = distance (length l.cells) l.cell (first_empty l.cells)

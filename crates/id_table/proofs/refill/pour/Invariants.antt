@@ -1,5 +1,5 @@
-use Rattle.std.proofs.Common.{◌≡◌, ℕ, length, take, Bool}
-use Rattle.id_table.specs.Cells.{held}
+use Rattle.std.proofs.Common.{◌≡◌, ◌++◌, length, IsPermutation}
+use Rattle.id_table.specs.Cells.{pairs_of}
 use Rattle.id_table.specs.Probed.{IsProbed}
 use Rattle.id_table.proofs.refill.pour.Given as goal
 
@@ -8,5 +8,8 @@ invariant-loop-cell g l =
     record {
       len : length l.cells ≡ length l.fn.cells;
       probed : IsProbed l.bits l.cells;
-      pairs : (test : ℕ × ℕ → Bool) → held test l.cells ≡ held test (take l.cell-index l.old);
+      pairs : IsPermutation (pairs_of l.old.items ++ pairs_of l.cells) (pairs_of l.fn.old.items);
     }
+
+abbrev pub decreases-loop-cell : goal.decreases-loop-cell
+decreases-loop-cell g l = goal.left-loop-cell g l

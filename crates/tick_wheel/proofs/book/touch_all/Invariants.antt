@@ -1,5 +1,5 @@
 use Rattle.std.proofs.Common.{◌≡◌}
 use Rattle.tick_wheel.proofs.book.touch_all.Given as goal
 
-abbrev pub invariant-loop-key : goal.invariant-loop-key
-invariant-loop-key l = l.table ≡ l.fn.table
+abbrev pub invariant-loop-id : goal.invariant-loop-id
+invariant-loop-id g l = l.table ≡ l.fn.table

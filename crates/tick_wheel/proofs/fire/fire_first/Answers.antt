@@ -11,10 +11,10 @@ returns-clause-ahead g c = λ id h is. c.requires.ahead id h (fired_part c.args.
 
 pub returns-clause-fired : goal.returns-clause-fired
 returns-clause-fired g c =
-    let t = fired_timers c.args.book.now c.take.new.self c.args.now c.args.keys.now c.args.place c.requires.firing c.requires.apart c.requires.ahead c.requires.settled c.requires.within c.take.ensures.gone c.take.ensures.unique _ c.in-Some.ensures.some.2 in
-    moved_on _ _ _ _ _ t.0 c.push_reserved.ensures.items
+    let t = fired_timers c.args.book.now c.take.new.self c.args.now c.args.keys.now c.args.place c.requires.firing c.requires.apart c.requires.ahead c.requires.settled c.requires.within c.take.ensures.gone c.take.ensures.unique _ c.in-Some.ensures.some.1 in
+    moved_on _ _ _ _ _ _ _ t.0 c.of.ensures c.push_reserved.ensures.items
 
 pub returns-clause-rest : goal.returns-clause-rest
 returns-clause-rest g c =
-    let t = fired_timers c.args.book.now c.take.new.self c.args.now c.args.keys.now c.args.place c.requires.firing c.requires.apart c.requires.ahead c.requires.settled c.requires.within c.take.ensures.gone c.take.ensures.unique _ c.in-Some.ensures.some.2 in
+    let t = fired_timers c.args.book.now c.take.new.self c.args.now c.args.keys.now c.args.place c.requires.firing c.requires.apart c.requires.ahead c.requires.settled c.requires.within c.take.ensures.gone c.take.ensures.unique _ c.in-Some.ensures.some.1 in
     t.1

@@ -7,7 +7,7 @@ pub loop-place-init : goal.loop-place-init
 loop-place-init g c = record {
   apart = c.requires.apart;
   listed = listed_all c.args.ids.now c.args.book.now c.requires.apart c.requires.same c.requires.rises;
-  moved = behind_none _ _ (nil_from_length _ (sym c.args.items.now.ok.0 ∙ c.requires.empty));
+  moved = behind_none _ _ (nil_from_length _ (sym c.args.given.now.ok.0 ∙ c.requires.empty));
   len = c.requires.empty;
   spare = c.requires.spare;
 }
@@ -15,7 +15,7 @@ loop-place-init g c = record {
 pub returns-clause-gone : goal.returns-clause-gone
 returns-clause-gone g c = swept c.args.ids.now _ c.loop-place.book c.loop-place.invariant.listed c.loop-place-test.false
 
-pub returns-clause-items : goal.returns-clause-items
-returns-clause-items g c =
-    all_swept c.args.book.now c.loop-place.book _ c.loop-place.invariant.moved
+pub returns-clause-given : goal.returns-clause-given
+returns-clause-given g c =
+    all_swept _ c.args.book.now c.loop-place.book _ c.loop-place.invariant.moved
     (swept c.args.ids.now _ c.loop-place.book c.loop-place.invariant.listed c.loop-place-test.false)

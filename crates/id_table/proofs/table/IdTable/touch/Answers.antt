@@ -1,16 +1,10 @@
-use Rattle.std.proofs.Common.{ℕ, List, sym, subst}
-use Rattle.id_table.specs.Split.{IsSplit}
-use Rattle.id_table.proofs.Split.{narrow_same, wide_same}
+use Rattle.std.proofs.Common.{ℕ, ◌<◌, sym, subst, arith, vec_len}
+use Rattle.id_table.proofs.Calls.{some_there}
+use Rattle.id_table.proofs.Probing.{home_in}
 use Rattle.id_table.proofs.table.IdTable.touch.Goals as goal
 
-pub invariant_of-self : goal.invariant_of-self
-invariant_of-self c = subst (λ (ps : List (ℕ × ℕ)). IsSplit ps c.self.inside.wide) (sym c.touch.ensures) c.self.invariant
-
-pub returns-then-id-lt-WIDE : goal.returns-then-id-lt-WIDE
-returns-then-id-lt-WIDE c = narrow_same c.self.inside.narrow c.self.inside.wide c.args.self.now c.self.invariant c.self.view_is c.touch.new.self c.touch.ensures
-
-pub invariant_of-self-2 : goal.invariant_of-self-2
-invariant_of-self-2 c = subst (λ (ps : List (ℕ × ℕ)). IsSplit c.self.inside.narrow ps) (sym c.touch-2.ensures) c.self.invariant
-
-pub returns : goal.returns
-returns c = wide_same c.self.inside.narrow c.self.inside.wide c.args.self.now c.self.invariant c.self.view_is c.touch-2.new.self c.touch-2.ensures
+pub index-requires : goal.index-requires
+index-requires g c =
+    let sized = (c.self.invariant.probed (some_there c.self.inside.bits c.self.inside.len c.self.inside.cells.items c.args.self.now c.self.invariant c.self.view_is c.if-len-eq0.false)).sized in
+    let home = home_in c.self.inside.bits c.self.inside.cells.items c.args.id sized in
+    subst (λ (h : ℕ). h < vec_len c.self.inside.cells) (sym c.home-at.ensures) (omega (arith, home, c.self.inside.cells.ok))

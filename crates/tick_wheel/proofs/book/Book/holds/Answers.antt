@@ -1,6 +1,6 @@
-use Rattle.std.proofs.Common.{ℕ, Option, is_some, ap, ◌∙◌}
-use Rattle.tick_wheel.proofs.BookCalls.{holds_same}
+use Rattle.std.proofs.Common.{◌∙◌}
+use Rattle.tick_wheel.proofs.Booked.{holds_same}
 use Rattle.tick_wheel.proofs.book.Book.holds.Goals as goal
 
 pub returns : goal.returns
-returns g c = c.is_some.ensures ∙ ap (λ (o : Option ℕ). is_some o) c.get.ensures.place ∙ holds_same c.self.inside.table c.self.inside.lanes c.args.self.now c.self.invariant c.self.view_is c.args.id
+returns g c = c.is_some.ensures ∙ holds_same c.self.inside.table c.args.self.now c.args.id c.get.result c.self.view_is c.get.ensures.value

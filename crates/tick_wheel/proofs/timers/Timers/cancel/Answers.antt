@@ -24,7 +24,7 @@ invariant_of-self-2 g c = kept_drop _ _ c.self.inside.book c.remove.new.self c.a
 
 pub returns-clause-timer : goal.returns-clause-timer
 returns-clause-timer g c =
-    sym (ap (option_map (timer_of c.args.id)) c.in_ok-due.ensures.some.2)
+    sym (ap (option_map (timer_of c.args.id)) c.in_ok-due.ensures.some.1)
     ∙ seen_timer _ c.self.inside.book c.args.self.now c.args.id c.self.invariant.apart c.self.view_is
 
 pub returns-clause-rest : goal.returns-clause-rest

@@ -1,0 +1,4 @@
+pub mod Lists
+pub mod Seen
+pub mod Slots
+pub mod Steps
