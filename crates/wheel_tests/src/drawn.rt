@@ -54,6 +54,13 @@ impl Plain {
     }
 }
 
+// How many timers are held at a time, as ids and ticks are drawn.
+#[derive(Clone, Copy)]
+enum Held {
+    Few,
+    Many,
+}
+
 // A number that is drawn from the one before.
 fn draw(seed: &mut u64) -> u64 {
     *seed = seed
@@ -110,11 +117,15 @@ fn agree(wheel: &Wheel, plain: &mut Plain, ids: &[u64]) -> Result<(), Fail> {
 fn call_both<L: Ledger>(
     wheel: &mut Wheel,
     plain: &mut Plain,
+    held: Held,
     seed: &mut u64,
     steps: &mut Steps<L>,
 ) -> Result<(), Fail> {
-    let id = draw(seed) % 20_000;
-    match draw(seed) % 8 {
+    let (id, turn) = match held {
+        Held::Few => (draw(seed) % 20_000, draw(seed) % 8),
+        Held::Many => (draw(seed) % 200_000, draw(seed) % 64),
+    };
+    match turn {
         0 => tick_both(wheel, plain, steps),
         1 => {
             if wheel.cancel(id) != plain.cancel(id) {
@@ -137,14 +148,20 @@ fn call_both<L: Ledger>(
 }
 
 // Drawn calls, ticks until most has fired, and what is left.
-fn compare<L: Ledger>(alloc: Global, start: u64, steps: &mut Steps<L>) -> Result<(), Fail>
+fn compare<L: Ledger>(
+    alloc: Global,
+    start: u64,
+    held: Held,
+    calls: u64,
+    steps: &mut Steps<L>,
+) -> Result<(), Fail>
     requires { start ≤ 2 ^ 62 }
 {
     let mut wheel = Wheel::new(alloc, start)?;
     let mut plain = Plain::new(alloc, start);
     let mut seed = start.wrapping_add(14);
-    for _ in 0..50_000 {
-        call_both(&mut wheel, &mut plain, &mut seed, steps)?;
+    for _ in 0..calls {
+        call_both(&mut wheel, &mut plain, held, &mut seed, steps)?;
     }
     let mut ids = Vec::new(alloc);
     for _ in 0..66_000 {
@@ -164,9 +181,9 @@ fn compare_all<L: Ledger>(alloc: Global, blank: Blank) -> Result<(), Fail>
 {
     let mut steps = Steps::<L>::new(blank);
     for start in [0, 65535, 16777000, 4294967000, 1 << 62] {
-        compare(alloc, start, &mut steps)?;
+        compare(alloc, start, Held::Few, 50_000, &mut steps)?;
     }
-    Ok(())
+    compare(alloc, 65535, Held::Many, 150_000, &mut steps)
 }
 
 #[test]

@@ -133,6 +133,15 @@ const ACROSS_A_BOUNDARY: &[Call] = &[
     Call::Tick(&[9]),
 ];
 
+// The first delays that go to the coarsest wheel.
+const FROM_THE_COARSEST: &[Call] = &[
+    Call::Schedule(16777216, 9, None),
+    Call::Schedule(16777217, 8, None),
+    Call::Pass(16777215),
+    Call::Tick(&[9]),
+    Call::Tick(&[8]),
+];
+
 const LONGEST_DELAY: &[Call] = &[
     Call::Schedule(LONGEST, 1, None),
     Call::Cancel(1, Some(FAR + LONGEST)),
@@ -151,6 +160,7 @@ fn make_rows<L: Ledger>(alloc: Global, blank: Blank) -> Result<(), Fail>
         make(alloc, start, ACROSS_A_BOUNDARY, &mut steps)?;
     }
     make(alloc, 0, AGAIN, &mut steps)?;
+    make(alloc, 0, FROM_THE_COARSEST, &mut steps)?;
     make(alloc, FAR, LONGEST_DELAY, &mut steps)
 }
 
@@ -218,19 +228,17 @@ fn schedule_ticket(timers: &mut Timers<Ticket>, delay: u64, id: u64) -> Option<(
     }
 }
 
-fn fire_tickets<L: Ledger>(timers: &mut Timers<Ticket>, blank: Blank) -> u64
+fn fire_tickets<L: Ledger>(alloc: Global, timers: &mut Timers<Ticket>, blank: Blank) -> u64
     requires name { blank.name ≡ L.name }
     requires parts { blank.parts ≡ L.parts }
     requires some { 0 < blank.parts }
 {
     let mut steps = Steps::<L>::new(blank);
-    if timers.now() >= 1 << 63 {
-        return 0;
+    let mut tickets = Vec::new(alloc);
+    if timers.now() < 1 << 63 {
+        let _made = timers.tick_into(&mut steps, &mut tickets);
     }
-    match timers.tick(&mut steps) {
-        Ok(tickets) => add_tickets(tickets),
-        Err(_) => 0,
-    }
+    add_tickets(tickets)
 }
 
 // The numbers of what is left, by due tick and order of scheduling.
@@ -278,7 +286,7 @@ fn tickets_come_back(rt: HostRuntime) {
             id,
             item: Ticket(number),
         }| (due, id, number));
-        let fired = fire_tickets::<Brand>(&mut timers, Blank::new(1));
+        let fired = fire_tickets::<Brand>(rt.alloc(), &mut timers, Blank::new(1));
         let later = (
             schedule_ticket(&mut timers, 70000, 2),
             schedule_ticket(&mut timers, 8, 1),
