@@ -4,6 +4,7 @@ use denote.Param.Send.{IsSend, IsSync, view_send, recorded_send, struct_send, se
 use denote.Struct.Declared.{shape}
 use Rattle.std.proofs.Crossing.{crosses}
 use Rattle.fan_base.proofs.Crossing as crossing_fan_base
+use Rattle.queue_packets.proofs.Crossings as crossing_queue_packets
 use Rattle.atomic_blocks.proofs.block.Link.TheSendSync as link_atomic_blocks
 use Rattle.atomic_blocks.proofs.web.Seat.TheSendSync as seat_atomic_blocks
 use Rattle.atomic_blocks.proofs.web.Web.TheSendSync as web_atomic_blocks
@@ -42,11 +43,6 @@ use Rattle.std.proofs.sync.Arc.TheSendSync as arc_std
 use Rattle.std.proofs.sync.atomic.AtomicBool.TheSendSync as atomic_bool_std
 use Rattle.std.proofs.vec.Vec.TheSendSync as vec_std
 use Rattle.fan_base.specs.contracts.parcel.Parcel as parcel
-use Rattle.notify_queue.proofs.packet.block.Blocks.TheLaws.TheKnot as knot
-use Rattle.notify_queue.specs.contracts.packet.Packet as packet
-use Rattle.notify_queue.specs.contracts.packet.Packets as packets
-use Rattle.notify_queue.specs.contracts.packet.block.Block as block
-use Rattle.notify_queue.specs.contracts.packet.block.Blocks as blocks
 use Rattle.notify_queue.specs.contracts.channel.Channel as channel
 use Rattle.notify_queue.specs.contracts.sender.Sender as sender
 use Rattle.notify_queue.specs.contracts.sender.Sender.TheInside as of_sender
@@ -58,21 +54,7 @@ use Rattle.notify_queue.specs.contracts.rest.Rest as rest
 use Rattle.notify_queue.specs.contracts.rest.Rest.TheInside as of_rest
 use Rattle.crossbeam_utils.proofs.sync.parker.RuledParker.TheSendSync as parker
 
-ruleset parts = (manuallydrop_std.the_field_send, manuallydrop_std.the_send, option_std.the_field_send, option_std.the_send, memory_std.the_field_send, memory_std.the_send, global_std.the_field_send, global_std.the_send, box_std.the_send, crosses, knot.crosses, sendable)
-
-Block_send : (X : RattleType) → IsSend X → IsSend (block.the_row X)
-Block_send X item = search parts depth 60 fits 20000
-
-Blocks_send : (X : RattleType) → IsSend X → IsSend (blocks.the_row X)
-Blocks_send X item = search parts depth 60 fits 20000
-
-Packet_send : (X : RattleType) → IsSend X → IsSend (packet.the_row X)
-Packet_send X item = search (Block_send, parts) depth 60 fits 20000
-
-Packets_send : (X : RattleType) → IsSend X → IsSend (packets.the_row X)
-Packets_send X item = search (Blocks_send, parts) depth 60 fits 20000
-
-ruleset all = (atomic_bool_std.the_send, atomic_bool_std.the_sync, link_atomic_blocks.the_field_send, link_atomic_blocks.the_send, link_atomic_blocks.the_field_sync, link_atomic_blocks.the_sync, seat_atomic_blocks.the_send, web_atomic_blocks.the_send, web_atomic_blocks.the_sync, table_atomic_table.the_field_send, table_atomic_table.the_send, table_atomic_table.the_field_sync, table_atomic_table.the_sync, sendlease_atomic_table.the_send, sendlease_atomic_table.the_sync, seat_atomic_table.the_send, shared_atomic_table.the_send, shared_atomic_table.the_sync, phantomdata_std.the_field_send, phantomdata_std.the_send, phantomdata_std.the_field_sync, phantomdata_std.the_sync, manuallydrop_std.the_field_send, manuallydrop_std.the_send, manuallydrop_std.the_field_sync, manuallydrop_std.the_sync, option_std.the_field_send, option_std.the_send, option_std.the_field_sync, option_std.the_sync, memory_std.the_field_send, memory_std.the_send, memory_std.the_field_sync, memory_std.the_sync, chained_crossbeam_queue.the_send, chained_crossbeam_queue.the_sync, ends_crossbeam_queue.the_field_send, ends_crossbeam_queue.the_send, ends_crossbeam_queue.the_field_sync, ends_crossbeam_queue.the_sync, laps_crossbeam_queue.the_field_send, laps_crossbeam_queue.the_send, laps_crossbeam_queue.the_field_sync, laps_crossbeam_queue.the_sync, stage_crossbeam_queue.the_field_send, stage_crossbeam_queue.the_send, stage_crossbeam_queue.the_field_sync, stage_crossbeam_queue.the_sync, unruled_crossbeam_utils.the_field_send, unruled_crossbeam_utils.the_send, unruled_crossbeam_utils.the_field_sync, unruled_crossbeam_utils.the_sync, ruledunparker_crossbeam_utils.the_field_send, ruledunparker_crossbeam_utils.the_send, ruledunparker_crossbeam_utils.the_field_sync, ruledunparker_crossbeam_utils.the_sync, signals_crossbeam_utils.the_field_send, signals_crossbeam_utils.the_send, signals_crossbeam_utils.the_field_sync, signals_crossbeam_utils.the_sync, delivery_notify_queue.the_field_send, delivery_notify_queue.the_send, delivery_notify_queue.the_field_sync, delivery_notify_queue.the_sync, knowledge_notify_queue.the_field_send, knowledge_notify_queue.the_send, knowledge_notify_queue.the_field_sync, knowledge_notify_queue.the_sync, ended_sender_notify_queue.the_field_send, ended_sender_notify_queue.the_send, ended_sender_notify_queue.the_field_sync, ended_sender_notify_queue.the_sync, look_notify_queue.the_field_send, look_notify_queue.the_send, look_notify_queue.the_field_sync, look_notify_queue.the_sync, markrule_notify_queue.the_field_send, markrule_notify_queue.the_send, markrule_notify_queue.the_field_sync, markrule_notify_queue.the_sync, role_notify_queue.the_field_send, role_notify_queue.the_send, role_notify_queue.the_field_sync, role_notify_queue.the_sync, stamp_notify_queue.the_field_send, stamp_notify_queue.the_send, stamp_notify_queue.the_field_sync, stamp_notify_queue.the_sync, stamped_notify_queue.the_field_send, stamped_notify_queue.the_send, stamped_notify_queue.the_field_sync, stamped_notify_queue.the_sync, arc_std.the_send, arc_std.the_sync, box_std.the_send, box_std.the_sync, linkedlist_std.the_send, linkedlist_std.the_sync, nodes_std.the_send, nodes_std.the_sync, global_std.the_field_send, global_std.the_send, global_std.the_field_sync, global_std.the_sync, Blocks_send, Packet_send, Packets_send, slotted_crossbeam_queue.the_send, slotted_crossbeam_queue.the_sync, array_crossbeam_queue.the_send, array_crossbeam_queue.the_sync, array_crossbeam_queue.the_field_send, array_crossbeam_queue.the_field_sync, turns_crossbeam_queue.the_send, turns_crossbeam_queue.the_sync, free_crossbeam_queue.the_send, free_crossbeam_queue.the_sync, crosses, sendable)
+ruleset all = (atomic_bool_std.the_send, atomic_bool_std.the_sync, link_atomic_blocks.the_field_send, link_atomic_blocks.the_send, link_atomic_blocks.the_field_sync, link_atomic_blocks.the_sync, seat_atomic_blocks.the_send, web_atomic_blocks.the_send, web_atomic_blocks.the_sync, table_atomic_table.the_field_send, table_atomic_table.the_send, table_atomic_table.the_field_sync, table_atomic_table.the_sync, sendlease_atomic_table.the_send, sendlease_atomic_table.the_sync, seat_atomic_table.the_send, shared_atomic_table.the_send, shared_atomic_table.the_sync, phantomdata_std.the_field_send, phantomdata_std.the_send, phantomdata_std.the_field_sync, phantomdata_std.the_sync, manuallydrop_std.the_field_send, manuallydrop_std.the_send, manuallydrop_std.the_field_sync, manuallydrop_std.the_sync, option_std.the_field_send, option_std.the_send, option_std.the_field_sync, option_std.the_sync, memory_std.the_field_send, memory_std.the_send, memory_std.the_field_sync, memory_std.the_sync, chained_crossbeam_queue.the_send, chained_crossbeam_queue.the_sync, ends_crossbeam_queue.the_field_send, ends_crossbeam_queue.the_send, ends_crossbeam_queue.the_field_sync, ends_crossbeam_queue.the_sync, laps_crossbeam_queue.the_field_send, laps_crossbeam_queue.the_send, laps_crossbeam_queue.the_field_sync, laps_crossbeam_queue.the_sync, stage_crossbeam_queue.the_field_send, stage_crossbeam_queue.the_send, stage_crossbeam_queue.the_field_sync, stage_crossbeam_queue.the_sync, unruled_crossbeam_utils.the_field_send, unruled_crossbeam_utils.the_send, unruled_crossbeam_utils.the_field_sync, unruled_crossbeam_utils.the_sync, ruledunparker_crossbeam_utils.the_field_send, ruledunparker_crossbeam_utils.the_send, ruledunparker_crossbeam_utils.the_field_sync, ruledunparker_crossbeam_utils.the_sync, signals_crossbeam_utils.the_field_send, signals_crossbeam_utils.the_send, signals_crossbeam_utils.the_field_sync, signals_crossbeam_utils.the_sync, delivery_notify_queue.the_field_send, delivery_notify_queue.the_send, delivery_notify_queue.the_field_sync, delivery_notify_queue.the_sync, knowledge_notify_queue.the_field_send, knowledge_notify_queue.the_send, knowledge_notify_queue.the_field_sync, knowledge_notify_queue.the_sync, ended_sender_notify_queue.the_field_send, ended_sender_notify_queue.the_send, ended_sender_notify_queue.the_field_sync, ended_sender_notify_queue.the_sync, look_notify_queue.the_field_send, look_notify_queue.the_send, look_notify_queue.the_field_sync, look_notify_queue.the_sync, markrule_notify_queue.the_field_send, markrule_notify_queue.the_send, markrule_notify_queue.the_field_sync, markrule_notify_queue.the_sync, role_notify_queue.the_field_send, role_notify_queue.the_send, role_notify_queue.the_field_sync, role_notify_queue.the_sync, stamp_notify_queue.the_field_send, stamp_notify_queue.the_send, stamp_notify_queue.the_field_sync, stamp_notify_queue.the_sync, stamped_notify_queue.the_field_send, stamped_notify_queue.the_send, stamped_notify_queue.the_field_sync, stamped_notify_queue.the_sync, arc_std.the_send, arc_std.the_sync, box_std.the_send, box_std.the_sync, linkedlist_std.the_send, linkedlist_std.the_sync, nodes_std.the_send, nodes_std.the_sync, global_std.the_field_send, global_std.the_send, global_std.the_field_sync, global_std.the_sync, crossing_queue_packets.Blocks-send, crossing_queue_packets.Packet-send, crossing_queue_packets.Packets-send, slotted_crossbeam_queue.the_send, slotted_crossbeam_queue.the_sync, array_crossbeam_queue.the_send, array_crossbeam_queue.the_sync, array_crossbeam_queue.the_field_send, array_crossbeam_queue.the_field_sync, turns_crossbeam_queue.the_send, turns_crossbeam_queue.the_sync, free_crossbeam_queue.the_send, free_crossbeam_queue.the_sync, crosses, sendable)
 
 -- a parcel crosses where its value may
 pub Parcel-send : (X : RattleType) → IsSend X → IsSend (parcel.the_row X)

@@ -7,5 +7,4 @@ pub mod Histories
 pub mod Lists
 pub mod Markings
 pub mod Receivings
-pub mod Strings
 pub mod Takings

@@ -1,4 +1,3 @@
-pub mod Blocks
 pub mod Delivery
 pub mod Ends
 pub mod History

@@ -4,10 +4,10 @@ ghost use Rattle.notify_queue.specs.Marks.{place};
 
 use crate::delivery::Line;
 use crate::marks::Marks;
-use crate::packet::Blocks;
 use crate::stamp::Stamped;
 use crossbeam_queue::ArrayQueue;
 use crossbeam_utils::sync::Unparker;
+use queue_packets::Blocks;
 use std::sync::atomic::AtomicBool;
 
 mod batches;

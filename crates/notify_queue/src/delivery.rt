@@ -1,8 +1,8 @@
 //! The rule of the queue, and what each step on it tells.
-use crate::packet::Packet;
 use crate::stamp::Stamped;
 use crossbeam_queue::protocol::{Join, Lesson, Outcome, Outcomes, Protocol, Split};
 use crossbeam_queue::{RuledSegQueue, SegBatch, SegPass};
+use queue_packets::Packet;
 use std::alloc::Global;
 use std::collections::LinkedList;
 

@@ -23,7 +23,6 @@ mod channel;
 mod delivery;
 mod marks;
 mod opening;
-mod packet;
 mod receiver;
 mod rest;
 mod sender;

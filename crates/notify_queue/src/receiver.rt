@@ -1,10 +1,10 @@
 use crate::channel::Channel;
 use crate::delivery::Pass;
 use crate::marks::MarkSeat;
-use crate::packet::Blocks;
 use crate::stamp::Stamped;
 pub(crate) use counts::no_counts;
 use crossbeam_utils::sync::Parker;
+use queue_packets::Blocks;
 use std::alloc::Global;
 use std::marker::Model;
 use std::sync::Arc;

@@ -2,8 +2,8 @@ ghost use Rattle.std.specs.Prelude.{◌≡◌, [], ◌↔◌, length, IsTrue, Ma
 ghost use Rattle.notify_queue.specs.Ends.{with_first};
 
 use crate::delivery::Pass;
-use crate::packet::Packets;
 use crate::stamp::Stamped;
+use queue_packets::Packets;
 use std::marker::Model;
 
 /// The messages that were left in a queue at its close, in its order, which is that of the puts of all senders together. It

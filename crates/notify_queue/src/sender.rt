@@ -1,9 +1,9 @@
 use crate::channel::Channel;
 use crate::delivery::Pass;
 use crate::marks::MarkSeat;
-use crate::packet::Blocks;
 use crate::stamp::Stamped;
 pub(crate) use calls::abandon_all;
+use queue_packets::Blocks;
 use std::alloc::Global;
 use std::marker::Model;
 use std::sync::Arc;

@@ -4,6 +4,7 @@ use denote.Param.Send.{IsSend, IsSync, view_send, view_sync, recorded_send, reco
 use denote.Struct.Declared.{shape}
 use Rattle.std.proofs.Crossing.{crosses}
 use Rattle.job_trait.specs.declared.job.Headed.{Ghosts}
+use Rattle.queue_packets.proofs.Crossings as crossing_queue_packets
 use Rattle.atomic_blocks.proofs.block.Link.TheSendSync as link_atomic_blocks
 use Rattle.atomic_blocks.proofs.web.Seat.TheSendSync as seat_atomic_blocks
 use Rattle.atomic_blocks.proofs.web.Web.TheSendSync as web_atomic_blocks
@@ -28,11 +29,7 @@ use Rattle.std.proofs.marker.PhantomData.TheSendSync as phantomdata_std
 use Rattle.std.proofs.mem.ManuallyDrop.TheSendSync as manuallydrop_std
 use Rattle.std.proofs.option.Option.TheSendSync as option_std
 use Rattle.std.proofs.rt.Memory.TheSendSync as memory_std
-use Rattle.task_queue.proofs.packet.block.Blocks.TheLaws.TheKnot as knot
-use Rattle.task_queue.specs.contracts.packet.Packet as packet
-use Rattle.task_queue.specs.contracts.packet.Packets as packets
-use Rattle.task_queue.specs.contracts.packet.block.Block as block
-use Rattle.task_queue.specs.contracts.packet.block.Blocks as blocks
+use Rattle.queue_packets.specs.contracts.packet.Packets as packets
 use Rattle.task_queue.specs.contracts.passes.Adder as adder
 use Rattle.task_queue.specs.contracts.passes.Adder.TheInside as of_adder
 use Rattle.task_queue.specs.contracts.passes.Taker as taker
@@ -47,24 +44,14 @@ use Rattle.queue_looks.proofs.trail.Trail.TheSendSync as trail_queue_looks
 use Rattle.task_queue.specs.contracts.queue.TaskQueue as queue
 use Rattle.task_queue.specs.contracts.queue.TaskQueue.TheInside as of_queue
 
-ruleset parts = (manuallydrop_std.the_field_send, manuallydrop_std.the_send, option_std.the_field_send, option_std.the_send, memory_std.the_field_send, memory_std.the_send, global_std.the_field_send, global_std.the_send, box_std.the_send, crosses, knot.crosses, sendable)
-
-Block_send : (X : RattleType) → IsSend X → IsSend (block.the_row X)
-Block_send X item = search parts depth 60 fits 20000
-
-Blocks_send : (X : RattleType) → IsSend X → IsSend (blocks.the_row X)
-Blocks_send X item = search parts depth 60 fits 20000
+-- what a queue is left with crosses where its items may
+pub Packets-send : (X : RattleType) → IsSend X → IsSend (packets.the_row X)
+Packets-send = crossing_queue_packets.Packets-send
 
 Bundle_send : (X : RattleType) → IsSend X → IsSend (bundle.the_row X)
-Bundle_send X item = recorded_send (bundle.the_field X).row _ _ (bundle.the_type X).to_one (struct_send (shape (bundle.the_type X)) (search (Block_send, parts) depth 60 fits 20000, (search parts depth 60 fits 20000, tt)))
+Bundle_send X item = recorded_send (bundle.the_field X).row _ _ (bundle.the_type X).to_one (struct_send (shape (bundle.the_type X)) (search (crossing_queue_packets.Block-send, option_std.the_field_send, option_std.the_send, crosses, sendable) depth 60 fits 20000, (search (crosses, sendable) depth 60 fits 20000, tt)))
 
-Packet_send : (X : RattleType) → IsSend X → IsSend (packet.the_row X)
-Packet_send X item = search (Block_send, parts) depth 60 fits 20000
-
-pub Packets-send : (X : RattleType) → IsSend X → IsSend (packets.the_row X)
-Packets-send X item = search (Blocks_send, parts) depth 60 fits 20000
-
-ruleset all = (link_atomic_blocks.the_field_send, link_atomic_blocks.the_send, link_atomic_blocks.the_field_sync, link_atomic_blocks.the_sync, seat_atomic_blocks.the_send, web_atomic_blocks.the_send, web_atomic_blocks.the_sync, table_atomic_table.the_field_send, table_atomic_table.the_send, table_atomic_table.the_field_sync, table_atomic_table.the_sync, sendlease_atomic_table.the_send, sendlease_atomic_table.the_sync, seat_atomic_table.the_send, shared_atomic_table.the_send, shared_atomic_table.the_sync, phantomdata_std.the_field_send, phantomdata_std.the_send, phantomdata_std.the_field_sync, phantomdata_std.the_sync, manuallydrop_std.the_field_send, manuallydrop_std.the_send, manuallydrop_std.the_field_sync, manuallydrop_std.the_sync, option_std.the_field_send, option_std.the_send, option_std.the_field_sync, option_std.the_sync, memory_std.the_field_send, memory_std.the_send, memory_std.the_field_sync, memory_std.the_sync, chained_crossbeam_queue.the_send, chained_crossbeam_queue.the_sync, ends_crossbeam_queue.the_field_send, ends_crossbeam_queue.the_send, ends_crossbeam_queue.the_field_sync, ends_crossbeam_queue.the_sync, laps_crossbeam_queue.the_field_send, laps_crossbeam_queue.the_send, laps_crossbeam_queue.the_field_sync, laps_crossbeam_queue.the_sync, stage_crossbeam_queue.the_field_send, stage_crossbeam_queue.the_send, stage_crossbeam_queue.the_field_sync, stage_crossbeam_queue.the_sync, box_std.the_send, box_std.the_sync, linkedlist_std.the_send, linkedlist_std.the_sync, nodes_std.the_send, nodes_std.the_sync, global_std.the_field_send, global_std.the_send, global_std.the_field_sync, global_std.the_sync, ticket_pool_model.the_field_send, ticket_pool_model.the_send, ticket_pool_model.the_field_sync, ticket_pool_model.the_sync, Block_send, Bundle_send, Packet_send, slotted_crossbeam_queue.the_send, slotted_crossbeam_queue.the_sync, array_crossbeam_queue.the_send, array_crossbeam_queue.the_sync, array_crossbeam_queue.the_field_send, array_crossbeam_queue.the_field_sync, turns_crossbeam_queue.the_send, turns_crossbeam_queue.the_sync, free_crossbeam_queue.the_send, free_crossbeam_queue.the_sync, crosses, sendable)
+ruleset all = (link_atomic_blocks.the_field_send, link_atomic_blocks.the_send, link_atomic_blocks.the_field_sync, link_atomic_blocks.the_sync, seat_atomic_blocks.the_send, web_atomic_blocks.the_send, web_atomic_blocks.the_sync, table_atomic_table.the_field_send, table_atomic_table.the_send, table_atomic_table.the_field_sync, table_atomic_table.the_sync, sendlease_atomic_table.the_send, sendlease_atomic_table.the_sync, seat_atomic_table.the_send, shared_atomic_table.the_send, shared_atomic_table.the_sync, phantomdata_std.the_field_send, phantomdata_std.the_send, phantomdata_std.the_field_sync, phantomdata_std.the_sync, manuallydrop_std.the_field_send, manuallydrop_std.the_send, manuallydrop_std.the_field_sync, manuallydrop_std.the_sync, option_std.the_field_send, option_std.the_send, option_std.the_field_sync, option_std.the_sync, memory_std.the_field_send, memory_std.the_send, memory_std.the_field_sync, memory_std.the_sync, chained_crossbeam_queue.the_send, chained_crossbeam_queue.the_sync, ends_crossbeam_queue.the_field_send, ends_crossbeam_queue.the_send, ends_crossbeam_queue.the_field_sync, ends_crossbeam_queue.the_sync, laps_crossbeam_queue.the_field_send, laps_crossbeam_queue.the_send, laps_crossbeam_queue.the_field_sync, laps_crossbeam_queue.the_sync, stage_crossbeam_queue.the_field_send, stage_crossbeam_queue.the_send, stage_crossbeam_queue.the_field_sync, stage_crossbeam_queue.the_sync, box_std.the_send, box_std.the_sync, linkedlist_std.the_send, linkedlist_std.the_sync, nodes_std.the_send, nodes_std.the_sync, global_std.the_field_send, global_std.the_send, global_std.the_field_sync, global_std.the_sync, ticket_pool_model.the_field_send, ticket_pool_model.the_send, ticket_pool_model.the_field_sync, ticket_pool_model.the_sync, crossing_queue_packets.Block-send, Bundle_send, crossing_queue_packets.Packet-send, slotted_crossbeam_queue.the_send, slotted_crossbeam_queue.the_sync, array_crossbeam_queue.the_send, array_crossbeam_queue.the_sync, array_crossbeam_queue.the_field_send, array_crossbeam_queue.the_field_sync, turns_crossbeam_queue.the_send, turns_crossbeam_queue.the_sync, free_crossbeam_queue.the_send, free_crossbeam_queue.the_sync, crosses, sendable)
 
 pub Queued-send : (J : RattleType) → IsSend J → IsSend (queued.the_row J)
 Queued-send J s = recorded_send (queued.the_field J).row _ _ (queued.the_type J).to_one (struct_send (shape (queued.the_type J)) (search all depth 60 fits 20000, (search all depth 60 fits 20000, tt)))

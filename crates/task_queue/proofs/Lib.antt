@@ -1,4 +1,3 @@
-pub mod Strings
 pub mod Orders
 pub mod Tickets
 pub mod Histories

@@ -1,4 +1,3 @@
-pub mod Blocks
 pub mod Views
 pub mod Rule
 pub mod Steps

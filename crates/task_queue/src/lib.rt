@@ -24,7 +24,6 @@
 
 mod looks;
 mod mark;
-mod packet;
 mod passes;
 mod queue;
 mod rule;
@@ -34,7 +33,7 @@ mod view;
 
 pub use looks::Looks;
 pub use mark::{EndMark, KeptMark, OpenSeat, Watch};
-pub use packet::Packets;
 pub use passes::{Adder, Gathered, Maker, Taker};
 pub use queue::TaskQueue;
+pub use queue_packets::Packets;
 pub use rule::Queued;

@@ -5,12 +5,12 @@ ghost use Rattle.task_queue.specs.Looks.{mark_seen, pop_seen};
 ghost use Rattle.task_queue.specs.Steps.{Popped, MayPop};
 
 use crate::mark::Watch;
-use crate::packet::Packet;
 use crate::rule::{Line, Pass, QueueRule, Queued};
 use crate::steps::Pop;
 use crate::view::View;
 use job_trait::Headed;
 use queue_looks::{Noted, Trail};
+use queue_packets::Packet;
 use std::marker::Model;
 use std::snapshot::Snapshot;
 use std::sync::Wait;

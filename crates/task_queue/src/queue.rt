@@ -8,13 +8,13 @@ ghost use Rattle.task_queue.specs.Settled.{Settled, Drained, IsAll, TakeTold};
 ghost use Rattle.pool_model.specs.Tickets.{Ascend, tickets_of};
 
 use crate::looks::{Looks, pop};
-use crate::packet::{Packet, Packets};
 use crate::passes::{Adder, Gathered, Maker, Taker};
 use crate::rule::{Line, Pass, Queued};
 use crate::spares::{Bundle, Spares};
 use crate::steps::{Count, Gather, MakeAdder, MakeTaker, Push, PutAdder, PutTaker};
 use fan_base::{Memory, Refused};
 use job_trait::Headed;
+use queue_packets::{Packet, Packets};
 use std::alloc::Global;
 use std::marker::Model;
 use std::sync::Wait;

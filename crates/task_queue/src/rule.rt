@@ -1,10 +1,10 @@
 // The rule of the queue.
-use crate::packet::Packet;
 use crate::view::View;
 use crossbeam_queue::protocol::Protocol;
 use crossbeam_queue::{RuledSegQueue, SegPass};
 use job_trait::Headed;
 use pool_model::Ticket;
+use queue_packets::Packet;
 use std::marker::PhantomData;
 
 /// A job that waits, with its ticket.

@@ -1,7 +1,7 @@
 // The blocks of tasks that were taken, on their way back to the adders. A taker takes no memory. No clause speaks of it.
-use crate::packet::Block;
 use crossbeam_queue::ArrayQueue;
 use fan_base::Memory;
+use queue_packets::Block;
 use std::alloc::Global;
 use std::sync::Wait;
 use std::{array, mem};

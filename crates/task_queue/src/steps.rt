@@ -1,9 +1,9 @@
 // The kinds of step on the queue, and what each tells.
-use crate::packet::Packet;
 use crate::rule::Queued;
 use crate::view::View;
 use crossbeam_queue::protocol::{Join, Lesson, Outcome, Split};
 use job_trait::Headed;
+use queue_packets::Packet;
 
 /// The maker counts one pass more.
 pub struct Count;

@@ -9,8 +9,8 @@ ghost use Rattle.notify_queue.specs.Steps.{HasFoundNothing, HasGiven};
 
 use super::Channel;
 use crate::delivery::{Batch, Pass, Take};
-use crate::packet::Blocks;
 use crate::stamp::Stamped;
+use queue_packets::Blocks;
 use std::sync::Wait;
 
 impl<M> Channel<M> {

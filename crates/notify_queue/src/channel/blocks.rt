@@ -1,7 +1,7 @@
 //! How the blocks of messages that were taken come back to the senders. No clause speaks of it.
 use super::Channel;
-use crate::packet::{Block, Blocks};
 use crate::stamp::Stamped;
+use queue_packets::{Block, Blocks};
 use std::alloc::Global;
 use std::mem;
 use std::sync::Wait;

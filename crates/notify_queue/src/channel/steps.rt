@@ -15,12 +15,12 @@ use crate::delivery::{AnotherSender, End, JoinEnd, Line, Pass, Put, Take};
 use crate::marks::{
     AnotherMark, LookAt, MarkSeat, Marks, ReadMark, SetMark, ShowPut, TakeSlot, word_of,
 };
-use crate::packet::{Packet, Packets};
 use crate::sender::SenderEnd;
 use crate::stamp::Stamped;
 use crossbeam_queue::ArrayQueue;
 use crossbeam_utils::sync::Parker;
 use fan_base::Memory;
+use queue_packets::{Packet, Packets};
 use std::alloc::{AllocError, Global};
 use std::sync::Wait;
 use std::sync::atomic::AtomicBool;

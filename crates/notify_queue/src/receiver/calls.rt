@@ -15,12 +15,12 @@ use super::Receiver;
 use crate::channel::Channel;
 use crate::delivery::Pass;
 use crate::marks::MarkSeat;
-use crate::packet::Blocks;
 use crate::rest::{QueueEnd, Rest};
 use crate::sender::{Sender, SenderEnd, abandon_all};
 use crate::stamp::Stamped;
 use crossbeam_utils::sync::Parker;
 use fan_base::Memory;
+use queue_packets::Blocks;
 use std::alloc::Global;
 use std::sync::{Arc, Wait};
 

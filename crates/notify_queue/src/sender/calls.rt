@@ -10,9 +10,9 @@ use super::{Sender, SenderEnd};
 use crate::channel::Channel;
 use crate::delivery::Pass;
 use crate::marks::MarkSeat;
-use crate::packet::{Blocks, Packet};
 use crate::stamp::{Stamp, Stamped};
 use fan_base::{Memory, Refused};
+use queue_packets::{Blocks, Packet};
 use std::alloc::Global;
 use std::sync::{Arc, Wait};
 

@@ -1,7 +1,0 @@
-use Rattle.std.proofs.Common.{◌∙◌, ap, reverse}
-use Rattle.task_queue.specs.Blocks.{items_in}
-use Rattle.task_queue.proofs.Strings.{items-reverse}
-use Rattle.task_queue.proofs.packet.Packets.reversed.Goals as goal
-
-pub returns : goal.returns
-returns g c = ap items_in c.reversed.ensures ∙ items-reverse c.self.inside.blocks ∙ ap reverse c.self.view_is
