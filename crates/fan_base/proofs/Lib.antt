@@ -1,4 +1,5 @@
 mod Blocks
 pub mod Crossing
+mod Lanes
 mod Pairs
 pub mod Words

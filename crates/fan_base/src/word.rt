@@ -1,4 +1,4 @@
-ghost use Rattle.std.specs.Prelude.{◌≡◌, ◌≢◌, ◌==◌, ◌↔◌, ◌≤◌, ◌∷◌, [], ℕ, List, length, IsTrue, Err, IfOk};
+ghost use Rattle.std.specs.Prelude.{◌≡◌, ◌≢◌, ◌==◌, ◌↔◌, ◌≤◌, ◌∷◌, [], ℕ, List, length, take, IsTrue, Err, IfOk};
 ghost use Rattle.std.proofs.Common.{rules};
 ghost use Rattle.std.specs.Cmp.{partial_order_from_own_ties};
 ghost use Rattle.std.specs.Cmp.Lexicographic.{pointwise, slice_cmp};
@@ -10,9 +10,13 @@ ghost use Rattle.fan_base.specs.Word.{IsWord, is_filled, is_word, is_word_byte, 
 use std::cmp::Ordering;
 use std::hash::{Hash, Hasher};
 use std::marker::Model;
+use std::simd::prelude::*;
 
 /// How many bytes a word has at most.
 const LONGEST: usize = 32;
+
+/// How many bytes are looked at together.
+const LANES: usize = 16;
 
 /// A word of a text: 1 to 32 bytes out of `a` to `z` and `0` to `9`. It is kept in place, in 32 bytes with zeros behind the
 /// word, and takes no memory of its own.
@@ -59,6 +63,27 @@ impl Word {
         Ok(Word {
             bytes: padded(bytes),
         })
+    }
+
+    /// Whether the first so many of these bytes are a word. 16 bytes are looked at together, whatever stands behind the word.
+    pub fn is_front(bytes: &[u8], size: usize) -> bool
+        requires room { LANES ≤ length bytes.now }
+        requires few { size ≤ LANES }
+        ensures { result ≡ is_word (take size bytes.now) }
+    {
+        0 < size && size <= word_lanes(bytes)
+    }
+
+    /// The word that the first so many of these bytes are.
+    pub fn of_front(bytes: &[u8], size: usize) -> Word
+        requires room { LANES ≤ length bytes.now }
+        requires few { size ≤ LANES }
+        requires word { IsWord (take size bytes.now) }
+        ensures { result ≡ take size bytes.now }
+    {
+        Word {
+            bytes: padded_front(bytes, size),
+        }
     }
 
     /// Its bytes.
@@ -110,6 +135,36 @@ fn padded(bytes: &[u8]) -> [u8; 32]
 {
     let mut array = [0; LONGEST];
     array[..bytes.len()].copy_from_slice(bytes);
+    array
+}
+
+/// How many of the first 16 bytes, from the first on, may stand in a word.
+fn word_lanes(bytes: &[u8]) -> usize
+    requires { LANES ≤ length bytes.now }
+    ensures { result ≡ prefix_len is_word_byte (take LANES bytes.now) }
+{
+    let lanes = u8x16::from_slice(bytes);
+    let no_letter = lanes.simd_lt(u8x16::splat(b'a')) | lanes.simd_gt(u8x16::splat(b'z'));
+    let no_digit = lanes.simd_lt(u8x16::splat(b'0')) | lanes.simd_gt(u8x16::splat(b'9'));
+    let marks = (no_letter & no_digit).to_bitmask();
+    if marks == 0 {
+        LANES
+    } else {
+        marks.trailing_zeros() as usize
+    }
+}
+
+/// The first so many bytes in the front of an array, and zeros behind them.
+fn padded_front(bytes: &[u8], size: usize) -> [u8; 32]
+    requires room { LANES ≤ length bytes.now }
+    requires few { size ≤ LANES }
+    ensures { result ≡ padded (take size bytes.now) }
+{
+    let places = u8x16::from_array([0, 1, 2, 3, 4, 5, 6, 7, 8, 9, 10, 11, 12, 13, 14, 15]);
+    let kept = places.simd_lt(u8x16::splat(size as u8));
+    let front = kept.select(u8x16::from_slice(bytes), u8x16::splat(0));
+    let mut array = [0; LONGEST];
+    front.copy_to_slice(&mut array);
     array
 }
 

@@ -1,5 +1,5 @@
 -- The first piece of a text, the first field of a line and the first part of a field, by where they are cut.
-use Rattle.std.proofs.Common.{◌≡◌, ℕ, [], ◌∷◌, ◌++◌, length, take, drop, get_or, Bool, true, false, ◌||◌, eqb, true≢false, sym, refl, ap, ◌∙◌, arith, append-nil}
+use Rattle.std.proofs.Common.{◌≡◌, ℕ, [], ◌∷◌, ◌++◌, length, take, drop, get_or, Bool, true, false, ◌≤◌, ◌||◌, eqb, true≢false, sym, refl, ap, ◌∙◌, arith, append-nil, length-append}
 use Rattle.std.specs.List.{All, AllByRecursion, onto_first, flat_map}
 use Rattle.std.specs.Prelude.{filter, find, not}
 use Rattle.std.proofs.lemmas.Bool.{lt-ltb, eqb-true, or_from, or_parts}
@@ -7,6 +7,7 @@ use Rattle.std.proofs.lemmas.List.Concat.{flat_map-append}
 use Rattle.std.proofs.lemmas.List.Elements.{recursion_from_All, All-from_recursion, All-weaker}
 use Rattle.std.proofs.lemmas.List.Splits.{slice_split_none, slice_split_at}
 use Rattle.std.proofs.lemmas.Bool.Decides.{nat_tests}
+use Rattle.std.proofs.Math.Seq.{take-append_seam}
 use Rattle.query_model.specs.Pieces.{Bytes, fields, is_skipped, is_some_text, says_nothing, pieces, line_feed, space}
 use Rattle.query_model.specs.Expressions.{apart, is_sign, parts}
 use Rattle.query_text.specs.Cuts.{HasNoSpaceFirst, ends_run, IsAtEndOfRun}
@@ -110,6 +111,13 @@ pub field_last : (line spaces rest front : Bytes) → All (λ b. b ≡ space) sp
 field_last line spaces rest front are_spaces whole some clear cut =
     fields_behind line spaces rest are_spaces whole
     ∙ (ap fields cut ∙ (field_at_end front (some_whole front (ap (λ xs. eqb (length xs) 0) (sym cut) ∙ some)) clear ∙ ap (λ fs. front ∷ fs) (sym no_fields)))
+
+-- what begins with a field has it as its first so many bytes
+pub front_within : (rest front more : Bytes) → rest ≡ front ++ more → length front ≤ length rest
+front_within rest front more whole = omega (arith, ap length whole, length-append front more)
+
+pub front_in_place : (rest front more : Bytes) → rest ≡ front ++ more → take (length front) rest ≡ front
+front_in_place rest front more whole = ap (take (length front)) whole ∙ take-append_seam front more
 
 -- parts
 pub no_part : (line front rest : Bytes) → All (λ b. b ≡ space) front → line ≡ front ++ rest → eqb (length rest) 0 ≡ true → parts line ≡ []

@@ -1,9 +1,9 @@
 -- What a line gives, step by step.
-use Rattle.std.proofs.Common.{◌≡◌, ℕ, ◌<◌, ◌≤◌, List, length, take, true, Some, ◌⊎◌, inl, inr, Result, Ok, Err, refl, sym, ap, ◌∙◌, subst, arith}
+use Rattle.std.proofs.Common.{◌≡◌, ℕ, ◌<◌, ◌≤◌, List, [], ◌∷◌, length, take, true, Some, ◌⊎◌, inl, inr, Result, Ok, Err, refl, sym, ap, ◌∙◌, subst, arith}
 use Rattle.std.specs.Prelude.{map}
 use Rattle.std.specs.Char.{to_ascii_lowercase}
 use Rattle.std.specs.List.{list_all}
-use Rattle.std.proofs.lemmas.Bool.{cases_lt}
+use Rattle.std.proofs.lemmas.Bool.{and_from, and_parts, cases_lt, eqb-true}
 use Rattle.std.proofs.lemmas.List.{take_all, length-take-le}
 use Rattle.query_grammar.specs.declared.token.Token.{Token}
 use Rattle.query_grammar.specs.declared.fault.ExprFault.TheVariants as expr
@@ -22,15 +22,32 @@ use Rattle.query_model.specs.ByFacts.{IsDocLine, IsTickLine}
 use Rattle.query_model.specs.Lines as model
 use Rattle.query_text.specs.declared.fault.LineFault.{LineFault}
 use Rattle.query_text.specs.declared.fault.LineFault.TheVariants as fault
+use Rattle.query_text.specs.Cuts.{is_small}
 use Rattle.query_text.specs.Outcomes.{FailsBy, GivesBy}
 use Rattle.query_text.specs.Sayings.{GivesAskBy, GivesTreeBy, first_tokens, most_kept}
 use Rattle.query_text.specs.Tracks.{HasRoom}
+
+-- a text with no capital letter is its own text in small letters, and what is said of it is printable
+small_same : (text : Bytes) → list_all is_small text ≡ true → map to_ascii_lowercase text ≡ text
+small_same [] small = refl
+small_same (b ∷ bs) small =
+    let parts = and_parts (is_small b) (list_all is_small bs) small in
+    ap (λ c. c ∷ map to_ascii_lowercase bs) (eqb-true _ _ (and_parts _ _ parts.0).1) ∙ ap (λ cs. b ∷ cs) (small_same bs parts.1)
+
+small_printable : (text : Bytes) → list_all is_small text ≡ true → list_all is_printable text ≡ true
+small_printable [] small = refl
+small_printable (b ∷ bs) small =
+    let parts = and_parts (is_small b) (list_all is_small bs) small in
+    and_from (is_printable b) (list_all is_printable bs) (and_parts _ _ parts.0).0 (small_printable bs parts.1)
 
 pub printable_line : (before : List Line) (text lowered : Bytes) (texts : List Bytes) → list_all is_printable text ≡ true → lowered ≡ map to_ascii_lowercase text → texts ≡ fields lowered
     → model.fields_behind before texts ≡ model.line_said before text
 printable_line before text lowered texts good lower is =
     ap (model.fields_behind before) (is ∙ ap fields lower)
     ∙ sym (ap (λ b. check b BadByte >>= λ u. model.fields_behind before (fields (map to_ascii_lowercase text))) good)
+
+pub small_line : (before : List Line) (text : Bytes) (texts : List Bytes) → list_all is_small text ≡ true → texts ≡ fields text → model.fields_behind before texts ≡ model.line_said before text
+small_line before text texts small is = printable_line before text text texts (small_printable text small) (sym (small_same text small)) is
 
 -- what is asked of the expression
 pub ask_ok : (asks : ExprAsk) (texts : List Bytes) (tree : Tree) (found : Ask) → GivesTreeBy (tokens_of texts) (Ok tree) → found ≡ model.ask_of asks tree → GivesAskBy (model.expr_behind asks texts) (Ok found)

@@ -1,5 +1,5 @@
 -- What the steps of reading a line give.
-use Rattle.std.specs.Prelude.{◌≡◌, ℕ, List, ◌++◌, map, take, Result, Ok, Err}
+use Rattle.std.specs.Prelude.{◌≡◌, ℕ, List, [], ◌∷◌, ◌++◌, map, take, Result, Ok, Err}
 use Rattle.std.specs.List.{list_all}
 use Rattle.fan_base.specs.Word.{is_word}
 use Rattle.fan_base.specs.declared.word.Word.{Word}
@@ -27,6 +27,10 @@ abbrev pub word_in : Bytes → Result Word BadKind
 word_in text = do
   good ← check (is_word text) BadWord
   Ok text
+
+-- the text is a word, and stands behind the others
+abbrev pub PutsWord : List Word → List Word → Bytes → Type 0
+PutsWord old new text = (word_in text ≡ Ok text) × (new ≡ old ++ text ∷ [])
 
 -- one part of an expression's text
 abbrev pub token_in : Bytes → Result Token BadKind

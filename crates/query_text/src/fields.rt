@@ -1,4 +1,4 @@
-ghost use Rattle.std.specs.Prelude.{◌≡◌, ◌↔◌, ◌∷◌, ◌++◌, [], All, IsTrue, MatchOption};
+ghost use Rattle.std.specs.Prelude.{◌≡◌, ◌≤◌, ◌↔◌, ◌∷◌, ◌++◌, [], All, IfSome, IsTrue, MatchOption, length, take};
 ghost use Rattle.std.specs.Iterator.{YieldsFirstRef, item_count};
 ghost use Rattle.query_model.specs.Pieces.{fields, space};
 ghost use Rattle.query_text.specs.Cuts.{HasNoSpaceFirst};
@@ -34,6 +34,16 @@ impl<'a> Fields<'a> {
         self.rest.len() / 4
     }
 
+    /// The next field in its place: the line from there on, and how many bytes the field has.
+    pub fn next_place(&mut self) -> Option<(&'a [u8], usize)>
+        ensures within { IfSome result (λ place. place.1 ≤ length place.0.now) }
+        ensures first { MatchOption result (self.old ≡ []) (λ place. self.old ≡ take place.1 place.0.now ∷ self.new) }
+    {
+        let (line, size, after) = first_place(self.rest)?;
+        self.rest = after;
+        Some((line, size))
+    }
+
     /// Whether no field is left.
     pub fn is_empty(&self) -> bool
         ensures { IsTrue result ↔ (self.now ≡ []) }
@@ -60,14 +70,23 @@ impl<'a> Iterator for Fields<'a> {
 fn first_field(line: &[u8]) -> Option<(&[u8], &[u8])>
     ensures { MatchOption result (fields line.now ≡ []) (λ cut. fields line.now ≡ cut.0.now ∷ fields cut.1.now) }
 {
+    let (line, size, after) = first_place(line)?;
+    Some((&line[..size], after))
+}
+
+/// A line from its first field on, how many bytes the field has, and what stands behind it.
+fn first_place(line: &[u8]) -> Option<(&[u8], usize, &[u8])>
+    ensures within { IfSome result (λ place. place.1 ≤ length place.0.now) }
+    ensures first { MatchOption result (fields line.now ≡ []) (λ place. fields line.now ≡ take place.1 place.0.now ∷ fields place.2.now) }
+{
     let (_, rest) = split_spaces(line);
     if rest.is_empty() {
         return None;
     }
     let (field, after) = cut(rest, b' ');
     match after {
-        Some(after) => Some((field, after)),
-        None => Some((field, &[])),
+        Some(after) => Some((rest, field.len(), after)),
+        None => Some((rest, field.len(), &[])),
     }
 }
 

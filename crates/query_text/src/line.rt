@@ -4,6 +4,7 @@ ghost use Rattle.std.specs.List.{list_all};
 ghost use Rattle.std.specs.Str.Lines.{strip_carriage_return};
 ghost use Rattle.query_model.specs.Pieces.{is_printable, is_skipped};
 ghost use Rattle.query_model.specs.Lines.{LineBehind, GivesLine, cancel_behind, doc_behind, fields_behind, line_said, said_behind, said_by, tick_behind};
+ghost use Rattle.query_text.specs.Cuts.{is_small};
 ghost use Rattle.query_text.specs.Outcomes.{Gives, GivesBy};
 
 use crate::fault::{BAD_BYTE, LineFault, MISSING_FIELD, UNKNOWN_COMMAND};
@@ -58,7 +59,7 @@ fn is_skipped(text: &[u8]) -> bool
     }
 }
 
-/// The line of a text that isn't skipped.
+/// The line of a text that isn't skipped. Only a text with capital letters is copied.
 fn text_line(
     alloc: Global,
     shards: u32,
@@ -67,11 +68,31 @@ fn text_line(
 ) -> Result<Option<Line>, LineFault>
     ensures { GivesBy result (GivesLine shards so_far.now (line_said so_far.now text.now)) }
 {
+    if are_small(text) {
+        return fields_line(alloc, shards, so_far, Fields::new(text));
+    }
     if !is_printable(text) {
         return Err(BAD_BYTE);
     }
     let lowered = lowercase(alloc, text)?;
     fields_line(alloc, shards, so_far, Fields::new(lowered.as_slice()))
+}
+
+/// Whether a text is printable and has no capital letter.
+fn are_small(text: &[u8]) -> bool
+    ensures { result ≡ list_all is_small text.now }
+{
+    let mut all = true;
+    for byte in text {
+        all &= is_small(*byte);
+    }
+    all
+}
+
+fn is_small(byte: u8) -> bool
+    ensures { result ≡ is_small byte }
+{
+    is_printable_byte(byte) && byte.to_ascii_lowercase() == byte
 }
 
 fn is_printable(text: &[u8]) -> bool

@@ -1,7 +1,7 @@
-ghost use Rattle.std.specs.Prelude.{◌≡◌, length};
+ghost use Rattle.std.specs.Prelude.{◌≡◌, ◌≤◌, IfErr, OnOk, length, take};
 ghost use Rattle.query_model.specs.Lines.{words_of};
-ghost use Rattle.query_text.specs.Outcomes.{Gives};
-ghost use Rattle.query_text.specs.Sayings.{word_in};
+ghost use Rattle.query_text.specs.Outcomes.{FailsAs, Gives};
+ghost use Rattle.query_text.specs.Sayings.{PutsWord, word_in};
 
 use crate::fault::{BAD_WORD, LineFault, TOO_MANY_WORDS};
 use crate::fields::Fields;
@@ -9,20 +9,20 @@ use fan_base::{Word, WordFault, Words};
 use query_model::limits::MOST_WORDS;
 use std::alloc::Global;
 
+/// How many bytes are looked at together.
+const LANES: usize = 16;
+
 /// The words of a document or of a `top`.
 pub fn words_of(alloc: Global, mut fields: Fields<'_>) -> Result<Words, LineFault>
     ensures { Gives result (words_of fields.entry) }
 {
     let room = fields.guess().min(MOST_WORDS);
     let mut words = Words::from_vec(Vec::with_capacity(alloc, room)?);
-    'texts: while let Some(text) = fields.next() {
+    'texts: while let Some((line, size)) = fields.next_place() {
         if words.len() == MOST_WORDS {
             return Err(TOO_MANY_WORDS);
         }
-        match word_by_size(text) {
-            Ok(word) => words.push(word)?,
-            Err(fault) => return Err(fault),
-        }
+        push_word(&mut words, line, size)?;
     }
     Ok(words)
 }
@@ -36,29 +36,31 @@ pub fn without_spare(words: Words) -> Words
     Words::from_vec(words)
 }
 
-/// The word that a text is, at most eight bytes by a case for each number of them.
-fn word_by_size(text: &[u8]) -> Result<Word, LineFault>
-    ensures { Gives result (word_in text.now) }
+/// Puts the word that the first so many bytes of a line are behind the others. A word with 16 bytes of line from its first on is
+/// read from these 16 together.
+fn push_word(words: &mut Words, line: &[u8], size: usize) -> Result<(), LineFault>
+    requires { size ≤ length line.now }
+    ensures ok { OnOk result (PutsWord words.old words.new (take size line.now)) }
+    ensures err { IfErr result (λ fault. FailsAs fault (word_in (take size line.now))) }
 {
-    match text.len() {
-        1 => word_of_size::<1>(text),
-        2 => word_of_size::<2>(text),
-        3 => word_of_size::<3>(text),
-        4 => word_of_size::<4>(text),
-        5 => word_of_size::<5>(text),
-        6 => word_of_size::<6>(text),
-        7 => word_of_size::<7>(text),
-        8 => word_of_size::<8>(text),
-        _ => word_of(text),
+    if size > LANES || line.len() < LANES {
+        return push_alone(words, &line[..size]);
     }
+    if !Word::is_front(line, size) {
+        return Err(BAD_WORD);
+    }
+    words.push(Word::of_front(line, size))?;
+    Ok(())
 }
 
-/// The word that a text of so many bytes is. A machine needs no loop for bytes whose number is known.
-fn word_of_size<const SIZE: usize>(text: &[u8]) -> Result<Word, LineFault>
-    requires { length text.now ≡ SIZE }
-    ensures { Gives result (word_in text.now) }
+/// Puts the word that a text is behind the others.
+fn push_alone(words: &mut Words, text: &[u8]) -> Result<(), LineFault>
+    ensures ok { OnOk result (PutsWord words.old words.new text.now) }
+    ensures err { IfErr result (λ fault. FailsAs fault (word_in text.now)) }
 {
-    word_of(&text[..SIZE])
+    let word = word_of(text)?;
+    words.push(word)?;
+    Ok(())
 }
 
 /// The word that a text is.
