@@ -16,6 +16,7 @@ pub mod PartLemmas
 mod IndexLemmas
 pub mod MergeLemmas
 mod MarkLemmas
+mod BitLemmas
 pub mod TableLemmas
 pub mod Crossings
 pub mod FrontLemmas

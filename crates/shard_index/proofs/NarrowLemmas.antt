@@ -117,7 +117,7 @@ pub ascend-where : (test : Doc → Bool) (docs : List Doc) (places : List ℕ) �
 ascend-where test docs places is = subst Ascend (sym is) (ascend-from 0 test docs)
 
 -- those kept of the places of documents that pass a test
-kept-from : (place : ℕ) (p s : Doc → Bool) (t : ℕ → Bool) (docs : List Doc) → ((i : ℕ) (d : Doc) → i < length docs → t (place + i) ≡ s (get_or docs i d))
+pub kept-from : (place : ℕ) (p s : Doc → Bool) (t : ℕ → Bool) (docs : List Doc) → ((i : ℕ) (d : Doc) → i < length docs → t (place + i) ≡ s (get_or docs i d))
     → filter t (places_from place p docs) ≡ places_from place (λ d. p d && s d) docs
 kept-from place p s t [] same = refl
 kept-from place p s t (d ∷ ds) same = by (p d) (s d) here (kept-from (place + 1) p s t ds later)

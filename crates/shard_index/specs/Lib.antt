@@ -1,5 +1,6 @@
 pub mod Places
 pub mod Narrowing
+pub mod Bits
 pub mod Standing
 pub mod Selections
 pub mod Scored

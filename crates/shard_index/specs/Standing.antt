@@ -1,5 +1,5 @@
 -- For which documents an index stands.
-use Rattle.std.specs.Prelude.{ℕ, ◌≡◌, ◌<◌, ◌≤◌, ◌+◌, ◌*◌, ◌^◌, All, List, get_or, length, map, take, true}
+use Rattle.std.specs.Prelude.{ℕ, ◌≡◌, ◌<◌, ◌≤◌, ◌+◌, ◌*◌, ◌^◌, All, Bool, List, get_or, length, map, take, true}
 use Rattle.std.specs.List.{AllByRecursion}
 use Rattle.std.specs.List.Sorted.{IsNonDecreasing}
 use Rattle.fan_base.specs.declared.doc.Doc.{Doc}
@@ -10,22 +10,39 @@ use Rattle.query_model.specs.Parts.{part_of}
 use Rattle.shard_index.specs.declared.index.Index.{Index}
 use Rattle.shard_index.specs.declared.shard.Shard.{Shard}
 use Rattle.shard_index.specs.declared.shards.Shards.{Shards}
-use Rattle.shard_index.specs.Places.{standing_of}
-use Rattle.word_table.specs.Numbers.{Knows, words_in}
+use Rattle.shard_index.specs.Bits.{HasBits}
+use Rattle.shard_index.specs.Places.{places_where, standing_of}
+use Rattle.word_table.specs.Numbers.{Knows, number_in, words_in}
 use Rattle.word_table.specs.Told.{HasPlaces}
 
 -- the words of each document are at most 1,000
 abbrev pub AreShort : List Doc → Type 0
 AreShort docs = All (λ doc. length doc.words ≤ most_words) docs
 
--- the index has the ids of these documents in their order, which ascend where it says so, and for each word the places where it stands
+-- the index has the ids of these documents in their order, which ascend where it says so, for each word the places where it stands, and
+-- for some the bits
 pub record Indexes (index : Index) (docs : List Doc) : Type 0 where
   pub ids : index.ids.items ≡ map (λ doc. doc.id) docs
   pub ascends : index.ascending ≡ true → IsNonDecreasing index.ids.items
   pub knows : Knows index.dictionary.value (words_in index.dictionary.value)
   pub places : HasPlaces index.places (words_in index.dictionary.value) (λ word. standing_of word docs)
+  pub bits : HasBits index.frequent (words_in index.dictionary.value) docs
   pub short : AreShort docs
   pub few : length docs < 2 ^ 32
+
+-- the word has this number in the index's dictionary
+abbrev pub IsNumberOf : Index → ℕ → Word → Type 0
+IsNumberOf index number word = number ≡ number_in (words_in index.dictionary.value) word
+
+-- the places are some of the first documents, and the number is a word's
+pub record StandIn (index : Index) (places : List ℕ) (number : ℕ) : Type 0 where
+  pub docs : List Doc
+  pub test : Doc → Bool
+  pub word : Word
+  pub front : ℕ
+  pub indexes : Indexes index docs
+  pub places_are : places ≡ places_where test (take front docs)
+  pub number_is : IsNumberOf index number word
 
 -- the shard is the one with this number, of so many, of these documents
 pub record StandsFor (shard : Shard) (docs : List Doc) (shards number : ℕ) : Type 0 where

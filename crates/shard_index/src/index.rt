@@ -11,10 +11,12 @@ ghost use Rattle.shard_index.specs.Counting.{counts_of, DifferentWords};
 ghost use Rattle.shard_index.specs.Places.{has_one, has_word, holds_in, places_where, standing_of};
 ghost use Rattle.shard_index.specs.Scored.{AreScored, HasRoomIn};
 ghost use Rattle.shard_index.specs.Selections.{Selects};
-ghost use Rattle.shard_index.specs.Standing.{HasRoom, Indexes};
+ghost use Rattle.shard_index.specs.Standing.{HasRoom, Indexes, IsNumberOf, StandIn};
 
 use crate::best::ascend;
+use crate::bits::narrow_by_bits;
 use crate::counts::Counts;
+use crate::frequent::Frequent;
 use crate::front::below;
 use crate::hits::hits;
 use crate::leaves::{is_long_choice, two_words};
@@ -42,6 +44,8 @@ pub struct Index {
     ascending: bool,
     dictionary: Arc<Dictionary, Global>,
     places: Sorted,
+    /// The words that stand in many of the documents, with their bits.
+    frequent: Frequent,
 }
 
 impl Index {
@@ -57,6 +61,7 @@ impl Index {
         ensures { IfOk result (λ index. Indexes index (map (doc_by (words_in dictionary.now.value)) (lent docs.now))) }
     {
         let places = Sorted::of(alloc, dictionary, docs)?;
+        let frequent = Frequent::of(alloc, &places, dictionary.len(), docs.len())?;
         let ids = ids_of(alloc, docs)?;
         let ascending = ascend(ids.as_slice());
         Ok(Index {
@@ -64,6 +69,7 @@ impl Index {
             ascending,
             dictionary: Arc::try_clone(dictionary)?,
             places,
+            frequent,
         })
     }
 
@@ -222,14 +228,38 @@ impl Index {
         ensures { (docs : List Doc) → Indexes self.now docs → IfOk result (λ selection. Selects selection
             (λ doc. has_word first.now doc && (if wanted then has_word second.now doc else not (has_word second.now doc))) (take front docs)) }
     {
-        let at_first = self.places_with(front, first);
-        let at_second = self.places_with(front, second);
+        let first = self.dictionary.find(first);
+        let second = self.dictionary.find(second);
+        let at_first = self.places_of(front, first);
+        let at_second = self.places_of(front, second);
         if wanted && at_second.len() < at_first.len() {
-            let kept = narrow(alloc, at_second, at_first, true)?;
+            let kept = self.narrow_by(alloc, at_second, at_first, first, true)?;
             Ok(Selection::Those(Places::Made(kept)))
         } else {
-            let kept = narrow(alloc, at_first, at_second, wanted)?;
+            let kept = self.narrow_by(alloc, at_first, at_second, second, wanted)?;
             Ok(Selection::Those(Places::Made(kept)))
+        }
+    }
+
+    /// The places that are among others, those of the word with this number, or, where these aren't wanted, that are not. By the word's
+    /// bits, where it has some, the others aren't gone over.
+    fn narrow_by(
+        &self,
+        alloc: Global,
+        places: &[u32],
+        others: &[u32],
+        number: usize,
+        wanted: bool,
+    ) -> Result<Vec<u32>, AllocError>
+        requires { StandIn self.now places.now number }
+        ensures { (p : Doc → Bool) (word : Word) (front : ℕ) (docs : List Doc) → Indexes self.now docs → IsNumberOf self.now number word
+            → places.now ≡ places_where p (take front docs) → others.now ≡ places_where (has_word word) (take front docs)
+            → IfOk result (λ kept. kept.items
+            ≡ places_where (λ doc. p doc && (if wanted then has_word word doc else not (has_word word doc))) (take front docs)) }
+    {
+        match self.frequent.bits(number) {
+            Some(bits) => narrow_by_bits(alloc, places, bits, wanted),
+            None => narrow(alloc, places, others, wanted),
         }
     }
 
@@ -364,7 +394,8 @@ impl Index {
     ) -> Result<Vec<(u32, u64)>, AllocError>
         requires { HasRoomIn self.now front word.now weight scored.now }
         ensures { (docs : List Doc) (test : Doc → Bool) (score : Doc → ℕ) → Indexes self.now docs → AreScored scored.now test score (take front docs)
-            → IfOk result (λ more. AreScored more.items (λ doc. test doc || has_word word.now doc) (λ doc. score doc + times_in doc word.now * weight) (take front docs)) }
+            → IfOk result (λ more. AreScored more.items (λ doc. test doc || has_word word.now doc)
+            (λ doc. score doc + times_in doc word.now * weight) (take front docs)) }
     {
         let (places, times) = self.standing(word);
         let places = below(places, front);
@@ -405,12 +436,21 @@ impl Index {
         add_at(totals, places, &times[..places.len()], weight);
     }
 
-    /// The places of the documents with a word, among the first. Where these are all, the list isn't looked at.
+    /// The places of the documents with a word, among the first.
     fn places_with(&self, front: usize, word: &Word) -> &[u32]
         requires { (docs : List Doc) × Indexes self.now docs }
         ensures { (docs : List Doc) → Indexes self.now docs → result.now ≡ places_where (has_word word.now) (take front docs) }
     {
-        let places = self.standing(word).0;
+        self.places_of(front, self.dictionary.find(word))
+    }
+
+    /// The same for a word by its number. Where the first are all documents, the list isn't looked at.
+    fn places_of(&self, front: usize, number: usize) -> &[u32]
+        requires { (docs : List Doc) × Indexes self.now docs }
+        ensures { (docs : List Doc) (word : Word) → Indexes self.now docs → IsNumberOf self.now number word
+            → result.now ≡ places_where (has_word word) (take front docs) }
+    {
+        let places = self.places.of_number(number).0;
         if front == self.ids.len() {
             return places;
         }

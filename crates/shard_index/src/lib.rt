@@ -28,7 +28,9 @@ pub use shard::Shard;
 pub use shards::Shards;
 
 mod best;
+mod bits;
 mod counts;
+mod frequent;
 mod front;
 mod hits;
 mod index;

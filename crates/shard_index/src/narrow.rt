@@ -119,7 +119,7 @@ pub fn is_at(places: &[u32], at: usize, place: u32) -> bool
     at < places.len() && places[at] == place
 }
 
-fn is_kept(wanted: bool, has: bool) -> bool
+pub fn is_kept(wanted: bool, has: bool) -> bool
     ensures { result ≡ (if wanted then has else not has) }
 {
     if wanted { has } else { !has }

@@ -24,5 +24,6 @@ mod dictionary;
 mod doc_table;
 mod hints;
 mod numbered;
+mod parted;
 mod repeated;
 mod sorted;
