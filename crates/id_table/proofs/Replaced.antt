@@ -1,12 +1,14 @@
 -- A cell holds another value of the same id.
-use Rattle.std.proofs.Common.{◌≡◌, ◌≢◌, ℕ, ◌<◌, ◌≤◌, Bool, true, false, cond, nat_eq, List, [], ◌∷◌, ◌++◌, Option, Some, None, length, get_or, set, zero, suc, refl, sym, ap, subst, ◌∙◌, arith, length-set, IsPermutation, eq-eqb, ne_eqb}
+use Rattle.std.proofs.Common.{◌≡◌, ◌≢◌, ℕ, ◌<◌, ◌≤◌, Bool, true, false, cond, nat_eq, List, [], ◌∷◌, ◌++◌, Option, Some, None, length, get_or, set, zero, suc, refl, sym, ap, subst, ◌∙◌, arith, length-set, IsPermutation, eq-eqb, ne_eqb, ⊎_elim}
 use Rattle.std.specs.Prelude.{option_map}
+use Rattle.std.proofs.lemmas.Bool.{cases_eq}
+use Rattle.std.proofs.lemmas.List.{set-set}
 use Rattle.std.proofs.lemmas.List.Sorted.{IsPermutation-sym, IsPermutation-trans}
 use Rattle.std.proofs.lemmas.List.Sums.{sum_by-cons}
 use Rattle.std.proofs.lemmas.Option.{none-some, same_Some}
 use Rattle.id_table.specs.declared.cell.Cell.{Cell}
 use Rattle.id_table.specs.Cells.{id_at, id_of, mark_at, mark_of, counted, pair_of, held, filled, pairs_of, renumbered, replaced}
-use Rattle.id_table.specs.Pairs.{has_id, value_of, with_number, AreDistinct}
+use Rattle.id_table.specs.Pairs.{has_id, number_of, value_of, with_number, AreDistinct, IsRenumbered}
 use Rattle.id_table.specs.Probed.{IsProbed, IsReached, EndsLook}
 use Rattle.id_table.specs.Ring.{distance, home_of}
 use Rattle.id_table.specs.Table.{IsTable}
@@ -141,17 +143,15 @@ module _ {X : Type 0} where
       later : cell.id ≢ other.id → with_number ((other.id, other.value) ∷ pairs_of cells) cell.id number ≡ (other.id, other.value) ∷ with_number (pairs_of cells) cell.id number
       later ne = rw (ne_eqb cell.id other.id ne) refl
 
-  -- an id has another number in the first half of its value
-  pub record HasNumber (old new : List (ℕ × (ℕ × X))) (id number : ℕ) : Type 0 where
-    pub list : new ≡ with_number old id number
-    pub values : (q : ℕ) → value_of new q ≡ cond (nat_eq q id) (option_map (λ (value : ℕ × X). (number, value.1)) (value_of old q)) (value_of old q)
-    pub same : (value : ℕ × X) → value_of old id ≡ Some value → IsPermutation ((id, value) ∷ new) ((id, (number, value.1)) ∷ old)
-    pub len : length new ≡ length old
-    pub distinct : AreDistinct new
+  -- a number that is written where it is
+  pub written_there : (cells : List (Option (Cell (ℕ × X)))) (at number : ℕ) (own cell : Cell (ℕ × X)) → get_or cells at None ≡ Some own → get_or cells at None ≡ Some cell
+      → set cells at (Some (renumbered own number)) ≡ replaced cells at (renumbered cell number)
+  written_there cells at number own cell here is =
+      ap (λ (c : Cell (ℕ × X)). set cells at (Some (renumbered c number))) (same_Some own cell (sym here ∙ is)) ∙ sym (set-set cells at None (Some (renumbered cell number)))
 
   module _ (bits len : ℕ) (cells : List (Option (Cell (ℕ × X)))) (pairs : List (ℕ × (ℕ × X))) (table : IsTable bits len cells) (view : pairs_of cells ≡ pairs) where
     pub number_set : (id at number : ℕ) (cell : Cell (ℕ × X)) → EndsLook bits cells id at → get_or cells at None ≡ Some cell → IsProbed bits cells
-        → HasNumber pairs (pairs_of (replaced cells at (renumbered cell number))) id number
+        → IsRenumbered pairs (pairs_of (replaced cells at (renumbered cell number))) id number
     number_set id at number cell ends was probed =
         let new : Cell (ℕ × X) = renumbered cell number in
         let rest : List (ℕ × (ℕ × X)) = pairs_of (set cells at None) in
@@ -179,7 +179,7 @@ module _ {X : Type 0} where
               subst (λ (i : ℕ). value_of now i ≡ cond (nat_eq i id) (renamed (value_of pairs i)) (value_of pairs i)) (sym e)
               (plain id ∙ ap (λ (o : Option (ℕ × X)). cond (nat_eq id id) o (value_of pairs id)) (sym (ap renamed found))))
               (λ ne. plain q ∙ rw (ne_eqb q id ne) refl);
-          same = λ value is.
+          pairs = λ value is.
               let e : cell.value ≡ value = same_Some _ _ (sym found ∙ is) in
               subst (λ (v : ℕ × X). IsPermutation ((id, v) ∷ now) ((id, (number, v.1)) ∷ pairs)) e (exchanged (id, cell.value) (id, new.value) pairs now rest less more);
           len = omega (arith, added_len rest now id new.value more, added_len rest pairs id cell.value less);
@@ -208,12 +208,43 @@ module _ {X : Type 0} where
     pub held_mark : (id at : ℕ) → EndsLook bits cells id at → value_of pairs id ≢ None → 0 < mark_at cells at
     held_mark id at ends held = omega (arith, ap mark_of (held_cell id at ends held).is)
 
+    -- the number that the cell has at which a look ended
+    module _ (id at old : ℕ) (ends : EndsLook bits cells id at) where
+      pub had_number : 0 < mark_at cells at → ((cell : Cell (ℕ × X)) → get_or cells at None ≡ Some cell → cell.value.0 ≡ old) → number_of pairs id ≡ Some old
+      had_number some had =
+          let there = filled_or (get_or cells at None) (λ empty. omega (arith, some, empty)) in
+          ap (option_map (λ (value : ℕ × X). value.0)) (found_there bits len cells pairs table view id at there.cell ends there.is) ∙ ap Some (had there.cell there.is)
+
+      pub other_number : ((cell : Cell (ℕ × X)) → get_or cells at None ≡ Some cell → cell.value.0 ≢ old) → number_of pairs id ≢ Some old
+      other_number other is =
+          ⊎_elim
+          (λ empty. none-some old (sym (ap (option_map (λ (value : ℕ × X). value.0)) (missed_there bits len cells pairs table view id at ends empty)) ∙ is))
+          (λ some. let there = filled_or (get_or cells at None) some in
+          other there.cell there.is
+          (same_Some _ _ (sym (ap (option_map (λ (value : ℕ × X). value.0)) (found_there bits len cells pairs table view id at there.cell ends there.is)) ∙ is)))
+          (cases_eq (mark_at cells at) 0)
+
+    pub none_number : (id old : ℕ) → len ≡ 0 → number_of pairs id ≢ Some old
+    none_number id old empty is = none-some old (sym (ap (option_map (λ (value : ℕ × X). value.0)) (zero_there bits len cells pairs table view id empty)) ∙ is)
+
+    pub number_held : (id old : ℕ) → number_of pairs id ≡ Some old → value_of pairs id ≢ None
+    number_held id old is none = none-some old (sym (ap (option_map (λ (value : ℕ × X). value.0)) none) ∙ is)
+
+    -- a cell that may have had the number
+    pub table_where : (new : List (Option (Cell (ℕ × X)))) (id at number : ℕ) (yes : Bool) → EndsLook bits cells id at → (yes ≡ true → 0 < mark_at cells at)
+        → (yes ≡ true → (cell : Cell (ℕ × X)) → get_or cells at None ≡ Some cell → new ≡ replaced cells at (renumbered cell number)) → (yes ≡ false → new ≡ cells)
+        → IsTable bits len new
+    table_where new id at number true ends some is same =
+        let there = filled_or (get_or cells at None) (λ empty. omega (arith, some refl, empty)) in
+        subst (λ (cs : List (Option (Cell (ℕ × X)))). IsTable bits len cs) (sym (is refl there.cell there.is)) (number_table id at number there.cell ends there.is)
+    table_where new id at number false ends some is same = subst (λ (cs : List (Option (Cell (ℕ × X)))). IsTable bits len cs) (sym (same refl)) table
+
     module _ (new : List (Option (Cell (ℕ × X)))) (id at number : ℕ) (ends : EndsLook bits cells id at) (held : value_of pairs id ≢ None)
         (is : (cell : Cell (ℕ × X)) → get_or cells at None ≡ Some cell → new ≡ replaced cells at (renumbered cell number)) where
-      pub number_is : HasNumber pairs (pairs_of new) id number
+      pub number_is : IsRenumbered pairs (pairs_of new) id number
       number_is =
           let there = held_cell id at ends held in
-          subst (λ (cs : List (Option (Cell (ℕ × X)))). HasNumber pairs (pairs_of cs) id number) (sym (is there.cell there.is))
+          subst (λ (cs : List (Option (Cell (ℕ × X)))). IsRenumbered pairs (pairs_of cs) id number) (sym (is there.cell there.is))
           (number_set id at number there.cell ends there.is (table.probed (some_cells id held)))
 
       pub table_is : IsTable bits len new

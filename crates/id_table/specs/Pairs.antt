@@ -1,5 +1,5 @@
 -- What contracts see of a table: a list of pairs, each of an id and its value.
-use Rattle.std.specs.Prelude.{ℕ, ◌≤◌, ◌==◌, Bool, List, [], ◌∷◌, Option, Some, None, count_by, if◌then◌else◌}
+use Rattle.std.specs.Prelude.{◌≡◌, ℕ, ◌≤◌, ◌==◌, Bool, List, [], ◌∷◌, Option, Some, None, IsPermutation, count_by, length, option_map, if◌then◌else◌}
 
 module _ {V : Type 0} where
   -- the value of an id
@@ -20,3 +20,15 @@ module _ {X : Type 0} where
   abbrev pub with_number : List (ℕ × (ℕ × X)) → ℕ → ℕ → List (ℕ × (ℕ × X))
   with_number [] id number = []
   with_number (pair ∷ pairs) id number = if id == pair.0 then (pair.0, (number, pair.1.1)) ∷ pairs else pair ∷ with_number pairs id number
+
+  -- the number in the first half of an id's value
+  abbrev pub number_of : List (ℕ × (ℕ × X)) → ℕ → Option ℕ
+  number_of pairs id = option_map (λ (value : ℕ × X). value.0) (value_of pairs id)
+
+  -- an id has another number there, and nothing else has changed
+  pub record IsRenumbered (old new : List (ℕ × (ℕ × X))) (id number : ℕ) : Type 0 where
+    pub list : new ≡ with_number old id number
+    pub values : (q : ℕ) → value_of new q ≡ (if q == id then option_map (λ (value : ℕ × X). (number, value.1)) (value_of old q) else value_of old q)
+    pub pairs : (value : ℕ × X) → value_of old id ≡ Some value → IsPermutation ((id, value) ∷ new) ((id, (number, value.1)) ∷ old)
+    pub len : length new ≡ length old
+    pub distinct : AreDistinct new

@@ -3,6 +3,6 @@
 /// An id and what it leads to.
 #[derive(Debug, Drop)]
 pub struct Cell<V> {
-    pub id: u64,
     pub value: V,
+    pub id: u64,
 }

@@ -3,9 +3,11 @@
 //! ```text
 //!   an id --home--> a cell, and from there cell after cell, round the end
 //!
-//!   cell      0     1     2     3     4     5     6     7
-//!   holds     c     -     -     a     b     -     -     d          home of a, b: 3      of d, c: 7
+//!   cell      0     1     2     3     4     5    ..    21    22    23
+//!   holds     c     -     -     a     b     -    ..     -     -     d          home of a, b: 3      of d, c: 23
 //! ```
+//!
+//! There are 24 cells at first, and twice as many each time that there is no room for one more.
 //!
 //! No cell between an id's home and its own is empty, so a look for an id ends at an empty cell. A removal moves later
 //! cells into the gap where their ids' homes allow it, and leaves nothing behind.

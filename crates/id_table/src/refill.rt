@@ -1,5 +1,5 @@
 //! More cells, with what the old ones held.
-ghost use Rattle.std.specs.Prelude.{◌≡◌, ℕ, ◌+◌, ◌*◌, ◌^◌, ◌<◌, ◌≤◌, [], ◌++◌, IsPermutation, None, length, replicate, IfOk, OnOk, OnErr};
+ghost use Rattle.std.specs.Prelude.{◌≡◌, ℕ, ◌+◌, ◌*◌, ◌^◌, ◌<◌, ◌≤◌, [], ◌++◌, IsPermutation, None, length, nat_eq, replicate, IfOk, OnOk, OnErr, if◌then◌else◌};
 ghost use Rattle.id_table.specs.Cells.{filled, held, id_of, mark_of, pair_of, pairs_of};
 ghost use Rattle.id_table.specs.Pairs.{has_id};
 ghost use Rattle.id_table.specs.Probed.{IsProbed, IsOnce};
@@ -65,6 +65,7 @@ fn pour<V>(cells: &mut [Option<Cell<V>>], bits: u32, mut old: Vec<Option<Cell<V>
 // The number of bits of the next size: twice the cells, or the first ones.
 fn more_bits<V>(cells: &[Option<Cell<V>>], bits: u32, len: usize) -> u32
     requires { IsTable bits len cells.now }
+    ensures next { result ≡ (if nat_eq (length cells.now) 0 then 3 else bits + 1) }
     ensures some { 2 < result }
     ensures room { len + 1 ≤ 2 * 2 ^ result }
 {
@@ -91,7 +92,7 @@ fn grow<V>(alloc: Global, cells: &mut Vec<Option<Cell<V>>>, bits: u32) -> Result
     Ok(())
 }
 
-// Sees to it that there is room for one more. A call that finds no memory leaves all as it was.
+// Sees to it that there is room for one more. A call that finds no memory leaves all as it was, and so does one that finds room.
 pub(crate) fn make_room<V>(
     alloc: Global,
     cells: &mut Vec<Option<Cell<V>>>,
@@ -99,6 +100,7 @@ pub(crate) fn make_room<V>(
     len: usize,
 ) -> Result<(), AllocError>
     requires { IsTable bits.old len cells.old.items }
+    ensures still { 3 * (len + 1) ≤ 2 * length cells.old.items → cells.new ≡ cells.old }
     ensures room { OnOk result (HasRoom bits.new len cells.new.items) }
     ensures pairs { OnOk result (IsPermutation (pairs_of cells.new.items) (pairs_of cells.old.items)) }
     ensures bits { OnErr result (bits.new ≡ bits.old) }

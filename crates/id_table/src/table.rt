@@ -1,5 +1,5 @@
 //! The table from ids to values.
-ghost use Rattle.std.specs.Prelude.{◌≡◌, ℕ, ◌<◌, ◌++◌, None, Some, length, slice_index_or, IfOk, OnOk};
+ghost use Rattle.std.specs.Prelude.{◌≡◌, ◌≢◌, ℕ, ◌<◌, ◌++◌, true, false, None, Some, length, slice_index_or, IfOk, OnOk};
 ghost use Rattle.std.specs.List.{flat_map};
 ghost use Rattle.id_table.specs.Cells.{id_list_of, mark_at, pairs_of, renumbered, replaced};
 
@@ -84,6 +84,31 @@ fn renumber<X>(cells: &mut [Option<Cell<(u64, X)>>], at: usize, number: u64)
         value: (number, rest),
     };
     put(cells, at, Some(new));
+}
+
+// The same where it has a certain number there, and whether it has. The number is written where it is.
+fn renumber_where<X>(
+    cells: &mut Vec<Option<Cell<(u64, X)>>>,
+    at: usize,
+    before: u64,
+    number: u64,
+) -> bool
+    requires within { at < length cells.old.items }
+    ensures filled { result ≡ true → 0 < mark_at cells.old.items at }
+    ensures had { result ≡ true → (cell : Cell (ℕ × X)) → slice_index_or cells.old.items at None ≡ Some cell → cell.value.0 ≡ before }
+    ensures set { result ≡ true → (cell : Cell (ℕ × X)) → slice_index_or cells.old.items at None ≡ Some cell
+        → cells.new.items ≡ replaced cells.old.items at (renumbered cell number) }
+    ensures other { result ≡ false → (cell : Cell (ℕ × X)) → slice_index_or cells.old.items at None ≡ Some cell → cell.value.0 ≢ before }
+    ensures same { result ≡ false → cells.new.items ≡ cells.old.items }
+{
+    let Some(cell) = &mut cells[at] else {
+        return false;
+    };
+    if cell.value.0 != before {
+        return false;
+    }
+    cell.value.0 = number;
+    true
 }
 
 impl<V> IdTable<V> {
@@ -214,21 +239,30 @@ impl<V> IdTable<V> {
 }
 
 impl<X> IdTable<(u64, X)> {
-    ghost use Rattle.std.specs.Prelude.{◌≡◌, ◌≢◌, ℕ, ◌∷◌, ◌==◌, length, IsPermutation, None, Some, option_map, if◌then◌else◌};
-    ghost use Rattle.id_table.specs.Pairs.{value_of, with_number, AreDistinct};
+    ghost use Rattle.std.specs.Prelude.{◌≡◌, ◌≢◌, true, false, None, Some};
+    ghost use Rattle.id_table.specs.Pairs.{number_of, value_of, IsRenumbered};
 
     /// Gives an id that is held another number in the first half of its value.
     pub fn set(&mut self, id: u64, number: u64)
         requires held { value_of self.old id ≢ None }
-        ensures list { self.new ≡ with_number self.old id number }
-        ensures values { (q : ℕ) → value_of self.new q
-            ≡ (if q == id then option_map (λ (value : ℕ × X). (number, value.1)) (value_of self.old q) else value_of self.old q) }
-        ensures pairs { (value : ℕ × X) → value_of self.old id ≡ Some value
-            → IsPermutation ((id, value) ∷ self.new) ((id, (number, value.1)) ∷ self.old) }
-        ensures len { length self.new ≡ length self.old }
-        ensures distinct { AreDistinct self.new }
+        ensures { IsRenumbered self.old self.new id number }
     {
         let at = look(&self.cells, self.bits, id);
         renumber(&mut self.cells, at, number);
+    }
+
+    /// The same where the id is held with this number there, and whether it is. Else nothing changes.
+    pub fn set_where(&mut self, id: u64, before: u64, number: u64) -> bool
+        ensures held { result ≡ true → number_of self.old id ≡ Some before }
+        ensures set { result ≡ true → IsRenumbered self.old self.new id number }
+        ensures other { result ≡ false → number_of self.old id ≢ Some before }
+        ensures same { result ≡ false → self.new ≡ self.old }
+    {
+        let len = self.len;
+        if len == 0 {
+            return false;
+        }
+        let at = look(&self.cells, self.bits, id);
+        renumber_where(&mut self.cells, at, before, number)
     }
 }

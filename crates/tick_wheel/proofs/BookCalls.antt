@@ -11,7 +11,7 @@ use Rattle.std.proofs.lemmas.Bool.{cases_eq}
 use Rattle.std.proofs.lemmas.Grind.{common_steps}
 use Rattle.std.proofs.lemmas.Option.{none-some, same_Some}
 use Rattle.id_table.specs.Pairs.{value_of, with_number, AreDistinct}
-use Rattle.timer_slots.specs.Seen.{SlotsSeen, id_in, list_of, spot_at, tail_at, tail_of, times}
+use Rattle.timer_slots.specs.Seen.{SlotsSeen, id_in, list_of, next_of, spot_at, tail_at, tail_of, times}
 use Rattle.timer_slots.specs.Steps.{Puts, Moves}
 use Rattle.tick_wheel.specs.Book.{IsBook, IsDueFrom, IsGone, IsPut, key_list, key_of_value, key_option, keys_from, spot_of}
 use Rattle.tick_wheel.specs.Held.{Held, held_in, held_of, seen_pairs}
@@ -51,10 +51,10 @@ next : (spot n : ℕ) → spot + 1 + n ≡ spot + suc n
 next spot n = omega arith
 
 -- a spot is its slot and its place
-spot_slot : (spot slot place : ℕ) → place < 4294967296 → spot ≡ slot * 4294967296 + place → spot / 4294967296 ≡ slot
+spot_slot : (spot slot place : ℕ) → place < 18014398509481984 → spot ≡ slot * 18014398509481984 + place → spot / 18014398509481984 ≡ slot
 spot_slot spot slot place low is = omega (arith, low, is)
 
-spot_parts : (spot slot : ℕ) → spot / 4294967296 ≡ slot → spot ≡ slot * 4294967296 + spot % 4294967296
+spot_parts : (spot slot : ℕ) → spot / 18014398509481984 ≡ slot → spot ≡ slot * 18014398509481984 + spot % 18014398509481984
 spot_parts spot slot is = omega (arith, is)
 
 -- where an id is seen at a spot, the slot's list has it there
@@ -64,6 +64,10 @@ in_list slots q id is =
       | true ↦ λ e. e
       | false ↦ λ e. absurd (none-some id e)
     ] is
+
+none_where : (o : Option ℕ) → ((x : ℕ) → o ≡ Some x → ⊥) → o ≡ None
+none_where None never = refl
+none_where (Some x) never = absurd (never x refl)
 
 module _ {T : Type 0} where
   -- the same ids at the same spots
@@ -127,7 +131,7 @@ module _ {T : Type 0} where
     }
 
     pub gone_was : (slot : ℕ) × (held_at (seen_pairs old) id ≡ Some (held_in slot value.1))
-    gone_was = (value.0 / 4294967296, value_held old id value was)
+    gone_was = (value.0 / 18014398509481984, value_held old id value was)
 
   pub gone_is : (old new : List (ℕ × (ℕ × Timed T))) (id : ℕ) → ((q : ℕ) → value_of new q ≡ cond (nat_eq q id) None (value_of old q))
       → IsGone (seen_pairs old) (seen_pairs new) id
@@ -166,15 +170,15 @@ module _ {T : Type 0} where
       }
 
       -- within its slot
-      pub moved_seen : slot ≡ from / 4294967296 → seen_pairs new ≡ seen_pairs old
+      pub moved_seen : slot ≡ from / 18014398509481984 → seen_pairs new ≡ seen_pairs old
       moved_seen same =
           ap seen_pairs list
           ∙ seen_number old id to (λ value is.
           let own : moved_value.0 ≡ value = same_Some moved_value.0 value (sym moved_value.1 ∙ is) in
-          ap (λ (v : ℕ × Timed T). v.0 / 4294967296) (sym own) ∙ (ap (λ (n : ℕ). n / 4294967296) moved_value.2 ∙ (sym same ∙ sym moves.slot_is)))
+          ap (λ (v : ℕ × Timed T). v.0 / 18014398509481984) (sym own) ∙ (ap (λ (n : ℕ). n / 18014398509481984) moved_value.2 ∙ (sym same ∙ sym moves.slot_is)))
 
       -- into the slot where it belongs
-      pub moved_anew : (first tick : ℕ) (value : ℕ × Timed T) → from / 4294967296 ≡ first → value_of old id ≡ Some value → slot ≡ slot_for tick value.1.due
+      pub moved_anew : (first tick : ℕ) (value : ℕ × Timed T) → from / 18014398509481984 ≡ first → value_of old id ≡ Some value → slot ≡ slot_for tick value.1.due
           → PlacesAnew (seen_pairs old) (seen_pairs new) first tick
       moved_anew first tick value was_in own is =
           let v : ℕ × Timed T = moved_value.0 in
@@ -184,7 +188,7 @@ module _ {T : Type 0} where
             id = id;
             held = held_of v;
             was = value_held old id v moved_value.1;
-            slot_is = ap (λ (n : ℕ). n / 4294967296) moved_value.2 ∙ was_in;
+            slot_is = ap (λ (n : ℕ). n / 18014398509481984) moved_value.2 ∙ was_in;
             at = λ q. ⊎_elim
                 (λ e.
                 ap (held_at (seen_pairs new)) (sym e)
@@ -200,14 +204,34 @@ module _ {T : Type 0} where
                 omega (arith, sum, now, same);
           }
 
-  -- the last id in a list is held where the table has it there
-  pub stands_is : (pairs : List (ℕ × (ℕ × Timed T))) (slots : SlotsSeen) (id spot count : ℕ) → IsBook pairs slots → spot_of pairs id ≡ Some spot
-      → spot ≡ tail_at slots (count - 1) → count ≡ length slots.late → IsSome (spot_at slots (tail_of slots))
-  stands_is pairs slots id spot count book held tail count_is =
-      subst (λ s. IsSome (spot_at slots s)) (tail ∙ ap (λ n. tail_at slots (n - 1)) count_is) (to_some (spot_at slots spot) id (book.linked.there id spot held))
+  -- the last id in the list of the spot that is cleared next
+  module _ (pairs : List (ℕ × (ℕ × Timed T))) (slots : SlotsSeen) (id from count : ℕ) (book : IsBook pairs slots) (from_is : from ≡ tail_at slots (count - 1))
+      (count_is : count ≡ length slots.late) where
+    tail_is : tail_of slots ≡ from
+    tail_is = sym (from_is ∙ ap (λ n. tail_at slots (n - 1)) count_is)
+
+    -- is held where the table has it there
+    module _ (held : spot_of pairs id ≡ Some from) where
+      tail_there : spot_at slots (tail_of slots) ≡ Some id
+      tail_there = ap (spot_at slots) tail_is ∙ book.linked.there id from held
+
+      pub tail_held : IsSome (spot_at slots (tail_of slots))
+      tail_held = to_some (spot_at slots (tail_of slots)) id tail_there
+
+      pub tail_moves : (new : SlotsSeen) (to : ℕ) → to ≡ get_or slots.late (count - 1) 0
+          → ((own : ℕ) → spot_at slots (tail_of slots) ≡ Some own → Moves slots new (tail_of slots / 18014398509481984) own (tail_of slots) (next_of slots))
+          → Moves slots new (from / 18014398509481984) id from to
+      tail_moves new to to_is moves =
+          subst (λ t. Moves slots new (from / 18014398509481984) id from t) (sym (to_is ∙ ap (λ n. get_or slots.late (n - 1) 0) count_is))
+          (subst (λ f. Moves slots new (f / 18014398509481984) id f (next_of slots)) tail_is (moves id tail_there))
+
+    -- and has left where it hasn't
+    pub tail_left : spot_of pairs id ≢ Some from → ((own : ℕ) → spot_at slots from ≡ Some own → own ≡ id) → spot_at slots (tail_of slots) ≡ None
+    tail_left other own =
+        ap (spot_at slots) tail_is ∙ none_where (spot_at slots from) (λ x is. other (book.linked.back id from (is ∙ ap Some (own x is))))
 
   -- what is last in a slot
-  pub left_of : (pairs : List (ℕ × (ℕ × Timed T))) (slots : SlotsSeen) (slot : ℕ) → IsBook pairs slots → ((q id : ℕ) → spot_at slots q ≡ Some id → q / 4294967296 ≢ slot)
+  pub left_of : (pairs : List (ℕ × (ℕ × Timed T))) (slots : SlotsSeen) (slot : ℕ) → IsBook pairs slots → ((q id : ℕ) → spot_at slots q ≡ Some id → q / 18014398509481984 ≢ slot)
       → IsLeft slot (seen_pairs pairs)
   left_of pairs slots slot book none id held is same =
       let v = held_has pairs id held is in
@@ -219,10 +243,10 @@ module _ {T : Type 0} where
       is_not_none (value_of pairs id) v.0 v.1
 
   pub found_due : (pairs : List (ℕ × (ℕ × Timed T))) (slots : SlotsSeen) (id spot slot tick : ℕ) (value : ℕ × Timed T) → IsBook pairs slots → spot_at slots spot ≡ Some id
-      → spot / 4294967296 ≡ slot → value_of pairs id ≡ Some value → IsDueFrom (seen_pairs pairs) slot tick → tick ≤ value.1.due
+      → spot / 18014398509481984 ≡ slot → value_of pairs id ≡ Some value → IsDueFrom (seen_pairs pairs) slot tick → tick ≤ value.1.due
   found_due pairs slots id spot slot tick value book is in_slot own due =
       let at : value.0 ≡ spot = same_Some value.0 spot (sym (value_spot pairs id value own) ∙ book.linked.back id spot is) in
-      due id (held_of value) (value_held pairs id value own) (ap (λ (n : ℕ). n / 4294967296) at ∙ in_slot)
+      due id (held_of value) (value_held pairs id value own) (ap (λ (n : ℕ). n / 18014398509481984) at ∙ in_slot)
 
   -- the keys of ids at spots one behind the other
   keys_step : (pairs : List (ℕ × (ℕ × Timed T))) (spot : ℕ) (ids : List ℕ) (n : ℕ) → n < length ids
@@ -263,7 +287,7 @@ module _ {T : Type 0} where
 
   -- the keys of a slot
   module _ (pairs : List (ℕ × (ℕ × Timed T))) (slots : SlotsSeen) (slot : ℕ) (ids : List ℕ) (book : IsBook pairs slots)
-      (list : ids ≡ list_of slots.lists slot) (short : length ids < 4294967296) where
+      (list : ids ≡ list_of slots.lists slot) (short : length ids < 18014398509481984) where
     key_held : (spot : ℕ) (o : Option (ℕ × Timed T)) (id : ℕ) (key : ℕ × ℕ) → key_of_value spot id o ≡ Some key
         → (v : ℕ × Timed T) × (o ≡ Some v) × ((v.0 ≡ spot) × ((v.1.order ≡ key.0) × (id ≡ key.1)))
     key_held spot None id key is = absurd (none-some key is)
@@ -274,28 +298,28 @@ module _ {T : Type 0} where
         (λ ne. absurd (none-some key (sym (at_no v.0 spot (Some (v.1.order, id)) None ne) ∙ is)))
         (cases_eq v.0 spot)
 
-    stands_in : (q id : ℕ) → spot_at slots q ≡ Some id → q / 4294967296 ≡ slot → slice_get ids (q % 4294967296) ≡ Some id
+    stands_in : (q id : ℕ) → spot_at slots q ≡ Some id → q / 18014398509481984 ≡ slot → slice_get ids (q % 18014398509481984) ≡ Some id
     stands_in q id is same =
-        ap (λ (zs : List ℕ). slice_get zs (q % 4294967296)) (list ∙ ap (list_of slots.lists) (sym same)) ∙ in_list slots q id is
+        ap (λ (zs : List ℕ). slice_get zs (q % 18014398509481984)) (list ∙ ap (list_of slots.lists) (sym same)) ∙ in_list slots q id is
 
-    pub listed : (keys : List (ℕ × ℕ)) → keys ≡ keys_from pairs (slot * 4294967296) ids → ListsIds (seen_pairs pairs) slot keys
+    pub listed : (keys : List (ℕ × ℕ)) → keys ≡ keys_from pairs (slot * 18014398509481984) ids → ListsIds (seen_pairs pairs) slot keys
     listed keys is = record {
       each = λ g c.
-          let r = keys_to pairs (slot * 4294967296) ids g (subst (λ (ks : List (ℕ × ℕ)). Contains ks g) is c) in
+          let r = keys_to pairs (slot * 18014398509481984) ids g (subst (λ (ks : List (ℕ × ℕ)). Contains ks g) is c) in
           let id : ℕ = get_or ids r.0 0 in
-          let spot : ℕ = slot * 4294967296 + r.0 in
+          let spot : ℕ = slot * 18014398509481984 + r.0 in
           let v = key_held spot (value_of pairs id) id g (option_from (key_of_value spot id (value_of pairs id)) g r.2) in
           let own : held_at (seen_pairs pairs) g.1 ≡ Some (held_of v.0) = ap (held_at (seen_pairs pairs)) (sym v.2.1.1) ∙ value_held pairs id v.0 v.1 in
           (held_of v.0, own, spot_slot v.0.0 slot r.0 (omega (arith, r.1, short)) v.2.0, v.2.1.0);
       all = λ id held at same.
           let v = held_has pairs id held at in
-          let in_slot : v.0.0 / 4294967296 ≡ slot = ap (λ (h : Held T). h.slot) v.2 ∙ same in
+          let in_slot : v.0.0 / 18014398509481984 ≡ slot = ap (λ (h : Held T). h.slot) v.2 ∙ same in
           let there = stands_in v.0.0 id (book.linked.there id v.0.0 (value_spot pairs id v.0 v.1)) in_slot in
-          let spot : ℕ = slot * 4294967296 + v.0.0 % 4294967296 in
+          let spot : ℕ = slot * 18014398509481984 + v.0.0 % 18014398509481984 in
           let key : key_of_value spot id (value_of pairs id) ≡ Some (held.order, id) =
           ap (key_of_value spot id) v.1 ∙ (at_yes v.0.0 spot (Some (v.0.1.order, id)) None (spot_parts v.0.0 slot in_slot) ∙ ap (λ (h : Held T). Some (h.order, id)) v.2) in
           subst (λ (ks : List (ℕ × ℕ)). Contains ks (held.order, id)) (sym is)
-          (keys_at pairs (slot * 4294967296) ids (v.0.0 % 4294967296) id (held.order, id) there
+          (keys_at pairs (slot * 18014398509481984) ids (v.0.0 % 18014398509481984) id (held.order, id) there
           (option_into (key_of_value spot id (value_of pairs id)) (held.order, id) key));
     }
 

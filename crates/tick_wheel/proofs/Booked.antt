@@ -117,7 +117,7 @@ module _ {T : Type 0} where
 
   -- nothing of it is seen where the slot is the same
   pub seen_number : (pairs : List (ℕ × (ℕ × Timed T))) (id number : ℕ)
-      → ((value : ℕ × Timed T) → value_of pairs id ≡ Some value → value.0 / 4294967296 ≡ number / 4294967296)
+      → ((value : ℕ × Timed T) → value_of pairs id ≡ Some value → value.0 / 18014398509481984 ≡ number / 18014398509481984)
       → seen_pairs (with_number pairs id number) ≡ seen_pairs pairs
   seen_number [] id number same = refl
   seen_number (pair ∷ pairs) id number same =

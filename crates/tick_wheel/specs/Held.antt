@@ -16,7 +16,7 @@ module _ {T : Type 0} where
 
   -- a timer as it is seen at a spot
   abbrev pub held_of : ℕ × Timed T → Held T
-  held_of value = held_in (value.0 / 4294967296) value.1
+  held_of value = held_in (value.0 / 18014398509481984) value.1
 
   -- the pairs of a table, each of an id with its spot and its timer, as they are seen
   abbrev pub seen_pair : ℕ × (ℕ × Timed T) → ℕ × Held T

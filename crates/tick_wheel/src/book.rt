@@ -1,7 +1,6 @@
 //! The book: the timers by their ids in a table, their ids in the lists of the slots, and the count of the steps that a tick takes.
-ghost use Rattle.std.specs.Prelude.{◌≡◌, ◌+◌, ◌*◌, ◌<◌, ◌++◌, length, true, false, Some, None, IsSome, IfOk, IfErr, IfSome, IfNone, OnOk, OnErr};
-ghost use Rattle.timer_slots.specs.Seen.{spot_at, tail_of};
-ghost use Rattle.tick_wheel.specs.Book.{IsBook, IsDueFrom, IsGone, IsHeldAs, IsPut, key_list, key_option, keys_from, moves_of, spot_of};
+ghost use Rattle.std.specs.Prelude.{◌≡◌, ◌+◌, ◌*◌, ◌<◌, ◌++◌, length, true, false, Some, None, IfOk, IfErr, IfSome, IfNone, OnOk, OnErr};
+ghost use Rattle.tick_wheel.specs.Book.{IsBook, IsDueFrom, IsGone, IsHeldAs, IsPut, key_list, key_option, keys_from, moves_of};
 ghost use Rattle.tick_wheel.specs.Held.{seen_pairs};
 ghost use Rattle.tick_wheel.specs.Table.{held_at, IsLeft, PlacesAnew};
 
@@ -62,40 +61,23 @@ fn touch_all<T>(table: &mut IdTable<(u64, Timed<T>)>, ids: &[u64])
     }
 }
 
-// Touches the ids that may move as the spots that wait are cleared.
+// From how many ids on a table is too large for a processor's own cache, so that it pays to touch what is needed soon.
+const WORTH_TOUCHING: usize = 65536;
+
+// Touches, in a large table, the ids that may move as the spots that wait are cleared.
 fn touch_moving<T>(table: &mut IdTable<(u64, Timed<T>)>, slots: &Slots)
     ensures { table.new ≡ table.old }
 {
+    if table.len() < WORTH_TOUCHING {
+        return;
+    }
     for place in 0..slots.waits() {
-        if let Some(last) = slots.last_of_waiting(place) {
-            table.touch(last.id);
-        }
+        let next = slots.move_to_waiting(place);
+        table.touch(next.id);
     }
 }
 
-// Whether the table has an id at this spot.
-fn is_at<T>(table: &IdTable<(u64, Timed<T>)>, id: u64, spot: u64) -> bool
-    ensures { result ≡ true → spot_of table.now id ≡ Some spot }
-{
-    let Some((own, _)) = table.get(id) else {
-        return false;
-    };
-    *own == spot
-}
-
-// Whether the last id in the list of the spot that is cleared next is held, as far as the table tells.
-fn tail_stands<T>(table: &IdTable<(u64, Timed<T>)>, slots: &Slots) -> bool
-    requires book { IsBook table.now slots.now }
-    requires waits { 0 < length slots.now.late }
-    ensures { result ≡ true → IsSome (spot_at slots.now (tail_of slots.now)) }
-{
-    let Some(tail) = slots.last_of_waiting(slots.waits() - 1) else {
-        return false;
-    };
-    is_at(table, tail.id, tail.spot)
-}
-
-// Clears one of the spots that wait, and tells the table where the id is that moved there.
+// Clears one of the spots that wait. Where the table has the last id of its list there, it is told at once where the id will be.
 fn clear_one<T>(table: &mut IdTable<(u64, Timed<T>)>, slots: &mut Slots)
     requires book { IsBook table.old slots.old }
     requires waits { 0 < length slots.old.late }
@@ -103,10 +85,12 @@ fn clear_one<T>(table: &mut IdTable<(u64, Timed<T>)>, slots: &mut Slots)
     ensures seen { seen_pairs table.new ≡ seen_pairs table.old }
     ensures waits { length slots.new.late + 1 ≡ length slots.old.late }
 {
-    let stands = tail_stands(table, slots);
-    if let Some(moved) = slots.clear_one(stands) {
-        table.set(moved.id, moved.to);
+    let next = slots.move_to_waiting(slots.waits() - 1);
+    if table.set_where(next.id, next.from, next.to) {
+        slots.clear_moving();
+        return;
     }
+    slots.clear_left();
 }
 
 // Clears all spots that wait. The ids that may move are touched before, so that the processor fetches what the table has of them side by side.
@@ -122,12 +106,13 @@ fn clear_all<T>(table: &mut IdTable<(u64, Timed<T>)>, slots: &mut Slots)
     }
 }
 
-// Sees to it that there is room for one more spot that waits.
+// Sees to it that there is room for one more spot that waits: where there is, nothing changes.
 fn make_room<T>(table: &mut IdTable<(u64, Timed<T>)>, slots: &mut Slots)
     requires book { IsBook table.old slots.old }
     ensures book { IsBook table.new slots.new }
     ensures seen { seen_pairs table.new ≡ seen_pairs table.old }
     ensures room { length slots.new.late < 64 }
+    ensures still { length slots.old.late < 64 → (table.new ≡ table.old) × (slots.new ≡ slots.old) }
 {
     if slots.waits() < MOST_WAITING {
         return;
@@ -269,8 +254,8 @@ fn keys_in<T>(
     ids: &[u64],
 ) -> Result<Vec<(u64, u64)>, AllocError>
     requires slot { slot < 1024 }
-    requires short { length ids.now < 4294967296 }
-    ensures { IfOk result (λ keys. keys.items ≡ keys_from table.now (slot * 4294967296) ids.now) }
+    requires short { length ids.now < 18014398509481984 }
+    ensures { IfOk result (λ keys. keys.items ≡ keys_from table.now (slot * 18014398509481984) ids.now) }
 {
     let mut keys = Vec::new(alloc);
     for place in 0..ids.len() {

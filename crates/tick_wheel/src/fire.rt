@@ -173,7 +173,7 @@ fn fire_several<T, X: Handout<T>, L: Ledger>(
     fire_keys(book, &keys, now, fired, steps)
 }
 
-// The slot of the next tick fires. Most slots have no timer, and one with a single timer needs no list of keys. Where there is no memory,
+// The slot of the next tick fires. Most slots have no timer, and one whose list has a single id needs no list of keys. Where there is no memory,
 // nothing has changed.
 pub(crate) fn fire_slot<T, X: Handout<T>, L: Ledger>(
     alloc: Global,

@@ -15,7 +15,7 @@ pub if_apart : {X : Type 0} (a b : ℕ) (x y : X) → a ≢ b → cond (a == b) 
 if_apart a b x y apart = grind (arith, nat_tests)
 
 -- a number is its slot and its place
-pub one_spot : (p q : ℕ) → p / 4294967296 ≡ q / 4294967296 → p % 4294967296 ≡ q % 4294967296 → p ≡ q
+pub one_spot : (p q : ℕ) → p / 18014398509481984 ≡ q / 18014398509481984 → p % 18014398509481984 ≡ q % 18014398509481984 → p ≡ q
 one_spot p q slot place = omega (arith, slot, place)
 
 -- a list that changed at one place
@@ -70,57 +70,57 @@ edited_set xs place id low p =
     (cases_eq p place)
 
 -- one of the lists changed at one place
-pub edited : (lists : List (List ℕ)) (slot : ℕ) (ys : List ℕ) (spot : ℕ) (o : Option ℕ) → slot < length lists → spot / 4294967296 ≡ slot
-    → IsEdited (list_of lists slot) ys (spot % 4294967296) o → (q : ℕ) → id_in (set lists slot ys) q ≡ cond (q == spot) o (id_in lists q)
+pub edited : (lists : List (List ℕ)) (slot : ℕ) (ys : List ℕ) (spot : ℕ) (o : Option ℕ) → slot < length lists → spot / 18014398509481984 ≡ slot
+    → IsEdited (list_of lists slot) ys (spot % 18014398509481984) o → (q : ℕ) → id_in (set lists slot ys) q ≡ cond (q == spot) o (id_in lists q)
 edited lists slot ys spot o there slot_is is q =
     ⊎_elim
     (λ e.
-    let own : id_in (set lists slot ys) q ≡ slice_get ys (q % 4294967296)
-    = ap (λ s. slice_get (list_of (set lists slot ys) s) (q % 4294967296)) e ∙ ap (λ (zs : List ℕ). slice_get zs (q % 4294967296)) (get_or-set_same lists slot ys [] there) in
+    let own : id_in (set lists slot ys) q ≡ slice_get ys (q % 18014398509481984)
+    = ap (λ s. slice_get (list_of (set lists slot ys) s) (q % 18014398509481984)) e ∙ ap (λ (zs : List ℕ). slice_get zs (q % 18014398509481984)) (get_or-set_same lists slot ys [] there) in
     ⊎_elim
-    (λ same. own ∙ is (q % 4294967296) ∙ if_same (q % 4294967296) (spot % 4294967296) _ _ same ∙ sym (if_same q spot _ _ (one_spot q spot (e ∙ sym slot_is) same)))
-    (λ ne. own ∙ is (q % 4294967296) ∙ if_apart (q % 4294967296) (spot % 4294967296) _ _ ne
-    ∙ ap (λ s. slice_get (list_of lists s) (q % 4294967296)) (sym e) ∙ sym (if_apart q spot _ _ (λ same. ne (ap (λ n. n % 4294967296) same))))
-    (cases_eq (q % 4294967296) (spot % 4294967296)))
-    (λ ne. ap (λ (zs : List ℕ). slice_get zs (q % 4294967296)) (get_or-set_other lists slot (q / 4294967296) ys [] ne)
-    ∙ sym (if_apart q spot _ _ (λ same. ne (ap (λ n. n / 4294967296) same ∙ slot_is))))
-    (cases_eq (q / 4294967296) slot)
+    (λ same. own ∙ is (q % 18014398509481984) ∙ if_same (q % 18014398509481984) (spot % 18014398509481984) _ _ same ∙ sym (if_same q spot _ _ (one_spot q spot (e ∙ sym slot_is) same)))
+    (λ ne. own ∙ is (q % 18014398509481984) ∙ if_apart (q % 18014398509481984) (spot % 18014398509481984) _ _ ne
+    ∙ ap (λ s. slice_get (list_of lists s) (q % 18014398509481984)) (sym e) ∙ sym (if_apart q spot _ _ (λ same. ne (ap (λ n. n % 18014398509481984) same))))
+    (cases_eq (q % 18014398509481984) (spot % 18014398509481984)))
+    (λ ne. ap (λ (zs : List ℕ). slice_get zs (q % 18014398509481984)) (get_or-set_other lists slot (q / 18014398509481984) ys [] ne)
+    ∙ sym (if_apart q spot _ _ (λ same. ne (ap (λ n. n / 18014398509481984) same ∙ slot_is))))
+    (cases_eq (q / 18014398509481984) slot)
 
 -- the lists stay short where the one that changed is short
-pub still_short : (lists : List (List ℕ)) (slot : ℕ) (ys : List ℕ) → length ys < 4294967296 → ((s : ℕ) → length (list_of lists s) < 4294967296)
-    → (s : ℕ) → length (list_of (set lists slot ys) s) < 4294967296
+pub still_short : (lists : List (List ℕ)) (slot : ℕ) (ys : List ℕ) → length ys < 18014398509481984 → ((s : ℕ) → length (list_of lists s) < 18014398509481984)
+    → (s : ℕ) → length (list_of (set lists slot ys) s) < 18014398509481984
 still_short lists slot ys own short s =
     ⊎_elim
     (λ there. ⊎_elim
-    (λ e. subst (λ n. n < 4294967296) (sym (ap (λ (zs : List ℕ). length zs) (ap (list_of (set lists slot ys)) e ∙ get_or-set_same lists slot ys [] there))) own)
-    (λ ne. subst (λ n. n < 4294967296) (sym (ap (λ (zs : List ℕ). length zs) (get_or-set_other lists slot s ys [] ne))) (short s))
+    (λ e. subst (λ n. n < 18014398509481984) (sym (ap (λ (zs : List ℕ). length zs) (ap (list_of (set lists slot ys)) e ∙ get_or-set_same lists slot ys [] there))) own)
+    (λ ne. subst (λ n. n < 18014398509481984) (sym (ap (λ (zs : List ℕ). length zs) (get_or-set_other lists slot s ys [] ne))) (short s))
     (cases_eq s slot))
-    (λ past. subst (λ (zs : List (List ℕ)). length (list_of zs s) < 4294967296) (sym (set_past lists slot ys past)) (short s))
+    (λ past. subst (λ (zs : List (List ℕ)). length (list_of zs s) < 18014398509481984) (sym (set_past lists slot ys past)) (short s))
     (cases_lt slot (length lists))
 
 -- what a push and a pop make of the ids at all spots
-spot_parts : (slot place spot : ℕ) → place < 4294967296 → spot ≡ slot * 4294967296 + place → (spot / 4294967296 ≡ slot) × (spot % 4294967296 ≡ place)
+pub spot_parts : (slot place spot : ℕ) → place < 18014398509481984 → spot ≡ slot * 18014398509481984 + place → (spot / 18014398509481984 ≡ slot) × (spot % 18014398509481984 ≡ place)
 spot_parts slot place spot low is = (omega (arith, low, is), omega (arith, low, is))
 
 pub pushed : (old new : List (List ℕ)) (slot id spot : ℕ) → slot < length old → Pushes old new slot id spot
-    → (spot / 4294967296 ≡ slot) × (id_in old spot ≡ None) × ((q : ℕ) → id_in new q ≡ cond (q == spot) (Some id) (id_in old q))
+    → (spot / 18014398509481984 ≡ slot) × (id_in old spot ≡ None) × ((q : ℕ) → id_in new q ≡ cond (q == spot) (Some id) (id_in old q))
 pushed old new slot id spot there is =
     let xs : List ℕ = list_of old slot in
     let parts = spot_parts slot (length xs) spot (omega (arith, is.fits)) is.spot_is in (
       parts.0,
-      ap (λ s. slice_get (list_of old s) (spot % 4294967296)) parts.0 ∙ slice_get_past xs (spot % 4294967296) (omega (arith, parts.1)),
+      ap (λ s. slice_get (list_of old s) (spot % 18014398509481984)) parts.0 ∙ slice_get_past xs (spot % 18014398509481984) (omega (arith, parts.1)),
       (λ q. ap (λ (zs : List (List ℕ)). id_in zs q) is.new_is
           ∙ edited old slot (xs ++ id ∷ []) spot (Some id) there parts.0 (subst (λ p. IsEdited xs (xs ++ id ∷ []) p (Some id)) (sym parts.1) (edited_push xs id)) q),
     )
 
-pub popped : (old new : List (List ℕ)) (slot id spot : ℕ) → slot < length old → length (list_of old slot) < 4294967296 → Pops old new slot id
-    → spot / 4294967296 ≡ slot → spot % 4294967296 ≡ length (list_of new slot)
+pub popped : (old new : List (List ℕ)) (slot id spot : ℕ) → slot < length old → length (list_of old slot) < 18014398509481984 → Pops old new slot id
+    → spot / 18014398509481984 ≡ slot → spot % 18014398509481984 ≡ length (list_of new slot)
     → (id_in old spot ≡ Some id) × ((q : ℕ) → id_in new q ≡ cond (q == spot) None (id_in old q))
 popped old new slot id spot there short is slot_is place_is =
     let ys : List ℕ = list_of new slot in (
-      ap (λ s. slice_get (list_of old s) (spot % 4294967296)) slot_is ∙ ap (λ p. slice_get (list_of old slot) p) place_is
+      ap (λ s. slice_get (list_of old s) (spot % 18014398509481984)) slot_is ∙ ap (λ p. slice_get (list_of old slot) p) place_is
           ∙ ap (λ (zs : List ℕ). slice_get zs (length ys)) is.was ∙ push_end ys id,
       (λ q. ap (λ (zs : List (List ℕ)). id_in zs q) is.new_is
-          ∙ edited old slot ys spot None there slot_is (subst (λ (zs : List ℕ). IsEdited zs ys (spot % 4294967296) None) (sym is.was)
+          ∙ edited old slot ys spot None there slot_is (subst (λ (zs : List ℕ). IsEdited zs ys (spot % 18014398509481984) None) (sym is.was)
           (subst (λ p. IsEdited (ys ++ id ∷ []) ys p None) (sym place_is) (edited_pop ys id))) q),
     )

@@ -5,8 +5,8 @@ use Rattle.timer_slots.specs.Seen.{list_of}
 -- the id is the last of the slot now, at this spot
 pub record Pushes (old new : List (List ℕ)) (slot id spot : ℕ) : Type 0 where
   pub new_is : new ≡ slice_set old slot (list_of old slot ++ id ∷ [])
-  pub spot_is : spot ≡ slot * 4294967296 + length (list_of old slot)
-  pub fits : length (list_of old slot) < 4294967295
+  pub spot_is : spot ≡ slot * 18014398509481984 + length (list_of old slot)
+  pub fits : length (list_of old slot) < 18014398509481983
 
 -- the id was the last of the slot
 pub record Pops (old new : List (List ℕ)) (slot id : ℕ) : Type 0 where

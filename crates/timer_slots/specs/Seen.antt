@@ -12,7 +12,7 @@ list_of lists slot = slice_index_or lists slot []
 
 -- the id at a spot, that of a place in a slot, whether it waits or not
 abbrev pub id_in : List (List ℕ) → ℕ → Option ℕ
-id_in lists spot = slice_get (list_of lists (spot / 4294967296)) (spot % 4294967296)
+id_in lists spot = slice_get (list_of lists (spot / 18014398509481984)) (spot % 18014398509481984)
 
 -- how often a spot waits
 abbrev pub times : List ℕ → ℕ → ℕ
@@ -24,11 +24,15 @@ spot_at seen spot = if times seen.late spot == 0 then id_in seen.lists spot else
 
 -- the last spot of a slot that has one
 abbrev pub tail_in : List (List ℕ) → ℕ → ℕ
-tail_in lists slot = slot * 4294967296 + (length (list_of lists slot) - 1)
+tail_in lists slot = slot * 18014398509481984 + (length (list_of lists slot) - 1)
 
--- that of the slot of the spot that waits at a place, and of the one that is cleared next
+-- the spot that is cleared next
+abbrev pub next_of : SlotsSeen → ℕ
+next_of seen = slice_index_or seen.late (length seen.late - 1) 0
+
+-- the last spot of the slot of the spot that waits at a place, and of the one that is cleared next
 abbrev pub tail_at : SlotsSeen → ℕ → ℕ
-tail_at seen place = tail_in seen.lists (slice_index_or seen.late place 0 / 4294967296)
+tail_at seen place = tail_in seen.lists (slice_index_or seen.late place 0 / 18014398509481984)
 
 abbrev pub tail_of : SlotsSeen → ℕ
 tail_of seen = tail_at seen (length seen.late - 1)

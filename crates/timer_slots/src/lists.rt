@@ -8,7 +8,7 @@ use crate::spot::spot_of;
 use std::alloc::{AllocError, Global};
 
 // A list beyond so many ids would have places that don't fit.
-const MOST_IDS: usize = 4294967295;
+const MOST_IDS: usize = 18014398509481983;
 
 // Slots with no ids.
 pub(crate) fn empty_lists(alloc: Global) -> Result<Vec<Slot>, AllocError>
@@ -51,10 +51,10 @@ pub(crate) fn pop_last(lists: &mut Vec<Slot>, slot: usize) -> u64
 pub(crate) fn is_last(lists: &Vec<Slot>, slot: usize, spot: u64) -> bool
     requires slot { slot < 1024 }
     requires room { length lists.now.items ≡ 1024 }
-    requires short { length (list_of lists.now.items slot) < 4294967296 }
-    ensures slot { result ≡ true → slot ≡ spot / 4294967296 }
-    ensures place { result ≡ true → spot % 4294967296 + 1 ≡ length (list_of lists.now.items slot) }
-    ensures other { result ≡ false → slot ≡ spot / 4294967296 → spot % 4294967296 + 1 ≢ length (list_of lists.now.items slot) }
+    requires short { length (list_of lists.now.items slot) < 18014398509481984 }
+    ensures slot { result ≡ true → slot ≡ spot / 18014398509481984 }
+    ensures place { result ≡ true → spot % 18014398509481984 + 1 ≡ length (list_of lists.now.items slot) }
+    ensures other { result ≡ false → slot ≡ spot / 18014398509481984 → spot % 18014398509481984 + 1 ≢ length (list_of lists.now.items slot) }
 {
     let len = lists[slot].len();
     if len == 0 {

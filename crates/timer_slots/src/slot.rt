@@ -1,5 +1,5 @@
 //! A slot: a list of ids.
-ghost use Rattle.std.specs.Prelude.{◌≡◌, ◌<◌, ◌++◌, ◌∷◌, [], length, OnOk, OnErr, slice_set};
+ghost use Rattle.std.specs.Prelude.{◌≡◌, ◌<◌, ◌≤◌, ◌++◌, ◌∷◌, [], length, OnOk, OnErr, slice_set, vec_len, vec_capacity};
 
 use std::alloc::{AllocError, Global};
 use std::marker::Model;
@@ -10,18 +10,31 @@ pub(crate) const ALL_SLOTS: usize = 1024;
 // For how many ids an empty list keeps its room.
 const MOST_KEPT: usize = 64;
 
-// The ids of one slot. Contracts see their list.
+// The ids of one slot. Contracts see their list. Where it has none there is room for 64 at most.
 #[derive(Debug, Drop)]
 pub(crate) struct Slot {
     ids: Vec<u64>,
 }
 
 impl Model for Slot {
-    ghost use Rattle.std.specs.Prelude.{ℕ, List};
+    ghost use Rattle.std.specs.Prelude.{◌≡◌, ◌≤◌, ℕ, List, vec_len, vec_capacity};
 
     ghost Value = { List ℕ };
 
     ghost view = { λ slot. slot.ids.items };
+
+    ghost invariant = { λ slot. vec_len slot.ids ≡ 0 → vec_capacity slot.ids ≤ 64 };
+}
+
+// Lets the memory of a list without ids go, where it has room for more than 64. A list that has ids keeps its room.
+fn shrink(ids: &mut Vec<u64>)
+    ensures same { ids.new.items ≡ ids.old.items }
+    ensures little { vec_len ids.new ≡ 0 → vec_capacity ids.new ≤ 64 }
+    ensures still { 0 < vec_len ids.old → vec_capacity ids.new ≡ vec_capacity ids.old }
+{
+    if ids.len() == 0 && ids.capacity() > MOST_KEPT {
+        ids.shrink_to_fit();
+    }
 }
 
 impl Slot {
@@ -51,10 +64,9 @@ impl Slot {
         ensures ok { OnOk result (self.new ≡ self.old ++ id ∷ []) }
         ensures err { OnErr result (self.new ≡ self.old) }
     {
-        match self.ids.push(id) {
-            Ok(()) => Ok(()),
-            Err(_) => Err(AllocError),
-        }
+        self.ids.reserve(1)?;
+        self.ids.push_reserved(id);
+        Ok(())
     }
 
     // Takes the last id out. A list with no id keeps no more than a little room.
@@ -65,17 +77,8 @@ impl Slot {
         let Some(id) = self.ids.pop() else {
             unreachable!()
         };
-        self.shrink();
+        shrink(&mut self.ids);
         id
-    }
-
-    // Lets the memory of an empty list with much room go.
-    fn shrink(&mut self)
-        ensures { self.new ≡ self.old }
-    {
-        if self.ids.len() == 0 && self.ids.capacity() > MOST_KEPT {
-            self.ids.shrink_to_fit();
-        }
     }
 
     // Puts an id in the place of another.

@@ -13,7 +13,7 @@ pub struct Found {
     pub spot: u64,
 }
 
-/// An id that was moved, from a spot to another.
+/// An id that moves, from a spot to another.
 #[derive(Clone, Copy, Debug)]
 pub struct Moved {
     pub id: u64,
@@ -40,8 +40,8 @@ impl Model for Slots {
 }
 
 impl Slots {
-    ghost use Rattle.std.specs.Prelude.{◌≡◌, ◌≢◌, ℕ, ◌+◌, ◌/◌, ◌%◌, ◌<◌, ◌≤◌, ◌==◌, true, None, Some, IsSome, IfSome, IfNone, IfOk, OnErr, if◌then◌else◌, length};
-    ghost use Rattle.timer_slots.specs.Seen.{list_of, spot_at, tail_at, tail_of};
+    ghost use Rattle.std.specs.Prelude.{◌≡◌, ◌≢◌, ℕ, ◌+◌, ◌/◌, ◌%◌, ◌<◌, ◌≤◌, ◌==◌, true, None, Some, IsSome, IfSome, IfNone, IfOk, OnErr, if◌then◌else◌, length, slice_index_or};
+    ghost use Rattle.timer_slots.specs.Seen.{list_of, next_of, spot_at, tail_at, tail_of};
     ghost use Rattle.timer_slots.specs.Steps.{Puts, Moves, IsLast};
 
     /// Slots without ids. `AllocError` comes where there is no memory for them.
@@ -55,7 +55,7 @@ impl Slots {
     }
 
     /// Puts an id at the end of a slot's list, and gives its spot. A refused call changes nothing. `AllocError` comes where there is no memory, and
-    /// where the list has 4,294,967,295 ids.
+    /// where the list has 2^54 - 1 ids, for which no machine has the memory.
     pub fn append(&mut self, slot: usize, id: u64) -> Result<u64, AllocError>
         requires { slot < 1024 }
         ensures ok { IfOk result (λ spot. Puts self.old self.new slot id spot) }
@@ -80,7 +80,7 @@ impl Slots {
         requires room { length self.old.late < 64 }
         ensures values { (q : ℕ) → spot_at self.new q ≡ (if q == spot then None else spot_at self.old q) }
         ensures late { length self.new.late ≤ length self.old.late + 1 }
-        ensures last { spot % 4294967296 + 1 ≡ length (list_of self.old.lists (spot / 4294967296)) → self.new.late ≡ self.old.late }
+        ensures last { spot % 18014398509481984 + 1 ≡ length (list_of self.old.lists (spot / 18014398509481984)) → self.new.late ≡ self.old.late }
     {
         let slot = slot_of(spot);
         if place_of(spot) + 1 == self.lists[slot].len() {
@@ -97,7 +97,8 @@ impl Slots {
         requires room { length self.old.late < 64 }
         ensures values { (q : ℕ) → spot_at self.new q ≡ (if q == spot then None else spot_at self.old q) }
         ensures late { length self.new.late ≤ length self.old.late + 1 }
-        ensures last { slot ≡ spot / 4294967296 → spot % 4294967296 + 1 ≡ length (list_of self.old.lists slot) → self.new.late ≡ self.old.late }
+        ensures last { slot ≡ spot / 18014398509481984 → spot % 18014398509481984 + 1 ≡ length (list_of self.old.lists slot)
+            → self.new.late ≡ self.old.late }
     {
         if is_last(&self.lists, slot, spot) {
             pop_last(&mut self.lists, slot);
@@ -106,41 +107,58 @@ impl Slots {
         self.late.push(spot);
     }
 
-    /// Clears the last of the spots that wait: the last id of its list comes there, and is told. None where no id moved. Who knows that the last id
-    /// is held says so, which spares a look through all that wait.
-    pub fn clear_one(&mut self, stands: bool) -> Option<Moved>
+    /// Clears the last of the spots that wait, where the last id of its list is held: that id comes there.
+    pub fn clear_moving(&mut self)
         requires waits { 0 < length self.old.late }
-        requires stands { stands ≡ true → IsSome (spot_at self.old (tail_of self.old)) }
+        requires held { IsSome (spot_at self.old (tail_of self.old)) }
         ensures fewer { length self.new.late + 1 ≡ length self.old.late }
-        ensures none { IfNone result ((q : ℕ) → spot_at self.new q ≡ spot_at self.old q) }
-        ensures some { IfSome result (λ moved. Moves self.old self.new (moved.from / 4294967296) moved.id moved.from moved.to) }
-        ensures apart { IfSome result (λ moved. moved.from ≢ moved.to) }
+        ensures moves { (id : ℕ) → spot_at self.old (tail_of self.old) ≡ Some id
+            → Moves self.old self.new (tail_of self.old / 18014398509481984) id (tail_of self.old) (next_of self.old) }
+        ensures apart { tail_of self.old ≢ next_of self.old }
     {
         let to = self.late.pop();
         let slot = slot_of(to);
         let id = pop_last(&mut self.lists, slot);
-        let from = spot_of(slot, self.lists[slot].len());
-        if from == to {
-            return None;
-        }
-        if let Some(place) = self.late.find_unless(stands, from) {
-            self.late.set(place, to);
-            return None;
-        }
         set_id(&mut self.lists, slot, place_of(to), id);
-        Some(Moved { id, from, to })
     }
 
-    /// The last id in the list of the spot that waits at this place, and its spot. It may have left.
-    pub fn last_of_waiting(&self, place: usize) -> Option<Found>
-        ensures { IfSome result (λ found. found.spot ≡ tail_at self.now place) }
+    /// Clears it where that id has left, or stood there: no id moves.
+    pub fn clear_left(&mut self)
+        requires waits { 0 < length self.old.late }
+        requires left { spot_at self.old (tail_of self.old) ≡ None }
+        ensures fewer { length self.new.late + 1 ≡ length self.old.late }
+        ensures same { (q : ℕ) → spot_at self.new q ≡ spot_at self.old q }
     {
-        let waits = self.late.get(place)?;
-        let slot = slot_of(waits);
+        let to = self.late.pop();
+        let slot = slot_of(to);
+        pop_last(&mut self.lists, slot);
+        let from = spot_of(slot, self.lists[slot].len());
+        if from == to {
+            return;
+        }
+        let Some(place) = self.late.find(from) else {
+            unreachable!()
+        };
+        self.late.set(place, to);
+    }
+
+    /// What a clearing of the spot that waits at this place moves, where it is held: the last id in the list of that spot.
+    pub fn move_to_waiting(&self, place: usize) -> Moved
+        requires { place < length self.now.late }
+        ensures from { result.from ≡ tail_at self.now place }
+        ensures to { result.to ≡ slice_index_or self.now.late place 0 }
+        ensures id { (id : ℕ) → spot_at self.now result.from ≡ Some id → id ≡ result.id }
+    {
+        let to = self.late.at(place);
+        let slot = slot_of(to);
         let ids = self.lists[slot].as_slice();
-        let id = ids.last().copied()?;
-        let spot = spot_of(slot, ids.len() - 1);
-        Some(Found { id, spot })
+        let last = ids.len() - 1;
+        let from = spot_of(slot, last);
+        Moved {
+            id: ids[last],
+            from,
+            to,
+        }
     }
 
     /// The last id of a slot, where it has one. No spot waits.
@@ -148,8 +166,8 @@ impl Slots {
         requires slot { slot < 1024 }
         requires late { length self.now.late ≡ 0 }
         ensures some { IfSome result (λ found. IsLast self.now found.id found.spot) }
-        ensures slot { IfSome result (λ found. found.spot / 4294967296 ≡ slot) }
-        ensures none { IfNone result ((q id : ℕ) → spot_at self.now q ≡ Some id → q / 4294967296 ≢ slot) }
+        ensures slot { IfSome result (λ found. found.spot / 18014398509481984 ≡ slot) }
+        ensures none { IfNone result ((q id : ℕ) → spot_at self.now q ≡ Some id → q / 18014398509481984 ≢ slot) }
     {
         let ids = self.lists[slot].as_slice();
         let id = ids.last().copied()?;
@@ -164,6 +182,7 @@ impl Slots {
         requires late { length self.old.late ≡ 0 }
         requires last { IsLast self.old last.id last.spot }
         ensures ok { IfOk result (λ spot. Moves self.old self.new to last.id last.spot spot) }
+        ensures last { IfOk result (λ spot. IsLast self.new last.id spot) }
         ensures late { self.new.late ≡ self.old.late }
         ensures refused { OnErr result (self.new ≡ self.old) }
     {
@@ -180,7 +199,7 @@ impl Slots {
     pub fn ids(&self, slot: usize) -> &[u64]
         requires { slot < 1024 }
         ensures list { result.now ≡ list_of self.now.lists slot }
-        ensures short { length result.now < 4294967296 }
+        ensures short { length result.now < 18014398509481984 }
     {
         self.lists[slot].as_slice()
     }

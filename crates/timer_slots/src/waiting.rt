@@ -41,10 +41,11 @@ impl Waiting {
     }
 
     // The spot at a place.
-    pub(crate) fn get(&self, place: usize) -> Option<u64>
-        ensures { result ≡ slice_get self.now place }
+    pub(crate) fn at(&self, place: usize) -> u64
+        requires { place < length self.now }
+        ensures { slice_get self.now place ≡ Some result }
     {
-        self.spots.get(place).copied()
+        self.spots[place]
     }
 
     // The place of a spot that waits.
@@ -60,18 +61,6 @@ impl Waiting {
             place += 1;
         }
         None
-    }
-
-    // The same, where it isn't known that the spot doesn't wait.
-    pub(crate) fn find_unless(&self, stands: bool, spot: u64) -> Option<usize>
-        requires { stands ≡ true → times self.now spot ≡ 0 }
-        ensures some { IfSome result (λ place. slice_get self.now place ≡ Some spot) }
-        ensures none { IfNone result (times self.now spot ≡ 0) }
-    {
-        if stands {
-            return None;
-        }
-        self.find(spot)
     }
 
     // One spot more waits.

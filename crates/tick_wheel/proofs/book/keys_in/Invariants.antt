@@ -3,4 +3,4 @@ use Rattle.tick_wheel.specs.Book.{keys_from}
 use Rattle.tick_wheel.proofs.book.keys_in.Given as goal
 
 abbrev pub invariant-loop-place : goal.invariant-loop-place
-invariant-loop-place g l = l.keys.items ≡ keys_from l.table (l.slot * 4294967296) (take l.place l.ids)
+invariant-loop-place g l = l.keys.items ≡ keys_from l.table (l.slot * 18014398509481984) (take l.place l.ids)

@@ -2,7 +2,8 @@ use Rattle.std.proofs.Common.{None, get_or, sym, ap, subst, ◌∙◌, ◌<◌, 
 use Rattle.id_table.specs.Cells.{mark_at, pairs_of, renumbered, replaced}
 use Rattle.id_table.specs.Probed.{EndsLook}
 use Rattle.id_table.specs.Table.{IsTable}
-use Rattle.id_table.proofs.Replaced.{HasNumber, held_mark, number_is, table_is}
+use Rattle.id_table.specs.Pairs.{IsRenumbered}
+use Rattle.id_table.proofs.Replaced.{held_mark, number_is, table_is}
 use Rattle.id_table.proofs.Rooms.{given_back}
 use Rattle.id_table.proofs.table.IdTable+tuple2+u64+X.set.Goals as goal
 
@@ -20,47 +21,11 @@ invariant_of-self g c =
     (λ cell there. c.renumber.ensures cell (ap (λ xs. get_or xs c.look-at.result None) c.deref_mut.ensures.value ∙ there)
     ∙ ap (λ xs. replaced xs c.look-at.result (renumbered cell c.args.number)) c.deref_mut.ensures.value))
 
-pub returns-clause-list : goal.returns-clause-list
-returns-clause-list g c =
+pub returns : goal.returns
+returns g c =
     let ends = subst (λ xs. EndsLook c.self.inside.bits xs c.args.id c.look-at.result) c.deref.ensures.value c.look-at.ensures in
     let back = given_back c.renumber.new.cells c.self.inside.cells.items c.self.inside.cells.len (omega (arith, c.renumber.auto.cells, c.deref_mut.ensures.len, c.self.inside.cells.ok)) in
-    (subst (λ xs. HasNumber c.args.self.now (pairs_of xs) c.args.id c.args.number) (sym back)
+    subst (λ xs. IsRenumbered c.args.self.now (pairs_of xs) c.args.id c.args.number) (sym back)
     (number_is c.self.inside.bits c.self.inside.len c.self.inside.cells.items c.args.self.now c.self.invariant c.self.view_is c.renumber.new.cells c.args.id c.look-at.result c.args.number ends c.requires.held
     (λ cell there. c.renumber.ensures cell (ap (λ xs. get_or xs c.look-at.result None) c.deref_mut.ensures.value ∙ there)
-    ∙ ap (λ xs. replaced xs c.look-at.result (renumbered cell c.args.number)) c.deref_mut.ensures.value))).list
-
-pub returns-clause-values : goal.returns-clause-values
-returns-clause-values g c =
-    let ends = subst (λ xs. EndsLook c.self.inside.bits xs c.args.id c.look-at.result) c.deref.ensures.value c.look-at.ensures in
-    let back = given_back c.renumber.new.cells c.self.inside.cells.items c.self.inside.cells.len (omega (arith, c.renumber.auto.cells, c.deref_mut.ensures.len, c.self.inside.cells.ok)) in
-    (subst (λ xs. HasNumber c.args.self.now (pairs_of xs) c.args.id c.args.number) (sym back)
-    (number_is c.self.inside.bits c.self.inside.len c.self.inside.cells.items c.args.self.now c.self.invariant c.self.view_is c.renumber.new.cells c.args.id c.look-at.result c.args.number ends c.requires.held
-    (λ cell there. c.renumber.ensures cell (ap (λ xs. get_or xs c.look-at.result None) c.deref_mut.ensures.value ∙ there)
-    ∙ ap (λ xs. replaced xs c.look-at.result (renumbered cell c.args.number)) c.deref_mut.ensures.value))).values
-
-pub returns-clause-pairs : goal.returns-clause-pairs
-returns-clause-pairs g c =
-    let ends = subst (λ xs. EndsLook c.self.inside.bits xs c.args.id c.look-at.result) c.deref.ensures.value c.look-at.ensures in
-    let back = given_back c.renumber.new.cells c.self.inside.cells.items c.self.inside.cells.len (omega (arith, c.renumber.auto.cells, c.deref_mut.ensures.len, c.self.inside.cells.ok)) in
-    (subst (λ xs. HasNumber c.args.self.now (pairs_of xs) c.args.id c.args.number) (sym back)
-    (number_is c.self.inside.bits c.self.inside.len c.self.inside.cells.items c.args.self.now c.self.invariant c.self.view_is c.renumber.new.cells c.args.id c.look-at.result c.args.number ends c.requires.held
-    (λ cell there. c.renumber.ensures cell (ap (λ xs. get_or xs c.look-at.result None) c.deref_mut.ensures.value ∙ there)
-    ∙ ap (λ xs. replaced xs c.look-at.result (renumbered cell c.args.number)) c.deref_mut.ensures.value))).same
-
-pub returns-clause-len : goal.returns-clause-len
-returns-clause-len g c =
-    let ends = subst (λ xs. EndsLook c.self.inside.bits xs c.args.id c.look-at.result) c.deref.ensures.value c.look-at.ensures in
-    let back = given_back c.renumber.new.cells c.self.inside.cells.items c.self.inside.cells.len (omega (arith, c.renumber.auto.cells, c.deref_mut.ensures.len, c.self.inside.cells.ok)) in
-    (subst (λ xs. HasNumber c.args.self.now (pairs_of xs) c.args.id c.args.number) (sym back)
-    (number_is c.self.inside.bits c.self.inside.len c.self.inside.cells.items c.args.self.now c.self.invariant c.self.view_is c.renumber.new.cells c.args.id c.look-at.result c.args.number ends c.requires.held
-    (λ cell there. c.renumber.ensures cell (ap (λ xs. get_or xs c.look-at.result None) c.deref_mut.ensures.value ∙ there)
-    ∙ ap (λ xs. replaced xs c.look-at.result (renumbered cell c.args.number)) c.deref_mut.ensures.value))).len
-
-pub returns-clause-distinct : goal.returns-clause-distinct
-returns-clause-distinct g c =
-    let ends = subst (λ xs. EndsLook c.self.inside.bits xs c.args.id c.look-at.result) c.deref.ensures.value c.look-at.ensures in
-    let back = given_back c.renumber.new.cells c.self.inside.cells.items c.self.inside.cells.len (omega (arith, c.renumber.auto.cells, c.deref_mut.ensures.len, c.self.inside.cells.ok)) in
-    (subst (λ xs. HasNumber c.args.self.now (pairs_of xs) c.args.id c.args.number) (sym back)
-    (number_is c.self.inside.bits c.self.inside.len c.self.inside.cells.items c.args.self.now c.self.invariant c.self.view_is c.renumber.new.cells c.args.id c.look-at.result c.args.number ends c.requires.held
-    (λ cell there. c.renumber.ensures cell (ap (λ xs. get_or xs c.look-at.result None) c.deref_mut.ensures.value ∙ there)
-    ∙ ap (λ xs. replaced xs c.look-at.result (renumbered cell c.args.number)) c.deref_mut.ensures.value))).distinct
+    ∙ ap (λ xs. replaced xs c.look-at.result (renumbered cell c.args.number)) c.deref_mut.ensures.value))

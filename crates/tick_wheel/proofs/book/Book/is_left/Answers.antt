@@ -9,4 +9,4 @@ pub returns : goal.returns
 returns g c = λ empty.
     subst (λ (index : Index g.row.T.Denot). ListsIds index c.args.slot []) c.self.view_is
     (listed c.self.inside.table c.self.inside.slots c.args.slot c.ids-ids.result.now c.self.invariant c.ids-ids.ensures.list c.ids-ids.ensures.short []
-    (sym (ap (keys_from c.self.inside.table (c.args.slot * 4294967296)) (nil_from_length c.ids-ids.result.now (equal_zero _ empty)))))
+    (sym (ap (keys_from c.self.inside.table (c.args.slot * 18014398509481984)) (nil_from_length c.ids-ids.result.now (equal_zero _ empty)))))

@@ -7,4 +7,4 @@ pub returns : goal.returns
 returns g c =
     subst (λ (index : Index g.row.T.Denot). ListsIds index c.args.slot (c.in_ok-key.key ∷ [])) c.self.view_is
     (listed c.self.inside.table c.self.inside.slots c.args.slot c.ids-ids.result.now c.self.invariant c.ids-ids.ensures.list c.ids-ids.ensures.short (c.in_ok-key.key ∷ [])
-    (only_keys c.self.inside.table (c.args.slot * 4294967296) c.spot_of.result c.ids-ids.result.now c.in_ok-key.key c.spot_of.ensures.spot c.if-ids-ne1.false (sym c.key_at.ensures ∙ c.in_ok-key.was)))
+    (only_keys c.self.inside.table (c.args.slot * 18014398509481984) c.spot_of.result c.ids-ids.result.now c.in_ok-key.key c.spot_of.ensures.spot c.if-ids-ne1.false (sym c.key_at.ensures ∙ c.in_ok-key.was)))
