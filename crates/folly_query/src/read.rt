@@ -33,8 +33,10 @@ impl From<AllocError> for ReadEnd {
 /// Reads all that the source has left.
 pub fn read_all<S: Source>(alloc: Global, source: &mut S) -> Result<Vec<u8>, ReadEnd>
     ensures all { IfOk result (λ text. ReadsAll (shown (S.left source.old) (S.faults source.old)) (shown (S.left source.new) (S.faults source.new)) text.items) }
-    ensures fault { result ≡ Err ReadEnd.Fault → ((text : List ℕ) × FailsBehind (shown (S.left source.old) (S.faults source.old)) (shown (S.left source.new) (S.faults source.new)) text) }
-    ensures too_large { result ≡ Err ReadEnd.TooLarge → ((text : List ℕ) × ReadsTooMuch (shown (S.left source.old) (S.faults source.old)) (shown (S.left source.new) (S.faults source.new)) text) }
+    ensures fault { result ≡ Err ReadEnd.Fault → ((text : List ℕ)
+        × FailsBehind (shown (S.left source.old) (S.faults source.old)) (shown (S.left source.new) (S.faults source.new)) text) }
+    ensures too_large { result ≡ Err ReadEnd.TooLarge → ((text : List ℕ)
+        × ReadsTooMuch (shown (S.left source.old) (S.faults source.old)) (shown (S.left source.new) (S.faults source.new)) text) }
 {
     let mut piece = zeros(alloc, PIECE)?;
     let mut text = Vec::new(alloc);

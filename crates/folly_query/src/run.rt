@@ -48,14 +48,16 @@ pub fn query_main<S: Source, K: Sink + Send, G: Gate, R: Threads + Wait + Sync>(
         (shown (K.holds sink.old) (K.faults sink.old)) (shown (K.holds sink.new) (K.faults sink.new)) result }
 
     // Which status a run comes to, where the bytes of its source are known.
-    ensures comes { (settings : Settings) → IsCommand words.now (Command.Run settings) → IfSome (S.left source.old) (λ bytes. Comes settings.shards bytes
+    ensures comes { (settings : Settings) → IsCommand words.now (Command.Run settings)
+        → IfSome (S.left source.old) (λ bytes. Comes settings.shards bytes
         (shown (S.left source.old) (S.faults source.old)) (shown (S.left source.new) (S.faults source.new))
         (shown (K.holds sink.old) (K.faults sink.old)) (shown (K.holds sink.new) (K.faults sink.new)) result.status) }
 
     // What the status says where an input is made up. The source is left as it is.
     ensures sums_up { (generation : Generation) (settings : Settings) → IsCommand words.now (Command.Generate generation settings) →
         SumsUpAs generation settings (shown (K.holds sink.old) (K.faults sink.old)) (shown (K.holds sink.new) (K.faults sink.new)) result }
-    ensures unread { (generation : Generation) (settings : Settings) → IsCommand words.now (Command.Generate generation settings) → source.new ≡ source.old }
+    ensures unread { (generation : Generation) (settings : Settings) → IsCommand words.now (Command.Generate generation settings)
+        → source.new ≡ source.old }
 
     // Where the words or the input are refused nothing runs. Without a pool nothing is told.
     ensures nothing { IsRefusal result.status → TellsNothing result }

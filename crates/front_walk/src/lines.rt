@@ -93,7 +93,8 @@ pub(crate) fn document(lines: &Lines, i: usize, state: &mut WalkState<'_>)
     requires input { IsInput lines.now }
     requires line { (doc : Doc) × (slice_get lines.now i ≡ Some (line.Doc doc)) }
     requires follows { Follows lines.now (take i lines.now) state.old }
-    ensures follows { (doc : Doc) → slice_get lines.now i ≡ Some (line.Doc doc) → Follows lines.now (take i lines.now ++ line.Doc doc ∷ []) state.new }
+    ensures follows { (doc : Doc) → slice_get lines.now i ≡ Some (line.Doc doc)
+        → Follows lines.now (take i lines.now ++ line.Doc doc ∷ []) state.new }
     ensures place { state.new.place ≡ state.old.place }
 {
     known_laws();

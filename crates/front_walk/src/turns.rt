@@ -27,9 +27,11 @@ pub trait HookRelation<H> {
 /// Where each early query gives something to a list and no other does, the list has in the end what all early queries give, in the order of
 /// answers, and all that are answered were counted. So it is with the late ones.
 pub fn given_in_order<X, H: AtTurn, K: KeptList<H, X>>()
-    ensures early { (stop_at : Option ℕ) → KeepsEarly H.does K.answered K.kept K.gives stop_at → (w v : H) → K.answered w ≡ 0 → Came H.does 0 w (comings_of H.lines) v →
+    ensures early { (stop_at : Option ℕ) → KeepsEarly H.does K.answered K.kept K.gives stop_at → (w v : H) → K.answered w ≡ 0
+        → Came H.does 0 w (comings_of H.lines) v →
         (K.kept v ≡ K.kept w ++ flat_map K.gives (early_of stop_at (answered_in H.lines))) × (K.answered v ≡ length (answered_in H.lines)) }
-    ensures late { (stop_at : Option ℕ) → KeepsLate H.does K.answered K.kept K.gives stop_at → (w v : H) → K.answered w ≡ 0 → Came H.does 0 w (comings_of H.lines) v →
+    ensures late { (stop_at : Option ℕ) → KeepsLate H.does K.answered K.kept K.gives stop_at → (w v : H) → K.answered w ≡ 0
+        → Came H.does 0 w (comings_of H.lines) v →
         (K.kept v ≡ K.kept w ++ flat_map K.gives (late_of stop_at (answered_in H.lines))) × (K.answered v ≡ length (answered_in H.lines)) }
 {
     comings_in_order();

@@ -44,7 +44,8 @@ pub fn open_bases<J: Headed, R: Wait>(
 
 impl<J: Headed> Bases<J> {
     fn with_room(alloc: Global, count: u32) -> Result<Bases<J>, Memory>
-        ensures { IfOk result (λ made. (made.bases.items ≡ []) × (made.columns.items ≡ []) × (vec_capacity made.bases ≡ count) × (vec_capacity made.columns ≡ count)) }
+        ensures { IfOk result (λ made. (made.bases.items ≡ []) × (made.columns.items ≡ []) × (vec_capacity made.bases ≡ count)
+            × (vec_capacity made.columns ≡ count)) }
     {
         let bases = Vec::with_capacity(alloc, count as usize)?;
         let Ok(columns) = Vec::with_capacity(alloc, count as usize) else {
@@ -57,8 +58,10 @@ impl<J: Headed> Bases<J> {
 
 impl<J: Headed> Bases<J> {
     fn put(&mut self, base: EventBase<J>, column: Column<J>)
-        requires room { (length self.old.bases.items < vec_capacity self.old.bases) × (length self.old.columns.items < vec_capacity self.old.columns) }
-        ensures items { (self.new.bases.items ≡ self.old.bases.items ++ base ∷ []) × (self.new.columns.items ≡ self.old.columns.items ++ column ∷ []) }
+        requires room { (length self.old.bases.items < vec_capacity self.old.bases)
+            × (length self.old.columns.items < vec_capacity self.old.columns) }
+        ensures items { (self.new.bases.items ≡ self.old.bases.items ++ base ∷ [])
+            × (self.new.columns.items ≡ self.old.columns.items ++ column ∷ []) }
         ensures room { (vec_capacity self.new.bases ≡ vec_capacity self.old.bases) × (vec_capacity self.new.columns ≡ vec_capacity self.old.columns) }
     {
         self.bases.push_reserved(base);

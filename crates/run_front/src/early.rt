@@ -58,7 +58,8 @@ pub fn early_turns<'c, 't, 'i: 't, N: RunName + 'static, G: Gate, R: Wait>(
     ensures helped { HasHelped front.old.world helper.old front.new.world helper.new }
     ensures front { IsFrontOf N.asked front.new }
     ensures printer { told_of front.new.printer ≡ told_of front.old.printer }
-    ensures posted { (first : List (PrintJob N)) → HasPosted N.asked 0 first front.old.printer → OnOk result (HasPosted N.asked end first front.new.printer) }
+    ensures posted { (first : List (PrintJob N)) → HasPosted N.asked 0 first front.old.printer
+        → OnOk result (HasPosted N.asked end first front.new.printer) }
 {
     known_turns::<N>();
     place_by_place();

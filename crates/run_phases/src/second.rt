@@ -58,7 +58,8 @@ pub fn second_phase<'c, 't, 'i: 't, N: RunName + 'static, R: Wait>(
     requires helped { (helped.items ≡ []) × (1 ≤ vec_capacity helped) }
     requires added { mid.refused ≡ false → runs_added (seen_of mid.ending).passes ≡ early_runs N.asked.lines N.asked.shards N.asked.stop_at }
     requires stops { is_stop mid.ending ≡ is_stopped N.asked.stop_at (answered_in N.asked.lines) }
-    ensures report { result.refused ≡ false → result.ends.tasks.refused ≡ false → AllDone (ends.entry.items ++ mid.entry.helper ∷ []) → IsPoolReport N.asked (told_by result.note) }
+    ensures report { result.refused ≡ false → result.ends.tasks.refused ≡ false → AllDone (ends.entry.items ++ mid.entry.helper ∷ [])
+        → IsPoolReport N.asked (told_by result.note) }
     ensures stopped { result.note.ran.stopped ≡ is_stopped N.asked.stop_at (answered_in N.asked.lines) }
     ensures account { result.note.ran.stopped ≡ true → IsStopAccount N.asked mid.entry result }
     ensures ran { result.note.ran.stopped ≡ false → IsJoinAccount mid.entry result }
@@ -115,7 +116,8 @@ fn turns_behind<'c, 't, 'i: 't, N: RunName + 'static, R: Wait>(
     requires front { IsFrontOf N.asked front.old }
     requires none { direct.old ≡ [] }
     ensures fine { OnTrue result (refused ≡ false) }
-    ensures direct { OnTrue result (front.new.world.refused ≡ false → map run_of_direct direct.new ≡ late_runs N.asked.lines N.asked.shards N.asked.bases N.asked.stop_at) }
+    ensures direct { OnTrue result (front.new.world.refused ≡ false
+        → map run_of_direct direct.new ≡ late_runs N.asked.lines N.asked.shards N.asked.bases N.asked.stop_at) }
     ensures some { front.new.world.refused ≡ false →
         AreSomeOf [] (late_runs N.asked.lines N.asked.shards N.asked.bases N.asked.stop_at) (map run_of_direct direct.new) }
     ensures follows { Follows front.old.world front.new.world }

@@ -139,7 +139,8 @@ pub fn close_printing<N: RunName, R: Wait>(
         Wrote N.asked.lines start now result.outcome }
     ensures whole { (start now : Shown) → HasPrinted N.asked.lines start now stage → queries ≡ length (replies_of N.asked.lines) →
         IsDone result.outcome → IsWhole N.asked.lines stage.base.agenda.exec result.queue result.tally }
-    ensures in_order { (start now : Shown) → HasPrinted N.asked.lines start now stage → IsDone result.outcome → AreAllTaken stage.base.queue.taken ends.items }
+    ensures in_order { (start now : Shown) → HasPrinted N.asked.lines start now stage → IsDone result.outcome
+        → AreAllTaken stage.base.queue.taken ends.items }
     ensures memory { result.outcome ≡ PrintOutcome.Memory → LacksSome stage queries }
 {
     each_reply_was_given_once();

@@ -33,7 +33,8 @@ impl<'w, K: Sink> PrintWorld<'w, K> {
 
     // Prints the reply of a core that fired, or notes that it is missing.
     fn take_outcome<N: RunName>(&mut self, outcome: Try<PlacedReply<N>>) -> Mark
-        ensures did { (event : Event) × IsOf N.asked.lines event × (has_fired event ≡ true) × PrintsEvent N.asked.lines K.holds K.faults event self.old self.new }
+        ensures did { (event : Event) × IsOf N.asked.lines event × (has_fired event ≡ true)
+            × PrintsEvent N.asked.lines K.holds K.faults event self.old self.new }
         ensures tally { self.new.tally.now ≡ self.old.tally.now }
         ensures mark { IsMarkOf 0 result }
     {

@@ -126,7 +126,8 @@ fn close_slot<'d, 'r: 'd, 'i: 'r, N: RunName, R: Wait>(
     requires { (ids : RunIds) × (k : ℕ) × IsGatheredSlot N.asked ids k slot × IsFullColumn ids k column }
     ensures emptied { (ids : RunIds) (k : ℕ) → IsGatheredSlot N.asked ids k slot.entry → result.refused ≡ false → IsEmptied (1 + k) result.queue }
     ensures printer { (ids : RunIds) (k : ℕ) → IsGatheredSlot N.asked ids k slot.entry → IsPrinterEnd N.asked ids (N.asked.bases - k) result.printer }
-    ensures tally { (ids : RunIds) (k : ℕ) → IsGatheredSlot N.asked ids k slot.entry → result.refused ≡ false → result.tally ≡ tally_of slot.entry.stage }
+    ensures tally { (ids : RunIds) (k : ℕ) → IsGatheredSlot N.asked ids k slot.entry → result.refused ≡ false
+        → result.tally ≡ tally_of slot.entry.stage }
     ensures refused { result.refused ≡ has_refused slot.entry.stage }
 {
     let GatherSlot {

@@ -42,9 +42,11 @@ pub fn what_ran_can_be_closed<N: RunName>()
     ensures worlds { (ids : RunIds) (pool : PoolId) (slots : List (WorkerSlot TaskSeen (WorldSeen N)))
         (ends : List EndSeen) (worlds : List (TaskEnds N)) → AreWorkers ids pool slots → AreEndsOf slots ends worlds → AreWorldEnds ids worlds }
     ensures ends { (ids : RunIds) (pool : PoolId) (slots : List (WorkerSlot TaskSeen (WorldSeen N)))
-        (ends : List EndSeen) (worlds : List (TaskEnds N)) → AreWorkers ids pool slots → AreEndsOf slots ends worlds → AreAllEnds pool ids.workers ends }
+        (ends : List EndSeen) (worlds : List (TaskEnds N)) → AreWorkers ids pool slots → AreEndsOf slots ends worlds
+        → AreAllEnds pool ids.workers ends }
     ensures done { (ids : RunIds) (pool : PoolId) (slots : List (WorkerSlot TaskSeen (WorldSeen N)))
-        (ends : List EndSeen) (worlds : List (TaskEnds N)) → AreWorkers ids pool slots → AreEndsOf slots ends worlds → All (λ w. w.refused ≡ false) worlds → AllDone ends }
+        (ends : List EndSeen) (worlds : List (TaskEnds N)) → AreWorkers ids pool slots → AreEndsOf slots ends worlds
+        → All (λ w. w.refused ≡ false) worlds → AllDone ends }
     ensures printed { (ids : RunIds) (old new : BaseSeen (PrintJob N))
         → old ≡ new_base (printer_exec N.asked.bases) 0 ids.printer (N.asked.bases + 1) → IsBaseOf old new → IsPrinterBase N.asked ids new }
     ensures front { (ids : RunIds) (old new : WorldSeen N) (ends : TaskEnds N) → IsNewWorld ids 0 old → Follows old new

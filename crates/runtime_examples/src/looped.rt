@@ -95,7 +95,8 @@ fn schedule_next(base: &mut EventBase<Note>, note: Note) -> bool
 // Makes a round with one tick. `false`: there was no memory for it.
 fn make_round<R: Wait>(rt: &R, base: &mut EventBase<Note>, ran: &mut LastTwo) -> bool
     requires { base.old.agenda.wheel.tick ≡ 0 }
-    ensures same { (base.new.queue.queue ≡ base.old.queue.queue) × (base.new.queue.senders ≡ base.old.queue.senders) × (base.new.agenda.exec ≡ base.old.agenda.exec) }
+    ensures same { (base.new.queue.queue ≡ base.old.queue.queue) × (base.new.queue.senders ≡ base.old.queue.senders)
+        × (base.new.agenda.exec ≡ base.old.agenda.exec) }
     ensures whole { OnTrue result ((round : Round) × (did : Phases Note)
         × IsWholeRound ⟦<Note as Headed>⟧.head ⟦<Note as LoopJob<LastTwo>>⟧.runs 1 ran.old base.old round did ran.new base.new) }
 {
