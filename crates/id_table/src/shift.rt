@@ -34,6 +34,7 @@ fn shift<V>(cells: &mut [Option<Cell<V>>], bits: u32, hole: usize, cell: usize, 
 }
 
 // Takes what a cell holds, and moves back those that were put after it because it was filled.
+#[inline(always)]
 pub(crate) fn take_out<V>(cells: &mut [Option<Cell<V>>], bits: u32, gone: usize) -> Cell<V>
     requires probed { IsProbed bits cells.old }
     requires within { gone < length cells.old }

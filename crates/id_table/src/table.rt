@@ -192,6 +192,8 @@ impl<V> IdTable<V> {
     }
 
     /// Takes an id out and gives its value, None exactly where the id isn't held. It takes no memory.
+    // As a call it would hand the value over in memory, twice.
+    #[inline(always)]
     pub fn remove(&mut self, id: u64) -> Option<V>
         ensures value { result ≡ value_of self.old id }
         ensures values { (q : ℕ) → value_of self.new q ≡ (if q == id then None else value_of self.old q) }
