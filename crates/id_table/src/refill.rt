@@ -101,6 +101,7 @@ pub(crate) fn make_room<V>(
 ) -> Result<(), AllocError>
     requires { IsTable bits.old len cells.old.items }
     ensures still { 3 * (len + 1) ≤ 2 * length cells.old.items → cells.new ≡ cells.old }
+    ensures next { OnOk result (2 * length cells.old.items < 3 * (len + 1) → bits.new ≡ (if nat_eq (length cells.old.items) 0 then 3 else bits.old + 1)) }
     ensures room { OnOk result (HasRoom bits.new len cells.new.items) }
     ensures pairs { OnOk result (IsPermutation (pairs_of cells.new.items) (pairs_of cells.old.items)) }
     ensures bits { OnErr result (bits.new ≡ bits.old) }

@@ -1,15 +1,12 @@
--- What is known of each element of a list is known of the last one, which is taken, and of the others. Where there is one, none is left.
-use Rattle.std.proofs.Common.{◌≡◌, ◌+◌, List, [], ◌∷◌, ◌++◌, Some, All, length, length-append, ap, arith}
-use Rattle.std.proofs.lemmas.List.Elements.{All-pop}
-
-pub last_has : {X : Type 0} (P : X → Type 0) {all : List X} (rest : List X) (x : X) → all ≡ rest ++ x ∷ [] → All P all → P x
-last_has P rest x is holds = (All-pop P _ rest (Some x) is holds).1
-
-pub rest_have : {X : Type 0} (P : X → Type 0) {all : List X} (rest : List X) (x : X) → all ≡ rest ++ x ∷ [] → All P all → All P rest
-rest_have P rest x is holds = (All-pop P _ rest (Some x) is holds).0
-
-pub one_less : {X : Type 0} {all : List X} (rest : List X) (x : X) → all ≡ rest ++ x ∷ [] → length all ≡ length rest + 1
-one_less rest x is = omega (arith, ap length is, length-append rest (x ∷ []))
+-- What is known of each element of a list, and of what is made of them.
+use Rattle.std.proofs.Common.{◌≡◌, ◌+◌, ◌≤◌, ℕ, zero, suc, List, [], ◌∷◌, ◌++◌, Option, Some, None, IfSome, MatchOption, All, Contains, length, length-append, map, ap, refl, subst, ◌∙◌, option_to_list, sym, arith}
+use Rattle.std.proofs.lemmas.List.{length-map, get_or-map}
+use Rattle.std.proofs.lemmas.List.Elements.{All-head, All-nil, All-push, All-contains, All-map, All-weaker}
+use Rattle.pool_model.specs.Passes.{AreAllEnds}
+use Rattle.pool_model.specs.Seen.{PoolId, PoolSeen, EndSeen}
+use Rattle.prio_pool.specs.Made.{new_workers, new_ends}
+use Rattle.pool_tests.specs.declared.tests.Slot.{Slot}
+use Rattle.pool_tests.specs.Ending.{IsHelper}
 
 pub none_left : {X : Type 0} (all rest : List X) (x : X) → all ≡ rest ++ x ∷ [] → length all ≡ 1 → length rest ≡ 0
 none_left all rest x is one = omega (arith, one, ap length is, length-append rest (x ∷ []))
@@ -17,3 +14,66 @@ none_left all rest x is one = omega (arith, one, ap length is, length-append res
 pub one_is : {X : Type 0} (all rest : List X) (x : X) → all ≡ rest ++ x ∷ [] → length all ≡ 1 → all ≡ x ∷ []
 one_is all [] x is one = is
 one_is all (y ∷ ys) x is one = absurd (omega (arith, one, ap length is, length-append ys (x ∷ [])))
+
+-- What is known of each of one is known of this one.
+pub one_has : {X : Type 0} (P : X → Type 0) (all : List X) (x : X) → all ≡ x ∷ [] → All P all → P x
+one_has P all x is holds = All-head P x [] (subst (All P) is holds)
+
+pub map_has : {X Y : Type 0} (f : X → Y) (xs : List X) (x : X) → Contains xs x → Contains (map f xs) (f x)
+map_has f xs x at = (at.0, omega (arith, at.1, length-map xs f), get_or-map f xs at.0 x (f x) at.1 ∙ ap f at.2)
+
+-- Of at most one helper, whose pass is taken, none is left.
+pub none_left_of : {len rest : ℕ} (h : Option EndSeen) → len ≤ 1 → MatchOption h ((len ≡ 0) × (rest ≡ 0)) (λ _. rest + 1 ≡ len) → rest ≡ 0
+none_left_of None few cases = cases.1
+none_left_of (Some e) few cases = omega (arith, few, cases)
+
+pub one_helper : (pool : PoolSeen) (n len rest : ℕ) (h : Option EndSeen) → n ≤ 1 → pool.helpers ≡ n → len ≡ n → IfSome h (λ e. e.pool ≡ pool.id) → MatchOption h ((len ≡ 0) × (rest ≡ 0)) (λ _. rest + 1 ≡ len) → IsHelper pool h
+one_helper pool n len rest None few count is same cases =
+    let none : pool.helpers ≡ 0 = omega (arith, count, is, cases.0) in none
+one_helper pool n len rest (Some e) few count is same cases =
+    let one : pool.helpers ≡ 1 = omega (arith, count, is, few, cases) in (same, one)
+
+pub helper_of_pool : (pool : PoolSeen) (o : Option EndSeen) (h : EndSeen) → IsHelper pool o → o ≡ Some h → h.pool ≡ pool.id
+helper_of_pool pool o h has is = (subst (IsHelper pool) is has).0
+
+pub helper_stays : (pool : PoolSeen) (o : Option EndSeen) (h more : EndSeen) → IsHelper pool o → o ≡ Some h → more.pool ≡ h.pool → IsHelper pool (Some more)
+helper_stays pool o h more has is same =
+    let was = subst (IsHelper pool) is has in
+    (same ∙ was.0, was.1)
+
+-- The list of its end is the list of all helpers' ends.
+pub all_helped : (pool : PoolSeen) (h : Option EndSeen) (ends : List EndSeen) → IsHelper pool h → ends ≡ option_to_list h → AreAllEnds pool.id pool.helpers ends
+all_helped pool None ends is list =
+    let OfPool : EndSeen → Type 0 = λ e. e.pool ≡ pool.id in
+    record { of_pool = subst (All OfPool) (sym list) (All-nil OfPool); count_is = ap length list ∙ sym is }
+all_helped pool (Some e) ends is list =
+    let OfPool : EndSeen → Type 0 = λ e. e.pool ≡ pool.id in
+    record { of_pool = subst (All OfPool) (sym list) (All-push OfPool [] e (All-nil OfPool) is.0); count_is = ap length list ∙ sym is.1 }
+
+pub count_workers : (pool : PoolId) (first n : ℕ) → length (new_workers pool first n) ≡ n
+count_workers pool first zero = refl
+count_workers pool first (suc n) = ap suc (count_workers pool (first + 1) n)
+
+pub count_helpers : (pool : PoolId) (first n : ℕ) → length (new_ends pool first n) ≡ n
+count_helpers pool first zero = refl
+count_helpers pool first (suc n) = ap suc (count_helpers pool (first + 1) n)
+
+-- What is known of each pass is known of each slot's, where that is one of these.
+pub slots_have : {P E : Type 0} (Q : P → Type 0) (passes : List P) (slots : List (Slot P E)) → All Q passes → All (λ s. IfSome s.pass (Contains passes)) slots → All (λ s. IfSome s.pass Q) slots
+slots_have {P} {E} Q passes slots all from = All-weaker (λ s. IfSome s.pass (Contains passes)) (λ s. IfSome s.pass Q) (λ s. some s.pass) slots from
+  where
+    some : (o : Option P) → IfSome o (Contains passes) → IfSome o Q
+    some (Some p) is = All-contains Q passes p all is
+    some None is = tt
+
+-- The ends of all slots of a pool's workers are all ends of its workers.
+pub all_ended : {P : Type 0} (pool : PoolId) (workers : ℕ) (slots : List (Slot P EndSeen)) (ends : List EndSeen) → All (λ s. IfSome s.end (λ e. e.pool ≡ pool)) slots → All (λ e. Contains (map (λ s. s.end) slots) (Some e)) ends → length ends ≡ length slots → length slots ≡ workers → AreAllEnds pool workers ends
+all_ended {P} pool workers slots ends all from count whole =
+    let OfPool : EndSeen → Type 0 = λ e. e.pool ≡ pool in
+    let Has : Option EndSeen → Type 0 = λ o. IfSome o OfPool in
+    let end : Slot P EndSeen → Option EndSeen = λ s. s.end in
+    let found = All-map Has end slots all in
+    record {
+      of_pool = All-weaker (λ e. Contains (map end slots) (Some e)) OfPool (λ e is. All-contains Has (map end slots) (Some e) found is) ends from;
+      count_is = count ∙ whole;
+    }

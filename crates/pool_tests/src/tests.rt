@@ -1,21 +1,20 @@
 // Pools on one thread and on several.
-ghost use Rattle.std.specs.Prelude.{◌≡◌, ◌⊎◌, ◌+◌, ◌<◌, ◌≤◌, ℕ, ◌∷◌, ◌++◌, [], length, All, IfSome, Some, None};
-ghost use Rattle.pool_model.specs.Passes.{AreAllPasses, AreAllEnds, adds_of};
-ghost use Rattle.pool_model.specs.Seen.{PoolId};
-ghost use Rattle.prio_pool.specs.Made.{new_ends, new_passes, new_workers};
+ghost use Rattle.std.specs.Prelude.{◌≡◌, ◌⊎◌, ◌+◌, ◌<◌, ◌≤◌, ◌∷◌, ◌++◌, [], length, map, option_to_list, All, Contains, IfSome, Some, None};
+ghost use Rattle.pool_model.specs.Passes.{AreAllEnds, adds_of};
+ghost use Rattle.pool_tests.specs.Ending.{IsAdding, IsHelper, HasBegunToEnd};
 
 use fan_base::{ExecId, Gate, JobId, Mark, OpenGate, Refused};
 use job_trait::{Head, Headed, Job};
 use keep_alive::{KeepAlive, KeepOwner};
+use pool_model::Ticket;
 use prio_pool::{
-    Helped, HelperEnd, HelperPass, Joining, Pool, PoolEnd, PoolParts, PoolPass, Returned,
-    RunRecord, Runs, Stopping, WorkerEnd, WorkerPass, new_passes_are_unused, queue_for, run_direct,
+    Helped, HelperEnd, HelperPass, Joining, Pool, PoolEnd, PoolParts, PoolPass, Returned, Runs,
+    Stopping, WorkerEnd, WorkerPass, new_passes_are_unused, queue_for, run_direct,
 };
 use std::alloc::Global;
 use std::fmt::Debug;
 use std::process::Abort;
 use std::sync::Wait;
-use std::thread::{Threads, join_mut};
 
 mod kept;
 mod queue;
@@ -73,13 +72,13 @@ impl Numbered for Note {
 }
 
 // Compares two values. A test compares by this, since each assertion that a body makes of its own makes that body dearer to prove.
-fn same<T: PartialEq + Debug + Drop, R: Abort>(rt: &R, found: T, expected: T) {
+fn same<T: PartialEq + Debug + Copy, R: Abort>(rt: &R, found: T, expected: T) {
     assert_eq!(rt; found, expected);
 }
 
 // Compares the numbers of two lists.
 fn check_list<R: Abort>(rt: &R, found: Vec<u64>, expected: &[u64]) {
-    assert_eq!(rt; found.as_slice(), expected);
+    same(rt, found.as_slice(), expected);
 }
 
 // The queues of five priorities in a pool of so many.
@@ -107,24 +106,28 @@ fn each_priority_has_its_queue(rt: HostRuntime) {
     }
 }
 
+// What adds to a pool with one adder, and helps there: the keep-alive, its owner, the pass, and the helper's pass, where there is one.
+struct Adding<J> {
+    owner: KeepOwner,
+    keep: KeepAlive,
+    pass: PoolPass<J>,
+    helper: Option<HelperPass<J>>,
+}
+
 // Adds a task, for which there has to be memory. It gets the ticket of the one adder with this index.
 fn add<J: Numbered, R: Abort + Wait>(
     rt: &R,
     pool: &Pool<J>,
-    keep: &KeepAlive,
-    pass: &mut PoolPass<J>,
+    adding: &mut Adding<J>,
     priority: i8,
     id: u64,
     index: u64,
 )
-    requires keep { keep.now.count ≡ pool.now.count }
-    requires pass { pass.old.pool ≡ pool.now.id }
-    requires exec { pool.now.exec.0 ≡ 7 }
-    requires room { length (adds_of pass.old) < 100000 }
-    ensures pass { (pass.new.pool ≡ pass.old.pool) × (pass.new.number ≡ pass.old.number) }
-    ensures one { length (adds_of pass.new) ≡ length (adds_of pass.old) + 1 }
+    requires adding { IsAdding pool.now adding.old.owner adding.old.keep adding.old.pass adding.old.helper index }
+    requires room { index < 4294967295 }
+    ensures { IsAdding pool.now adding.new.owner adding.new.keep adding.new.pass adding.new.helper (index + 1) }
 {
-    match pool.add(rt, keep, pass, priority, J::of(id)) {
+    match pool.add(rt, &adding.keep, &mut adding.pass, priority, J::of(id)) {
         Ok(ticket) => same(rt, (ticket.adder, ticket.index), (0, index)),
         Err(Refused::Memory(job)) => {
             same(rt, job.taken_apart(), id);
@@ -137,32 +140,59 @@ fn add<J: Numbered, R: Abort + Wait>(
 fn add_rows<J: Numbered, R: Abort + Wait>(
     rt: &R,
     pool: &Pool<J>,
-    keep: &KeepAlive,
-    pass: &mut PoolPass<J>,
+    adding: &mut Adding<J>,
     rows: &[(i8, u64)],
 )
-    requires keep { keep.now.count ≡ pool.now.count }
-    requires pass { (pass.old.pool ≡ pool.now.id) × (adds_of pass.old ≡ []) }
-    requires exec { pool.now.exec.0 ≡ 7 }
+    requires adding { IsAdding pool.now adding.old.owner adding.old.keep adding.old.pass adding.old.helper 0 }
     requires few { length rows.now ≤ 1000 }
-    ensures { pass.new.pool ≡ pass.old.pool }
+    ensures { IsAdding pool.now adding.new.owner adding.new.keep adding.new.pass adding.new.helper (length rows.now) }
 {
     for index in 0..rows.len() {
         let (priority, id) = rows[index];
-        add(rt, pool, keep, pass, priority, id, index as u64);
+        add(rt, pool, adding, priority, id, index as u64);
     }
 }
 
-// A thousand rows, half of them for the middle queue and half for the highest.
-fn thousand_rows<R: Abort>(rt: &R, alloc: Global) -> Vec<(i8, u64)>
-    ensures { length result.items ≤ 1000 }
+// Helps once, where there is a helper. Its world grows by the job that ran, if any; and one ran, or none, where that is asked for.
+#[tactic(auto, using(crate::proofs::Lists::helper_of_pool, crate::proofs::Lists::helper_stays))]
+fn help<J: Job<Vec<u64>>, G: Gate, R: Abort + Wait>(
+    rt: &R,
+    pool: &Pool<J>,
+    helper: &mut Option<HelperPass<J>>,
+    world: &mut Vec<u64>,
+    gate: &G,
+    expected: Option<bool>,
+)
+    requires { IsHelper pool.now helper.old }
+    ensures { IsHelper pool.now helper.new }
 {
-    let mut rows = Vec::new(alloc);
-    for id in 0..1000 {
-        let priority = if id % 2 == 0 { 0 } else { 127 };
-        rows.push((priority, id)).expect(rt, "memory");
+    let before = world.len();
+    if let Some(helper) = helper {
+        let ran = match pool.help(rt, helper, world, gate) {
+            Helped::Ran => true,
+            Helped::Empty => false,
+        };
+        let grown = world.len().saturating_sub(before);
+        same(
+            rt,
+            (grown, ran),
+            (usize::from(ran), expected.unwrap_or(ran)),
+        );
     }
-    rows
+}
+
+// The end of the helper, where there is one.
+fn end_helper<J: Headed, R: Abort>(
+    rt: &R,
+    alloc: Global,
+    helper: Option<HelperPass<J>>,
+) -> Vec<HelperEnd<J>>
+    ensures { result.items ≡ option_to_list helper }
+{
+    match helper {
+        Some(helper) => list_of(rt, alloc, helper.end()),
+        None => Vec::new(alloc),
+    }
 }
 
 // A list of one.
@@ -174,42 +204,40 @@ fn list_of<X, R: Abort>(rt: &R, alloc: Global, item: X) -> Vec<X>
     list
 }
 
-// Lets the keep-alive go, and begins to join. (Tests call the pool by such functions, which tell them no more than they need.)
-fn begin_to_join<J: Headed, R: Abort + Wait>(
-    rt: &R,
-    alloc: Global,
-    pool: &Pool<J>,
-    owner: KeepOwner,
-    keep: KeepAlive,
-    pass: PoolPass<J>,
-) -> Joining<J>
-    requires owner { owner.count ≡ pool.now.count }
-    requires pass { pass.pool ≡ pool.now.id }
-    requires one { pool.now.adders ≡ 1 }
-    ensures passes { AreAllPasses pool.now.id pool.now.adders result.passes }
-    ensures pool { result.pool ≡ pool.now.id }
-{
-    let _ = keep.release();
-    pool.begin_join(rt, owner, list_of(rt, alloc, pass))
+// A pool whose end has begun, by a join or by a stop, and the ends of its helpers.
+struct Begun<J: Headed> {
+    ending: Result<Joining<J>, Stopping<J>>,
+    helped: Vec<HelperEnd<J>>,
 }
 
-// Lets the keep-alive go, and begins to stop.
-fn begin_to_stop<J: Headed, R: Abort + Wait>(
+// Lets the keep-alive go, and begins to stop or to join. (Tests call the pool by such functions, which tell them no more than they need.)
+#[tactic(auto, using(crate::proofs::Lists::all_helped))]
+fn begin_to_end<J: Headed, R: Abort + Wait>(
     rt: &R,
     alloc: Global,
     pool: &Pool<J>,
-    owner: KeepOwner,
-    keep: KeepAlive,
-    pass: PoolPass<J>,
-) -> Stopping<J>
-    requires owner { owner.count ≡ pool.now.count }
-    requires pass { pass.pool ≡ pool.now.id }
-    requires one { pool.now.adders ≡ 1 }
-    ensures passes { AreAllPasses pool.now.id pool.now.adders result.passes }
-    ensures pool { result.pool ≡ pool.now.id }
+    adding: Adding<J>,
+    stops: bool,
+) -> Begun<J>
+    requires { IsAdding pool.now adding.owner adding.keep adding.pass adding.helper (length (adds_of adding.pass)) }
+    ensures { HasBegunToEnd pool.now result.ending result.helped.items }
 {
+    let Adding {
+        owner,
+        keep,
+        pass,
+        helper,
+    } = adding;
     let _ = keep.release();
-    pool.begin_stop(rt, owner, list_of(rt, alloc, pass))
+    let helped = end_helper(rt, alloc, helper);
+    let passes = list_of(rt, alloc, pass);
+    if stops {
+        let ending = Err(pool.begin_stop(rt, owner, passes));
+        Begun { ending, helped }
+    } else {
+        let ending = Ok(pool.begin_join(rt, owner, passes));
+        Begun { ending, helped }
+    }
 }
 
 // Works with the one worker of a pool.
@@ -217,44 +245,65 @@ fn work_at<J: Job<Vec<u64>>, R: Abort + Wait>(
     rt: &R,
     alloc: Global,
     pool: &Pool<J>,
-    workers: Vec<WorkerPass<J>>,
+    workers: Vec<Worker<J>>,
     world: &mut Vec<u64>,
 ) -> Vec<WorkerEnd<J>>
-    requires workers { All (λ w. w.pool ≡ pool.now.id) workers.items }
+    requires workers { All (λ s. IfSome s.pass (λ p. p.pool ≡ pool.now.id)) workers.items }
+    requires ends { All (λ s. s.end ≡ None) workers.items }
     requires one { (length workers.items ≡ 1) × (pool.now.workers ≡ 1) }
     ensures { AreAllEnds pool.now.id pool.now.workers result.items }
 {
-    let end = pool.work(rt, only_worker(rt, pool, workers), world, &OpenGate);
-    list_of(rt, alloc, end)
+    let mut worker = only_of(rt, workers);
+    worker.work(rt, pool, world, &OpenGate);
+    list_of(rt, alloc, worker.end(rt))
 }
 
-// What is left of a pool that is joined: the records of all of its tasks, which are so many, and nothing that is handed back.
-fn all_ran<J: Numbered, R: Abort>(rt: &R, end: PoolEnd<J>, tasks: usize) -> Runs {
+// What is left of a pool that has accepted so many tasks: the records of all of them, or, where it was stopped, of some, and the other
+// tasks, which are handed back.
+fn check_end<J: Numbered, R: Abort>(
+    rt: &R,
+    end: PoolEnd<J>,
+    stops: bool,
+    tasks: usize,
+) -> (Runs, Returned<J>) {
     let PoolEnd {
         accepted,
         ran,
         mut returned,
     } = end;
-    let found = (accepted, ran.len(), ran.stopped(), returned.len());
-    same(rt, found, (tasks as u64, tasks, false, 0));
-    same(rt, next_back(&mut returned), None);
-    ran
-}
-
-// What is left of a pool that is stopped: so many records, and the other tasks, which are handed back.
-fn some_ran<J: Headed, R: Abort>(rt: &R, end: PoolEnd<J>, tasks: usize) -> (Runs, Returned<J>) {
-    let PoolEnd {
-        accepted,
-        ran,
-        returned,
-    } = end;
     let all = ran.len().saturating_add(returned.len());
     same(
         rt,
         (accepted, ran.stopped(), all),
-        (tasks as u64, true, tasks),
+        (tasks as u64, stops, tasks),
     );
+    if !stops {
+        same(rt, returned.len(), 0);
+        same(rt, next_back(&mut returned), None);
+    }
     (ran, returned)
+}
+
+// Joins or stops a pool with so many tasks, as it was begun.
+fn end_pool<J: Numbered, R: Abort + Wait>(
+    rt: &R,
+    pool: Pool<J>,
+    begun: Begun<J>,
+    ends: Vec<WorkerEnd<J>>,
+    world: &mut Vec<u64>,
+    tasks: usize,
+) -> (Runs, Returned<J>)
+    requires begun { HasBegunToEnd pool begun.ending begun.helped.items }
+    requires ends { AreAllEnds pool.id pool.workers ends.items }
+{
+    let Begun { ending, helped } = begun;
+    match ending {
+        Ok(joining) => {
+            let end = pool.join(rt, joining, ends, helped, world);
+            check_end(rt, end, false, tasks)
+        }
+        Err(stopping) => check_end(rt, pool.stop(rt, stopping, ends, helped), true, tasks),
+    }
 }
 
 // The ids of the records, in order, and how many there are.
@@ -287,110 +336,42 @@ fn only_of<X, R: Abort>(rt: &R, mut list: Vec<X>) -> X
     item
 }
 
-// The one pass of a new pool with one adder.
-fn only_pass<J: Headed, R: Abort>(rt: &R, adders: Vec<PoolPass<J>>) -> PoolPass<J>
-    requires { length adders.items ≡ 1 }
-    ensures { (id : PoolId) → adders.items ≡ new_passes id 0 1 → (result.pool ≡ id) × (adds_of result ≡ []) }
-{
-    new_passes_are_unused();
-    only_of(rt, adders)
-}
-
-// A list of so many items.
-fn so_many<X, R: Abort>(rt: &R, list: Vec<X>, count: u32) -> Vec<X>
-    ensures { (result ≡ list) × (length result.items ≡ count) }
-{
-    assert!(rt; list.len() == count as usize);
-    list
-}
-
-// The last of the workers' passes.
-fn next_worker<J: Headed, R: Abort>(
-    rt: &R,
-    pool: &Pool<J>,
-    workers: &mut Vec<WorkerPass<J>>,
-) -> WorkerPass<J>
-    requires { All (λ w. w.pool ≡ pool.now.id) workers.old.items }
-    ensures pool { result.pool ≡ pool.now.id }
-    ensures rest { All (λ w. w.pool ≡ pool.now.id) workers.new.items }
-    ensures one { length workers.old.items ≡ length workers.new.items + 1 }
-{
-    let _ = pool;
-    last_of(rt, workers)
-}
-
-// The one worker's pass.
-fn only_worker<J: Headed, R: Abort>(
-    rt: &R,
-    pool: &Pool<J>,
-    mut workers: Vec<WorkerPass<J>>,
-) -> WorkerPass<J>
-    requires all { All (λ w. w.pool ≡ pool.now.id) workers.items }
-    requires one { length workers.items ≡ 1 }
-    ensures { result.pool ≡ pool.now.id }
-{
-    let worker = next_worker(rt, pool, &mut workers);
-    workers.destroy_empty();
-    worker
-}
-
-// The one helper's pass.
-fn only_helper<J: Headed, R: Abort>(
-    rt: &R,
-    pool: &Pool<J>,
-    helpers: Vec<HelperPass<J>>,
-) -> HelperPass<J>
-    requires all { All (λ h. h.pool ≡ pool.now.id) helpers.items }
-    requires one { length helpers.items ≡ 1 }
-    ensures { result.pool ≡ pool.now.id }
-{
-    let _ = pool;
-    only_of(rt, helpers)
-}
-
-// What adds to a pool with one adder: the keep-alive, its owner, and the pass.
-struct Adding<J> {
-    owner: KeepOwner,
-    keep: KeepAlive,
-    pass: PoolPass<J>,
-}
-
-// A pool of three queues, one adder, and so many workers and helpers.
+// A pool of three queues, one adder, so many workers, and at most one helper.
 struct Opened<J: Headed> {
     pool: Pool<J>,
     adding: Adding<J>,
-    workers: Vec<WorkerPass<J>>,
-    helpers: Vec<HelperPass<J>>,
+    workers: Vec<Worker<J>>,
 }
 
 fn open_pool<J: Headed, R: Abort>(rt: &R, alloc: Global, workers: u32, helpers: u32) -> Opened<J>
-    requires some { 0 < workers }
-    requires few { (workers ≤ 64) × (helpers ≤ 64) }
-    ensures pool { (result.pool.adders ≡ 1) × (result.pool.workers ≡ workers) × (result.pool.helpers ≡ helpers) × (result.pool.exec.0 ≡ 7) }
-    ensures keeps { (result.adding.owner.count ≡ result.pool.count) × (result.adding.keep.count ≡ result.pool.count) }
-    ensures pass { (result.adding.pass.pool ≡ result.pool.id) × (adds_of result.adding.pass ≡ []) }
-    ensures workers { All (λ w. w.pool ≡ result.pool.id) result.workers.items }
-    ensures worker_count { length result.workers.items ≡ workers }
-    ensures helpers { All (λ h. h.pool ≡ result.pool.id) result.helpers.items }
-    ensures helper_count { length result.helpers.items ≡ helpers }
+    requires workers { (0 < workers) × (workers ≤ 64) }
+    requires helpers { helpers ≤ 1 }
+    ensures adding { IsAdding result.pool result.adding.owner result.adding.keep result.adding.pass result.adding.helper 0 }
+    ensures workers { All (λ s. IfSome s.pass (λ p. p.pool ≡ result.pool.id)) result.workers.items }
+    ensures ends { All (λ s. s.end ≡ None) result.workers.items }
+    ensures count { (length result.workers.items ≡ workers) × (result.pool.workers ≡ workers) }
 {
     let PoolParts {
         pool,
         owner,
         keep,
         adders,
-        workers: works,
-        helpers: helps,
+        workers,
+        mut helpers,
     } = Pool::new(alloc, ExecId(7), 3, 1, workers, helpers, 0).expect(rt, "memory");
-    let pass = only_pass(rt, adders);
-    let works = so_many(rt, works, workers);
-    let helps = so_many(rt, helps, helpers);
+    let pass = only_of(rt, adders);
+    let helper = helpers.pop();
+    helpers.destroy_empty();
     new_passes_are_unused();
     Opened {
         pool,
-        adding: Adding { owner, keep, pass },
-        workers: works,
-        helpers: helps,
+        adding: Adding {
+            owner,
+            keep,
+            pass,
+            helper,
+        },
+        workers: new_slots(rt, alloc, workers),
     }
 }
 
@@ -435,24 +416,79 @@ impl<P, E> Slot<P, E> {
     }
 }
 
+// A worker of a pool.
+type Worker<J> = Slot<WorkerPass<J>, WorkerEnd<J>>;
+
+// Slots of those that have not worked.
+fn new_slots<P, E, R: Abort>(rt: &R, alloc: Global, mut passes: Vec<P>) -> Vec<Slot<P, E>>
+    ensures passes { All (λ s. IfSome s.pass (Contains passes.items)) result.items }
+    ensures ends { All (λ s. s.end ≡ None) result.items }
+    ensures count { length result.items ≡ length passes.items }
+{
+    let mut slots = Vec::with_capacity(alloc, passes.len()).expect(rt, "memory");
+    while let Some(pass) = passes.pop() {
+        slots.push_reserved(new_slot(pass));
+    }
+    passes.destroy_empty();
+    slots
+}
+
+// The ends of all that have worked.
+fn all_ends<P, E, R: Abort>(rt: &R, alloc: Global, mut slots: Vec<Slot<P, E>>) -> Vec<E>
+    ensures ends { All (λ e. Contains (map (λ s. s.end) slots.items) (Some e)) result.items }
+    ensures count { length result.items ≡ length slots.items }
+{
+    let mut ends = Vec::with_capacity(alloc, slots.len()).expect(rt, "memory");
+    while let Some(slot) = slots.pop() {
+        ends.push_reserved(slot.end(rt));
+    }
+    slots.destroy_empty();
+    ends
+}
+
 impl<J: Job<Vec<u64>>> Slot<WorkerPass<J>, WorkerEnd<J>> {
-    // Works with a world of its own, between the calls of the gate.
-    fn work<R: Wait, G: Gate>(&mut self, rt: &R, alloc: Global, pool: &Pool<J>, gate: &G)
+    // Works with this world, between the calls of the gate.
+    fn work<R: Wait, G: Gate>(&mut self, rt: &R, pool: &Pool<J>, world: &mut Vec<u64>, gate: &G)
         requires pass { IfSome self.old.pass (λ p. p.pool ≡ pool.now.id) }
         requires end { self.old.end ≡ None }
         ensures { IfSome self.new.end (λ e. e.pool ≡ pool.now.id) }
     {
         if let Some(pass) = self.pass.take() {
-            let mut world = Vec::new(alloc);
-            self.put_end(pool.work(rt, pass, &mut world, gate));
+            self.put_end(pool.work(rt, pass, world, gate));
         }
     }
 }
 
-// The id of the next task that was handed back, which is taken apart.
-fn next_back<J: Numbered>(returned: &mut Returned<J>) -> Option<u64> {
-    let (_, job) = returned.pop()?;
-    Some(job.taken_apart())
+// The ticket and the id of the next task that was handed back, which is taken apart.
+fn next_back<J: Numbered>(returned: &mut Returned<J>) -> Option<(Ticket, u64)> {
+    let (ticket, job) = returned.pop()?;
+    Some((ticket, job.taken_apart()))
+}
+
+// Adds tasks, begins to join or to stop, and works on this thread with a worker. A helper finds no job before, and one once the
+// tasks are added. What is left is compared.
+fn run_alone<J: Numbered, R: Abort + Wait>(
+    rt: &R,
+    alloc: Global,
+    rows: &[(i8, u64)],
+    helpers: u32,
+    stops: bool,
+    world: &mut Vec<u64>,
+) -> (Runs, Returned<J>)
+    requires few { length rows.now ≤ 1000 }
+    requires helpers { helpers ≤ 1 }
+{
+    let Opened {
+        pool,
+        mut adding,
+        workers,
+    } = open_pool::<J, R>(rt, alloc, 1, helpers);
+    help(rt, &pool, &mut adding.helper, world, &OpenGate, Some(false));
+    add_rows(rt, &pool, &mut adding, rows);
+    help(rt, &pool, &mut adding.helper, world, &OpenGate, Some(true));
+    let begun = begin_to_end(rt, alloc, &pool, adding, stops);
+    let ends = work_at(rt, alloc, &pool, workers, world);
+    end_pool(rt, pool, begun, ends, world, rows.len())
 }
 
 // Adds tasks, joins, and works. The tasks have to run in this order, and each has to have its record.
@@ -464,24 +500,8 @@ fn run_rows<J: Numbered, R: Abort + Wait>(
 )
     requires { length rows.now ≤ 1000 }
 {
-    let Opened {
-        pool,
-        adding,
-        workers,
-        helpers,
-    } = open_pool::<J, R>(rt, alloc, 1, 0);
-    helpers.destroy_empty();
-    let Adding {
-        owner,
-        keep,
-        mut pass,
-    } = adding;
-    add_rows(rt, &pool, &keep, &mut pass, rows);
-    let joining = begin_to_join(rt, alloc, &pool, owner, keep, pass);
     let mut world = Vec::new(alloc);
-    let ends = work_at(rt, alloc, &pool, workers, &mut world);
-    let end = pool.join(rt, joining, ends, Vec::new(alloc), &mut world);
-    let ran = all_ran(rt, end, rows.len());
+    let (ran, _) = run_alone::<J, R>(rt, alloc, rows, 0, false, &mut world);
     check_list(rt, ids(rt, alloc, ran), expected);
     check_list(rt, world, expected);
 }
@@ -497,26 +517,14 @@ fn an_empty_pool_ends(rt: HostRuntime) {
     run_rows::<Note, HostRuntime>(&rt, rt.alloc(), &[], &[]);
 }
 
-// Stops a pool with two tasks before its worker works. None of them ran, and both come back.
-fn stop_two<J: Numbered, R: Abort + Wait>(rt: &R, alloc: Global) -> Returned<J> {
-    let Opened {
-        pool,
-        adding,
-        workers,
-        helpers,
-    } = open_pool::<J, R>(rt, alloc, 1, 0);
-    helpers.destroy_empty();
-    let Adding {
-        owner,
-        keep,
-        mut pass,
-    } = adding;
-    add_rows(rt, &pool, &keep, &mut pass, &[(0, 20), (0, 21)]);
-    let stopping = begin_to_stop(rt, alloc, &pool, owner, keep, pass);
-    let mut world = Vec::new(alloc);
-    let ends = work_at(rt, alloc, &pool, workers, &mut world);
-    let (ran, returned) = some_ran(rt, pool.stop(rt, stopping, ends, Vec::new(alloc)), 2);
-    same(rt, (ran.len(), returned.len(), world.len()), (0, 2, 0));
+// What a stopped pool handed back, where so many tasks have a record and so many came back.
+fn came_back<J: Numbered, R: Abort>(
+    rt: &R,
+    left: (Runs, Returned<J>),
+    expected: (usize, usize),
+) -> Returned<J> {
+    let (ran, returned) = left;
+    same(rt, (ran.len(), returned.len()), expected);
     returned
 }
 
@@ -527,24 +535,20 @@ fn first_back<J: Numbered, R: Abort>(rt: &R, returned: &mut Returned<J>) -> J {
     job
 }
 
-// Runs the job that comes back next.
+// Runs the job that comes back next, and compares its record: its index, its queue, its id, its executor 7, and the number that its run
+// marks as done.
 fn run_back<J: Numbered, R: Abort + Wait>(
     rt: &R,
     returned: &mut Returned<J>,
     world: &mut Vec<u64>,
-) -> RunRecord {
-    returned.run_next(rt, world).expect(rt, "a task")
-}
-
-// Compares the record of a task of the executor 7: its index, its queue, its id, and the number that its run marks as done.
-fn check_record<R: Abort>(rt: &R, record: &RunRecord, place: (u64, u32, u64), number: u64) {
+    place: (u64, u32, u64),
+    number: u64,
+) {
+    let record = returned.run_next(rt, world).expect(rt, "a task");
     let found = (record.ticket().index, record.queue(), record.job().0);
     same(rt, found, place);
-    same(
-        rt,
-        (record.exec(), record.mark()),
-        (ExecId(7), Mark::Done(number)),
-    );
+    let marked = (record.exec(), record.mark());
+    same(rt, marked, (ExecId(7), Mark::Done(number)));
 }
 
 // Runs a job outside of the pool.
@@ -554,11 +558,15 @@ fn run_outside<J: Numbered, R: Abort + Wait>(rt: &R, job: J, world: &mut Vec<u64
     same(rt, found, (2, 20, Mark::Done(10)));
 }
 
+// Stops a pool with two tasks before its worker works. None of them ran, and both come back.
 fn run_what_comes_back<J: Numbered, R: Abort + Wait>(rt: &R, alloc: Global) {
-    let mut returned = stop_two::<J, R>(rt, alloc);
+    let rows = [(0, 20), (0, 21)];
     let mut world = Vec::new(alloc);
+    let left = run_alone::<J, R>(rt, alloc, &rows, 0, true, &mut world);
+    let mut returned = came_back(rt, left, (0, 2));
+    same(rt, world.len(), 0);
     let job = first_back(rt, &mut returned);
-    check_record(rt, &run_back(rt, &mut returned, &mut world), (1, 1, 21), 10);
+    run_back(rt, &mut returned, &mut world, (1, 1, 21), 10);
     assert!(rt; returned.run_next(rt, &mut world).is_none());
     run_outside(rt, job, &mut world);
     check_list(rt, world, &[21, 20]);
@@ -569,20 +577,58 @@ fn a_stopped_pool_hands_its_tasks_back(rt: HostRuntime) {
     run_what_comes_back::<Note, HostRuntime>(&rt, rt.alloc());
 }
 
-// Each id below a thousand has to stand here once: in order they are 0, 1, 2, and so on.
-fn check_once<R: Abort>(rt: &R, mut ids: Vec<u64>) {
+// Each id below a count has to stand here once: in order they are 0, 1, 2, and so on.
+fn check_once<R: Abort>(rt: &R, mut ids: Vec<u64>, count: usize) {
     ids.sort_unstable();
-    same(rt, ids.len(), 1000);
+    same(rt, ids.len(), count);
     for index in 0..ids.len() {
         same(rt, ids[index], index as u64);
     }
 }
 
-// The ids of the tasks that were handed back, behind those that are there.
-fn put_back_ids<J: Numbered, R: Abort>(rt: &R, ids: &mut Vec<u64>, mut returned: Returned<J>) {
+// Puts the index of a ticket behind those that are there. The ticket is of the one adder, and its index is the id of its task.
+fn put_index<R: Abort>(rt: &R, indexes: &mut Vec<u64>, ticket: Ticket, id: u64) {
+    same(rt, (ticket.adder, ticket.index), (0, id));
+    indexes.push(id).expect(rt, "memory");
+}
+
+// Puts the indexes of the records' tickets behind those that are there.
+fn put_ran<R: Abort>(rt: &R, indexes: &mut Vec<u64>, mut ran: Runs) {
+    for _ in 0..ran.len() {
+        let record = ran.pop().expect(rt, "a record");
+        put_index(rt, indexes, record.ticket(), record.job().0);
+    }
+}
+
+// The same for the tasks that were handed back.
+fn put_back<J: Numbered, R: Abort>(rt: &R, indexes: &mut Vec<u64>, mut returned: Returned<J>) {
     for _ in 0..returned.len() {
-        let id = next_back(&mut returned).expect(rt, "a task");
-        ids.push(id).expect(rt, "memory");
+        let (ticket, id) = next_back(&mut returned).expect(rt, "a task");
+        put_index(rt, indexes, ticket, id);
     }
     same(rt, next_back(&mut returned), None);
+}
+
+// Ends a pool whose tasks have the indexes of their tickets as ids, and of which none is left where it is joined. Each of so many has to have
+// a record, or to be handed back, once. It gives how many have a record.
+fn end_once<J: Numbered, R: Abort + Wait>(
+    rt: &R,
+    alloc: Global,
+    pool: Pool<J>,
+    begun: Begun<J>,
+    ends: Vec<WorkerEnd<J>>,
+    tasks: usize,
+) -> u64
+    requires begun { HasBegunToEnd pool begun.ending begun.helped.items }
+    requires ends { AreAllEnds pool.id pool.workers ends.items }
+{
+    let mut world = Vec::new(alloc);
+    let (ran, returned) = end_pool(rt, pool, begun, ends, &mut world, tasks);
+    same(rt, world.len(), 0);
+    let records = ran.len();
+    let mut indexes = Vec::new(alloc);
+    put_ran(rt, &mut indexes, ran);
+    put_back(rt, &mut indexes, returned);
+    check_once(rt, indexes, tasks);
+    records as u64
 }

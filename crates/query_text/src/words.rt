@@ -36,8 +36,8 @@ pub fn without_spare(words: Words) -> Words
     Words::from_vec(words)
 }
 
-/// Puts the word that the first so many bytes of a line are behind the others. A word with 16 bytes of line from its first on is
-/// read from these 16 together.
+/// Puts the word that the first so many bytes of a line are behind the others. A word of at most 16 bytes, with 16 bytes of line from
+/// its first on, is read from these 16 together, any other alone.
 fn push_word(words: &mut Words, line: &[u8], size: usize) -> Result<(), LineFault>
     requires { size ≤ length line.now }
     ensures ok { OnOk result (PutsWord words.old words.new (take size line.now)) }

@@ -19,7 +19,7 @@ pub struct Frequent {
 
 impl Frequent {
     /// Those of so many words that stand in at least one of 32 of so many documents, and in 64 at least: the bits of each take less room
-    /// than its places.
+    /// than its places with their times.
     pub fn of(
         alloc: Global,
         sorted: &Sorted,

@@ -102,6 +102,50 @@ fn ascending_docs(alloc: Global) -> Result<Docs, Fail> {
     Ok(docs)
 }
 
+const OF_MANY_WORDS: Questions = Questions {
+    finds: &[
+        "w0000",
+        "w4999",
+        "w2559 | w2560",
+        "a w0255",
+        "w0256 ! a",
+        "! a",
+    ],
+    tops: &[(3, "a w3000"), (100, "w0150 w4095")],
+    counts: &["w0000 a w4999", "w4096 w4097"],
+    end: 101,
+};
+
+// One of ten thousand words.
+fn numbered_word(number: u32) -> Result<Word, Fail> {
+    let mut text = *b"w0000";
+    let mut rest = number;
+    for place in [4, 3, 2, 1] {
+        text[place] = b"0123456789"[(rest % 10) as usize];
+        rest /= 10;
+    }
+    Ok(Word::new(&text)?)
+}
+
+// 100 documents with 50 words each that no other has, so many that one shard sorts their places in two goes; every third has one word more.
+fn docs_of_many_words(alloc: Global) -> Result<Docs, Fail> {
+    let mut docs = Docs::new(alloc);
+    for i in 0..100u32 {
+        let mut words = Words::new(alloc);
+        for j in 0..50u32 {
+            words.push(numbered_word(i * 50 + j)?)?;
+        }
+        if i % 3 == 0 {
+            words.push(Word::new(b"a")?)?;
+        }
+        docs.push(Doc {
+            id: (i * 37 + 11) % 101,
+            words,
+        })?;
+    }
+    Ok(docs)
+}
+
 /// Whether the shards find this.
 fn finds(shards: &Shards, ask: &Ask, before: u32, wanted: &Hits) -> Result<bool, Fail>
     requires { StandForSome shards.now }
@@ -269,6 +313,18 @@ fn shards_of_ascending_ids_answer_as_a_plain_shard_does(rt: HostRuntime) -> Resu
     let plain = PlainShard::new(alloc, docs)?;
     for count in [1, 3, 64] {
         let differ = first_difference(&plain, count, &OF_ASCENDING)?;
+        assert_eq!(rt; differ, None, "{count} shards");
+    }
+    Ok(())
+}
+
+#[test]
+fn a_shard_of_many_words_answers_as_a_plain_shard_does(rt: HostRuntime) -> Result<(), Fail> {
+    let alloc = rt.alloc();
+    let docs = docs_of_many_words(alloc)?;
+    let plain = PlainShard::new(alloc, docs)?;
+    for count in [1, 3, 64] {
+        let differ = first_difference(&plain, count, &OF_MANY_WORDS)?;
         assert_eq!(rt; differ, None, "{count} shards");
     }
     Ok(())

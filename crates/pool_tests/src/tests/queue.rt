@@ -36,23 +36,7 @@ fn next<J: Numbered>(left: &mut Packets<Queued<J>>) -> u64 {
     }
 }
 
-// The id of the task that is taken, or 0. The taker stays one of this queue.
-fn take_next<J: Numbered, R: Wait>(
-    rt: &R,
-    queue: &TaskQueue<J>,
-    taker: &mut Taker<J>,
-    looks: &mut Looks<J>,
-) -> u64
-    requires { taker.old.queue ≡ queue.now }
-    ensures { taker.new.queue ≡ taker.old.queue }
-{
-    match queue.take(rt, taker, 0, looks) {
-        Some(task) => id_of(task),
-        None => 0,
-    }
-}
-
-// Takes a task, of which the job has to have this id; where it is 0, the queue has to be empty.
+// Takes a task, of which the job has to have this id; where it is 0, the queue has to be empty. The taker stays one of this queue.
 fn check_take<J: Numbered, R: Abort + Wait>(
     rt: &R,
     queue: &TaskQueue<J>,
@@ -63,13 +47,11 @@ fn check_take<J: Numbered, R: Abort + Wait>(
     requires { taker.old.queue ≡ queue.now }
     ensures { taker.new.queue ≡ taker.old.queue }
 {
-    same(rt, take_next(rt, queue, taker, looks), id);
-}
-
-// Takes a task apart that was refused, and ends the test.
-fn refused<J: Numbered, R: Abort>(rt: &R, task: Queued<J>) -> ! {
-    let _ = id_of(task);
-    rt.panic("memory")
+    let found = match queue.take(rt, taker, 0, looks) {
+        Some(task) => id_of(task),
+        None => 0,
+    };
+    same(rt, found, id);
 }
 
 // Pushes an adder's first task, for which there has to be memory.
@@ -87,7 +69,10 @@ fn push_first<J: Numbered, R: Abort + Wait>(
 {
     match queue.push(rt, adder, make_task(number, 0, id)) {
         Ok(()) => {}
-        Err(Refused::Memory(task)) => refused(rt, task),
+        Err(Refused::Memory(task)) => {
+            same(rt, id_of(task), id);
+            rt.panic("memory")
+        }
     }
 }
 

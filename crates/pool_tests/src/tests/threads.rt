@@ -1,16 +1,16 @@
 // Four workers on threads of their own, between the calls of a gate that counts, beside one that adds, helps and ends the pool.
-ghost use Rattle.std.specs.Prelude.{◌≡◌, ◌+◌, ◌≤◌, [], All, IfSome, IfOk, IfErr, Some, None, length};
-ghost use Rattle.pool_model.specs.Passes.{AreAllPasses, AreAllEnds, adds_of};
+ghost use Rattle.std.specs.Prelude.{◌≡◌, All, IfSome, None, length};
+ghost use Rattle.pool_tests.specs.Ending.{IsAdding, HasBegunToEnd};
 
+use super::kept::Kept;
 use super::*;
-use pool_model::Ticket;
 use std::sync::atomic::{AtomicU64, Ordering};
-use std::thread;
+use std::thread::{self, Threads, join_mut};
 
 // Counts the tasks that began and those that ended, and the calls of each task. Once `most` have begun, it holds each further one
 // until it is opened.
 #[derive(Drop)]
-struct CountGate {
+pub(super) struct CountGate {
     begun: AtomicU64,
     ended: AtomicU64,
     opened: AtomicU64,
@@ -22,7 +22,7 @@ struct CountGate {
 }
 
 impl CountGate {
-    fn new<R: Abort>(rt: &R, alloc: Global, most: u64, tasks: u64) -> CountGate {
+    pub(super) fn new<R: Abort>(rt: &R, alloc: Global, most: u64, tasks: u32) -> CountGate {
         let mut calls = Vec::new(alloc);
         for _ in 0..tasks {
             calls.push(AtomicU64::new(0)).expect(rt, "memory");
@@ -84,38 +84,13 @@ impl Gate for CountGate {
     }
 }
 
-// A worker of a pool.
-type Worker = Slot<WorkerPass<Note>, WorkerEnd<Note>>;
-
-// Four workers that have not worked.
-fn four_slots<R: Abort>(
-    rt: &R,
-    alloc: Global,
-    pool: &Pool<Note>,
-    mut passes: Vec<WorkerPass<Note>>,
-) -> Vec<Worker>
-    requires passes { All (λ w. w.pool ≡ pool.now.id) passes.items }
-    requires four { length passes.items ≡ 4 }
-    ensures passes { All (λ s. IfSome s.pass (λ p. p.pool ≡ pool.now.id)) result.items }
-    ensures ends { All (λ s. s.end ≡ None) result.items }
-    ensures four { length result.items ≡ 4 }
-{
-    let mut slots = Vec::with_capacity(alloc, 4).expect(rt, "memory");
-    slots.push_reserved(new_slot(next_worker(rt, pool, &mut passes)));
-    slots.push_reserved(new_slot(next_worker(rt, pool, &mut passes)));
-    slots.push_reserved(new_slot(next_worker(rt, pool, &mut passes)));
-    slots.push_reserved(new_slot(next_worker(rt, pool, &mut passes)));
-    passes.destroy_empty();
-    slots
-}
-
 // All of them work, each on a thread of its own.
-fn all_work<R: Wait + Threads + Sync>(
+pub(super) fn all_work<R: Wait + Threads + Sync>(
     rt: &R,
     alloc: Global,
-    pool: &Pool<Note>,
+    pool: &Pool<Kept>,
     gate: &CountGate,
-    slots: &mut Vec<Worker>,
+    slots: &mut Vec<Worker<Kept>>,
 )
     requires passes { All (λ s. IfSome s.pass (λ p. p.pool ≡ pool.now.id)) slots.old.items }
     requires ends { All (λ s. s.end ≡ None) slots.old.items }
@@ -130,119 +105,112 @@ fn all_work<R: Wait + Threads + Sync>(
             requires pass { IfSome slot.now.pass (λ p. p.pool ≡ pool.now.id) }
             requires end { slot.now.end ≡ None }
             ensures { IfSome slot.exit.now.end (λ e. e.pool ≡ pool.entry.now.id) }
-        { slot.work(rt, alloc, pool, gate) },
+        { slot.work(rt, pool, &mut Vec::new(alloc), gate) },
     );
 }
 
-// The end of the last of them.
-fn next_end<R: Abort>(rt: &R, pool: &Pool<Note>, slots: &mut Vec<Worker>) -> WorkerEnd<Note>
-    requires { All (λ s. IfSome s.end (λ e. e.pool ≡ pool.now.id)) slots.old.items }
-    ensures end { result.pool ≡ pool.now.id }
-    ensures rest { All (λ s. IfSome s.end (λ e. e.pool ≡ pool.now.id)) slots.new.items }
-    ensures one { length slots.old.items ≡ length slots.new.items + 1 }
-{
-    let _ = pool;
-    last_of(rt, slots).end(rt)
+// What is done beside workers, where it helps behind each task if the pool has a helper.
+#[derive(Clone, Copy)]
+pub(super) struct Plan {
+    // So many tasks are added, each second one with this priority and the others with 0.
+    pub(super) tasks: u32,
+    pub(super) second: i8,
+    // Behind each so many it waits until all of them have ended, so that the workers go to sleep and are woken in between; never, where
+    // this is 0.
+    pub(super) group: u64,
+    // Whether it begins to stop, and not to join.
+    pub(super) stops: bool,
+    // How many tasks the gate lets begin, and then holds each further one until the end of the pool has begun. Where it is less than the
+    // tasks, the end begins once each worker is held.
+    pub(super) most: u64,
 }
 
-// The ends of four workers that have worked.
-fn four_ends<R: Abort>(
-    rt: &R,
-    alloc: Global,
-    pool: &Pool<Note>,
-    mut slots: Vec<Worker>,
-) -> Vec<WorkerEnd<Note>>
-    requires ends { All (λ s. IfSome s.end (λ e. e.pool ≡ pool.now.id)) slots.items }
-    requires four { (length slots.items ≡ 4) × (pool.now.workers ≡ 4) }
-    ensures { AreAllEnds pool.now.id pool.now.workers result.items }
-{
-    let mut ends = Vec::with_capacity(alloc, 4).expect(rt, "memory");
-    ends.push_reserved(next_end(rt, pool, &mut slots));
-    ends.push_reserved(next_end(rt, pool, &mut slots));
-    ends.push_reserved(next_end(rt, pool, &mut slots));
-    ends.push_reserved(next_end(rt, pool, &mut slots));
-    slots.destroy_empty();
-    ends
-}
-
-// Adds so many tasks behind those that the pass has added.
-fn add_group<J: Numbered, R: Abort + Wait>(
-    rt: &R,
-    pool: &Pool<J>,
-    keep: &KeepAlive,
-    pass: &mut PoolPass<J>,
-    added: u64,
-    size: u64,
-)
-    requires keep { keep.now.count ≡ pool.now.count }
-    requires pass { pass.old.pool ≡ pool.now.id }
-    requires exec { pool.now.exec.0 ≡ 7 }
-    requires added { length (adds_of pass.old) ≡ added }
-    requires few { added + size ≤ 50000 }
-    ensures pass { pass.new.pool ≡ pass.old.pool }
-    ensures added { length (adds_of pass.new) ≡ added + size }
-{
-    for index in 0..size {
-        let id = added + index;
-        add(rt, pool, keep, pass, 0, id, id);
-    }
-}
-
-// Adds tasks, and waits after each so many until all of them have ended, so that the workers go to sleep and are woken in between.
-// Then it begins to join.
-fn add_in_groups<J: Numbered, R: Abort + Wait>(
+// Adds the tasks of a plan.
+fn add_tasks<J: Numbered, R: Abort + Wait>(
     rt: &R,
     alloc: Global,
     pool: &Pool<J>,
     gate: &CountGate,
-    groups: u64,
-    size: u64,
-    adding: Adding<J>,
-) -> Joining<J>
-    requires keeps { (adding.owner.count ≡ pool.now.count) × (adding.keep.count ≡ pool.now.count) }
-    requires pass { (adding.pass.pool ≡ pool.now.id) × (adds_of adding.pass ≡ []) }
-    requires one { (pool.now.adders ≡ 1) × (pool.now.exec.0 ≡ 7) }
-    ensures passes { AreAllPasses pool.now.id pool.now.adders result.passes }
-    ensures pool { result.pool ≡ pool.now.id }
+    plan: Plan,
+    adding: &mut Adding<J>,
+)
+    requires { IsAdding pool.now adding.old.owner adding.old.keep adding.old.pass adding.old.helper 0 }
+    ensures { IsAdding pool.now adding.new.owner adding.new.keep adding.new.pass adding.new.helper plan.tasks }
 {
-    let Adding {
-        owner,
-        keep,
-        mut pass,
-    } = adding;
-    let mut added = 0;
-    for _ in 0..groups {
-        if size <= 50_000 - added {
-            add_group(rt, pool, &keep, &mut pass, added, size);
-            added += size;
+    let mut world = Vec::new(alloc);
+    for id in 0..plan.tasks as u64 {
+        let priority = if id % 2 == 1 { plan.second } else { 0 };
+        add(rt, pool, adding, priority, id, id);
+        help(rt, pool, &mut adding.helper, &mut world, gate, None);
+        if plan.group > 0 && (id + 1) % plan.group == 0 {
+            await_count(&gate.ended, id + 1);
         }
-        await_count(&gate.ended, added);
     }
-    begin_to_join(rt, alloc, pool, owner, keep, pass)
 }
 
-// Joins the pool, whose workers have left no task to it. Each of so many tasks has to have a record, and both calls of the gate.
-fn end_joined<J: Numbered, R: Abort + Wait>(
+// What adds, and what it has begun: a join or a stop.
+pub(super) type Adder<J> = Slot<Adding<J>, Begun<J>>;
+
+// Adds tasks, waits until so many have begun where the gate holds any, begins to join or to stop, and then opens the gate.
+pub(super) fn add_beside<J: Numbered, R: Abort + Wait>(
+    rt: &R,
+    alloc: Global,
+    pool: &Pool<J>,
+    gate: &CountGate,
+    plan: Plan,
+    adder: &mut Adder<J>,
+)
+    requires adding { IfSome adder.old.pass (λ a. IsAdding pool.now a.owner a.keep a.pass a.helper 0) }
+    requires end { adder.old.end ≡ None }
+    ensures { IfSome adder.new.end (λ b. HasBegunToEnd pool.now b.ending b.helped.items) }
+{
+    let Some(mut adding) = adder.pass.take() else {
+        return;
+    };
+    add_tasks(rt, alloc, pool, gate, plan, &mut adding);
+    if gate.most < u64::MAX {
+        await_count(&gate.begun, gate.most.saturating_add(4));
+    }
+    let begun = begin_to_end(rt, alloc, pool, adding, plan.stops);
+    gate.opened.store(1, Ordering::SeqCst);
+    adder.put_end(begun);
+}
+
+// Compares what the gate counted: both calls of each task that has a record. Where it held four workers, none was taken since.
+fn check_counts<R: Abort>(rt: &R, counts: &CountGate, records: u64) {
+    if counts.most == 400 {
+        same(rt, records, 404);
+    }
+    same(rt, counts.passed(), (records, 0));
+}
+
+// Ends a pool whose workers have worked, and for which what a plan says has been done. No task is lost.
+pub(super) fn end_beside<J: Numbered, R: Abort + Wait>(
     rt: &R,
     alloc: Global,
     pool: Pool<J>,
-    joining: Joining<J>,
-    ends: Vec<WorkerEnd<J>>,
-    counts: &CountGate,
-    tasks: usize,
-) -> Runs
-    requires pool { joining.pool ≡ pool.id }
-    requires passes { AreAllPasses pool.id pool.adders joining.passes }
-    requires ends { AreAllEnds pool.id pool.workers ends.items }
-    requires helpers { pool.helpers ≡ 0 }
+    gate: &CountGate,
+    plan: Plan,
+    workers: Vec<Worker<J>>,
+    adder: Adder<J>,
+)
+    requires ends { All (λ s. IfSome s.end (λ e. e.pool ≡ pool.id)) workers.items }
+    requires count { length workers.items ≡ pool.workers }
+    requires begun { IfSome adder.end (λ b. HasBegunToEnd pool b.ending b.helped.items) }
 {
-    let mut world = Vec::new(alloc);
-    let end = pool.join(rt, joining, ends, Vec::new(alloc), &mut world);
-    let ran = all_ran(rt, end, tasks);
-    same(rt, world.len(), 0);
-    same(rt, counts.passed(), (tasks as u64, 0));
-    ran
+    let ends = all_ends(rt, alloc, workers);
+    let records = end_once(rt, alloc, pool, adder.end(rt), ends, plan.tasks as usize);
+    check_counts(rt, gate, records);
 }
+
+// A thousand tasks of two priorities and a join, beside four workers.
+pub(super) const THOUSAND: Plan = Plan {
+    tasks: 1000,
+    second: 127,
+    group: 0,
+    stops: false,
+    most: u64::MAX,
+};
 
 #[test]
 fn four_workers_run_a_thousand_tasks(rt: HostRuntime) {
@@ -251,180 +219,62 @@ fn four_workers_run_a_thousand_tasks(rt: HostRuntime) {
     let Opened {
         pool,
         adding,
-        workers,
-        helpers,
-    } = open_pool::<Note, HostRuntime>(rt, alloc, 4, 0);
-    helpers.destroy_empty();
-    let counts = CountGate::new(rt, alloc, u64::MAX, 1000);
-    let Adding {
-        owner,
-        keep,
-        mut pass,
-    } = adding;
-    let rows = thousand_rows(rt, alloc);
-    add_rows(rt, &pool, &keep, &mut pass, rows.as_slice());
-    let joining = begin_to_join(rt, alloc, &pool, owner, keep, pass);
-    let mut slots = four_slots(rt, alloc, &pool, workers);
-    all_work(rt, alloc, &pool, &counts, &mut slots);
-    let ends = four_ends(rt, alloc, &pool, slots);
-    let ran = end_joined(rt, alloc, pool, joining, ends, &counts, 1000);
-    check_once(rt, ids(rt, alloc, ran));
+        mut workers,
+    } = open_pool::<Kept, HostRuntime>(rt, alloc, 4, 0);
+    let mut adder = new_slot(adding);
+    let gate = CountGate::new(rt, alloc, u64::MAX, 1000);
+    add_beside(rt, alloc, &pool, &gate, THOUSAND, &mut adder);
+    all_work(rt, alloc, &pool, &gate, &mut workers);
+    end_beside(rt, alloc, pool, &gate, THOUSAND, workers, adder);
 }
 
-// The tickets' indexes of what ran and of what was handed back.
-fn indexes<J: Numbered, R: Abort>(
-    rt: &R,
-    alloc: Global,
-    mut ran: Runs,
-    mut returned: Returned<J>,
-) -> Vec<u64> {
-    let mut indexes = Vec::new(alloc);
-    for _ in 0..ran.len() {
-        let record = ran.pop().expect(rt, "a record");
-        put_index(rt, &mut indexes, record.ticket(), record.job().0);
-    }
-    for _ in 0..returned.len() {
-        let Some((ticket, job)) = returned.pop() else {
-            rt.panic("a task")
-        };
-        put_index(rt, &mut indexes, ticket, job.taken_apart());
-    }
-    indexes
-}
-
-// Puts the index of a ticket behind those that are there. The ticket is of the one adder, and its index is the id of its task.
-fn put_index<R: Abort>(rt: &R, indexes: &mut Vec<u64>, ticket: Ticket, id: u64) {
-    same(
-        rt,
-        ticket,
-        Ticket {
-            adder: 0,
-            index: id,
-        },
-    );
-    indexes.push(id).expect(rt, "memory");
-}
-
-// What adds, and what it has begun: a join or a stop.
-type Adder<J> = Slot<Adding<J>, Result<Joining<J>, Stopping<J>>>;
-
-// Adds groups of tasks, so many and each of this size, and begins to join. Or, where there are none, it adds a thousand tasks, waits
-// until so many have begun where the gate holds any, begins to stop, and then opens the gate.
-fn add_beside<J: Numbered, R: Abort + Wait>(
-    rt: &R,
-    alloc: Global,
-    pool: &Pool<J>,
-    gate: &CountGate,
-    groups: Option<(u64, u64)>,
-    adder: &mut Adder<J>,
-)
-    requires keeps { IfSome adder.old.pass (λ a. (a.owner.count ≡ pool.now.count) × (a.keep.count ≡ pool.now.count)) }
-    requires pass { IfSome adder.old.pass (λ a. (a.pass.pool ≡ pool.now.id) × (adds_of a.pass ≡ [])) }
-    requires one { (pool.now.adders ≡ 1) × (pool.now.exec.0 ≡ 7) }
-    requires end { adder.old.end ≡ None }
-    ensures joining { IfSome adder.new.end (λ b. IfOk b (λ j. AreAllPasses pool.now.id pool.now.adders j.passes × (j.pool ≡ pool.now.id))) }
-    ensures stopping { IfSome adder.new.end (λ b. IfErr b (λ s. AreAllPasses pool.now.id pool.now.adders s.passes × (s.pool ≡ pool.now.id))) }
-{
-    let Some(adding) = adder.pass.take() else {
-        return;
-    };
-    let begun = match groups {
-        Some((groups, size)) => Ok(add_in_groups(rt, alloc, pool, gate, groups, size, adding)),
-        None => {
-            let Adding {
-                owner,
-                keep,
-                mut pass,
-            } = adding;
-            let rows = thousand_rows(rt, alloc);
-            add_rows(rt, pool, &keep, &mut pass, rows.as_slice());
-            if gate.most < u64::MAX {
-                await_count(&gate.begun, gate.most.saturating_add(4));
-            }
-            let stopping = begin_to_stop(rt, alloc, pool, owner, keep, pass);
-            gate.opened.store(1, Ordering::SeqCst);
-            Err(stopping)
-        }
-    };
-    adder.put_end(begun);
-}
-
-// Joins or stops the pool, as it was begun. After a stop each of so many tickets has to have a record, with both calls of the gate, or to
-// be handed back, once; where the gate held the four, none was taken since.
-fn end_begun<J: Numbered, R: Abort + Wait>(
-    rt: &R,
-    alloc: Global,
-    pool: Pool<J>,
-    begun: Result<Joining<J>, Stopping<J>>,
-    ends: Vec<WorkerEnd<J>>,
-    counts: &CountGate,
-    tasks: usize,
-)
-    requires joining { IfOk begun (λ j. AreAllPasses pool.id pool.adders j.passes × (j.pool ≡ pool.id)) }
-    requires stopping { IfErr begun (λ s. AreAllPasses pool.id pool.adders s.passes × (s.pool ≡ pool.id)) }
-    requires ends { AreAllEnds pool.id pool.workers ends.items }
-    requires helpers { pool.helpers ≡ 0 }
-{
-    match begun {
-        Ok(joining) => {
-            let _ = end_joined(rt, alloc, pool, joining, ends, counts, tasks);
-        }
-        Err(stopping) => {
-            let end = pool.stop(rt, stopping, ends, Vec::new(alloc));
-            let (ran, returned) = some_ran(rt, end, tasks);
-            let records = ran.len();
-            if counts.most == 400 {
-                same(rt, records, 404);
-            }
-            same(rt, counts.passed(), (records as u64, 0));
-            check_once(rt, indexes(rt, alloc, ran, returned));
-        }
-    }
-}
-
-// What is added beside the four workers, between the calls of a gate, with so many tasks in all: one by one, and as a stream, in groups
-// of a size, before a join; and a thousand before a stop, where the gate lets 400 begin, and holds each worker at its next one until the
-// stop has begun, or holds none.
+// Four workers: one by one, and as a stream, before a join; and a thousand before a stop, where the gate holds the four, or none.
 #[test]
 fn four_workers_beside_one_that_adds_lose_no_task(rt: HostRuntime) {
     let rt = &rt;
     let alloc = rt.alloc();
-    let rows = [
-        (Some((5000, 1)), u64::MAX, 5000),
-        (Some((20, 1000)), u64::MAX, 20_000),
-        (None, 400, 1000),
-        (None, u64::MAX, 1000),
+    let stop = Plan {
+        stops: true,
+        ..THOUSAND
+    };
+    let plans = [
+        Plan {
+            tasks: 5000,
+            second: 0,
+            group: 1,
+            ..THOUSAND
+        },
+        Plan {
+            tasks: 20_000,
+            second: 0,
+            group: 1000,
+            ..THOUSAND
+        },
+        Plan { most: 400, ..stop },
+        stop,
     ];
-    for (groups, most, tasks) in rows {
+    for plan in plans {
         let Opened {
             pool,
             adding,
-            workers,
-            helpers,
-        } = open_pool::<Note, HostRuntime>(rt, alloc, 4, 0);
-        helpers.destroy_empty();
-        let mut slots = four_slots(rt, alloc, &pool, workers);
+            mut workers,
+        } = open_pool::<Kept, HostRuntime>(rt, alloc, 4, 0);
         let mut adder = new_slot(adding);
-        let counts = CountGate::new(rt, alloc, most, tasks);
+        let gate = CountGate::new(rt, alloc, plan.most, plan.tasks);
         join_mut(
             rt,
             &mut ||
-                requires passes { All (λ s. IfSome s.pass (λ p. p.pool ≡ pool.id)) slots.items }
-                requires ends { All (λ s. s.end ≡ None) slots.items }
-                ensures ends { All (λ s. IfSome s.end (λ e. e.pool ≡ pool.id)) slots.exit.items }
-                ensures count { length slots.exit.items ≡ length slots.entry.items }
-            { all_work(rt, alloc, &pool, &counts, &mut slots) },
+                requires passes { All (λ s. IfSome s.pass (λ p. p.pool ≡ pool.id)) workers.items }
+                requires ends { All (λ s. s.end ≡ None) workers.items }
+                ensures ends { All (λ s. IfSome s.end (λ e. e.pool ≡ pool.id)) workers.exit.items }
+                ensures count { length workers.exit.items ≡ length workers.entry.items }
+            { all_work(rt, alloc, &pool, &gate, &mut workers) },
             &mut ||
-                requires keeps { IfSome adder.pass (λ a. (a.owner.count ≡ pool.count) × (a.keep.count ≡ pool.count)) }
-                requires pass { IfSome adder.pass (λ a. (a.pass.pool ≡ pool.id) × (adds_of a.pass ≡ [])) }
-                requires one { (pool.adders ≡ 1) × (pool.exec.0 ≡ 7) }
+                requires adding { IfSome adder.pass (λ a. IsAdding pool a.owner a.keep a.pass a.helper 0) }
                 requires end { adder.end ≡ None }
-                ensures joining { IfSome adder.exit.end (λ b. IfOk b (λ j. AreAllPasses pool.id pool.adders j.passes × (j.pool ≡ pool.id))) }
-                ensures stopping { IfSome adder.exit.end (λ b. IfErr b (λ s. AreAllPasses pool.id pool.adders s.passes × (s.pool ≡ pool.id))) }
-            { add_beside(rt, alloc, &pool, &counts, groups, &mut adder) },
+                ensures { IfSome adder.exit.end (λ b. HasBegunToEnd pool b.ending b.helped.items) }
+            { add_beside(rt, alloc, &pool, &gate, plan, &mut adder) },
         );
-        let ends = four_ends(rt, alloc, &pool, slots);
-        let begun = adder.end(rt);
-        end_begun(rt, alloc, pool, begun, ends, &counts, tasks as usize);
+        end_beside(rt, alloc, pool, &gate, plan, workers, adder);
     }
 }

@@ -1,6 +1,5 @@
-use Rattle.std.proofs.Common.{◌≡◌, length}
-use Rattle.pool_model.specs.Passes.{adds_of}
+use Rattle.pool_tests.specs.Ending.{IsAdding}
 use Rattle.pool_tests.proofs.tests.add_rows.Given as goal
 
 abbrev pub invariant-loop-index : goal.invariant-loop-index
-invariant-loop-index g l = (l.pass.pool ≡ l.initial.pass.pool) × (length (adds_of l.pass) ≡ l.index)
+invariant-loop-index g l = IsAdding l.fn.pool l.adding.owner l.adding.keep l.adding.pass l.adding.helper l.index

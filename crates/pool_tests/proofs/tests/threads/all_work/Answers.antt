@@ -2,7 +2,7 @@ use denote.Param.Send.{sendable}
 use Rattle.std.proofs.alloc.Global.TheSendSync as global
 use Rattle.prio_pool.proofs.Crossings.{Pool-sync}
 use Rattle.pool_tests.proofs.Crossings.{inwards, outwards}
-use Rattle.pool_tests.proofs.tests.Note.TheSendSync as job
+use Rattle.pool_tests.proofs.tests.kept.Kept.TheSendSync as job
 use Rattle.pool_tests.proofs.tests.threads.CountGate.TheSendSync as gate
 use Rattle.pool_tests.proofs.tests.Slot.TheSendSync as slot
 use Rattle.pool_tests.proofs.tests.threads.all_work.Goals as goal

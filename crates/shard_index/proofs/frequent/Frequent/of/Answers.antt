@@ -11,7 +11,7 @@ items bits = bits.items
 
 pub bits_at-requires : goal.bits_at-requires
 bits_at-requires c = λ k d within.
-    let low = places-low c.args.sorted.now c.requires.0 c.requires.1 c.at-number.result.0 c.at-number.result.1.now c.requires.4 (omega (arith, c.if-number-words.true, c.requires.2)) c.at-number.ensures k d within in
+    let low = places-low c.args.sorted.now c.requires.0 c.requires.1 c.at-number.result.0 c.at-number.result.1.now c.requires.4 (omega (arith, c.if-number-words.true, c.requires.2)) c.at-number.ensures.places k d within in
     omega (arith, low, c.requires.3)
 
 pub loop-at-preserved : goal.loop-at-preserved
@@ -26,7 +26,7 @@ loop-at-preserved c = λ known docs many for.
           let put : c.if-places-least.bits.items ≡ c.loop-at.bits.items ++ one ∷ [] = (λ k. (w.bits-is k).items) ∙ w.in_ok-push-2.ensures.items in
           beside-more c.loop-at.numbers.items (map items c.loop-at.bits.items) c.if-places-least.numbers.items (map items c.if-places-least.bits.items) number one.items known docs pushed
           (ap (λ (bs : List (Vec ℕ Global)). map items bs) put ∙ map-append items c.loop-at.bits.items (one ∷ []))
-          (λ word is. w.in_ok-beside.ensures (has_word word) docs many (places-of-word c.args.sorted.now known docs number word places for is c.at-number.ensures)) before
+          (λ word is. w.in_ok-beside.ensures (has_word word) docs many (places-of-word c.args.sorted.now known docs number word places for is c.at-number.ensures.places)) before
       | else-places-least w ↦
           let numbers : c.if-places-least.numbers.items ≡ c.loop-at.numbers.items = λ k. (w.numbers-is k).items in
           let rows : map items c.if-places-least.bits.items ≡ map items c.loop-at.bits.items = λ k. map items (w.bits-is k).items in
