@@ -5,7 +5,6 @@ use Rattle.std.proofs.lemmas.List.Elements.{All-head, All-nil, All-push, All-con
 use Rattle.pool_model.specs.Passes.{AreAllEnds}
 use Rattle.pool_model.specs.Seen.{PoolId, PoolSeen, EndSeen}
 use Rattle.prio_pool.specs.Made.{new_workers, new_ends}
-use Rattle.pool_tests.specs.declared.tests.Slot.{Slot}
 use Rattle.pool_tests.specs.Ending.{IsHelper}
 
 pub none_left : {X : Type 0} (all rest : List X) (x : X) → all ≡ rest ++ x ∷ [] → length all ≡ 1 → length rest ≡ 0
@@ -59,19 +58,18 @@ count_helpers pool first zero = refl
 count_helpers pool first (suc n) = ap suc (count_helpers pool (first + 1) n)
 
 -- What is known of each pass is known of each slot's, where that is one of these.
-pub slots_have : {P E : Type 0} (Q : P → Type 0) (passes : List P) (slots : List (Slot P E)) → All Q passes → All (λ s. IfSome s.pass (Contains passes)) slots → All (λ s. IfSome s.pass Q) slots
-slots_have {P} {E} Q passes slots all from = All-weaker (λ s. IfSome s.pass (Contains passes)) (λ s. IfSome s.pass Q) (λ s. some s.pass) slots from
+pub slots_have : {S P : Type 0} (pass : S → Option P) (Q : P → Type 0) (passes : List P) (slots : List S) → All Q passes → All (λ s. IfSome (pass s) (Contains passes)) slots → All (λ s. IfSome (pass s) Q) slots
+slots_have {S} {P} pass Q passes slots all from = All-weaker (λ s. IfSome (pass s) (Contains passes)) (λ s. IfSome (pass s) Q) (λ s. some (pass s)) slots from
   where
     some : (o : Option P) → IfSome o (Contains passes) → IfSome o Q
     some (Some p) is = All-contains Q passes p all is
     some None is = tt
 
 -- The ends of all slots of a pool's workers are all ends of its workers.
-pub all_ended : {P : Type 0} (pool : PoolId) (workers : ℕ) (slots : List (Slot P EndSeen)) (ends : List EndSeen) → All (λ s. IfSome s.end (λ e. e.pool ≡ pool)) slots → All (λ e. Contains (map (λ s. s.end) slots) (Some e)) ends → length ends ≡ length slots → length slots ≡ workers → AreAllEnds pool workers ends
-all_ended {P} pool workers slots ends all from count whole =
+pub all_ended : {S : Type 0} (end : S → Option EndSeen) (pool : PoolId) (workers : ℕ) (slots : List S) (ends : List EndSeen) → All (λ s. IfSome (end s) (λ e. e.pool ≡ pool)) slots → All (λ e. Contains (map end slots) (Some e)) ends → length ends ≡ length slots → length slots ≡ workers → AreAllEnds pool workers ends
+all_ended end pool workers slots ends all from count whole =
     let OfPool : EndSeen → Type 0 = λ e. e.pool ≡ pool in
     let Has : Option EndSeen → Type 0 = λ o. IfSome o OfPool in
-    let end : Slot P EndSeen → Option EndSeen = λ s. s.end in
     let found = All-map Has end slots all in
     record {
       of_pool = All-weaker (λ e. Contains (map end slots) (Some e)) OfPool (λ e is. All-contains Has (map end slots) (Some e) found is) ends from;

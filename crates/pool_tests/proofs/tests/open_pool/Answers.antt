@@ -38,7 +38,7 @@ returns-clause-workers g c =
     let parts = rw c.expect-pool.ensures at c.new.ensures in
     let id = c.expect-pool.result.pool.id in
     let OfPool : WorkerSeen → Type 0 = λ w. w.pool ≡ id in
-    slots_have OfPool c.expect-pool.result.workers.items c.new_slots.result.items (subst (All OfPool) (sym parts.works_are) (c.new_passes_are_unused.ensures.workers id 0 c.args.workers)) c.new_slots.ensures.passes
+    slots_have (λ s. s.pass) OfPool c.expect-pool.result.workers.items c.new_slots.result.items (subst (All OfPool) (sym parts.works_are) (c.new_passes_are_unused.ensures.workers id 0 c.args.workers)) c.new_slots.ensures.passes
 
 pub returns-clause-count : goal.returns-clause-count
 returns-clause-count g c =
