@@ -5,6 +5,7 @@ pub mod OnceLemmas
 mod PlaceLemmas
 mod JoinLemmas
 mod BothLemmas
+mod HeadLemmas
 mod NarrowLemmas
 mod RunLemmas
 mod SelectionLemmas

@@ -306,14 +306,10 @@ total-fits parts i total part within is so_far fits =
     let all = sum-map (λ (h : Hits). h.total) parts in
     omega arith
 
-pub merged-of : (parts : List Hits) (i : ℕ) (listed : List ℕ) (total : ℕ) → length parts ≤ i → listed ≡ take 100 (sorted_by ltb (flat_map (λ h. h.ids) (take i parts)))
-    → total ≡ sum (map (λ h. h.total) (take i parts)) → ◌≡◌ {A = Hits} (record { ids = listed; total = total }) (merged_hits parts)
+pub merged-of : (parts : List Hits) (listed : List ℕ) (total : ℕ) → listed ≡ take 100 (sorted_by ltb (flat_map (λ h. h.ids) parts))
+    → total ≡ sum (map (λ h. h.total) parts) → ◌≡◌ {A = Hits} (record { ids = listed; total = total }) (merged_hits parts)
 unfolding merged_hits
-merged-of parts i listed total past are sums =
-    let whole = take_all i parts past in
-    let all : listed ≡ take 100 (sorted_by ltb (flat_map (λ h. h.ids) parts)) = are ∙ ap (λ hs. take 100 (sorted_by ltb (flat_map (λ h. h.ids) hs))) whole in
-    let number : total ≡ sum (map (λ h. h.total) parts) = sums ∙ ap (λ hs. sum (map (λ h. h.total) hs)) whole in
-    λ k. record { ids = all k; total = number k }
+merged-of parts listed total are sums = λ k. record { ids = are k; total = sums k }
 
 pub scores-of : (k i : ℕ) (parts : List (List (ℕ × ℕ))) (kept : List (ℕ × ℕ)) → length parts ≤ i → kept ≡ take k (sorted_by ranks_before (flat_map (λ scores. scores) (take i parts))) → kept ≡ merged_scores k parts
 unfolding merged_scores

@@ -7,3 +7,4 @@ pub mod Scored
 pub mod Counting
 pub mod Totals
 pub mod Parts
+pub mod Heads

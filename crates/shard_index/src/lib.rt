@@ -32,6 +32,7 @@ mod bits;
 mod counts;
 mod frequent;
 mod front;
+mod heads;
 mod hits;
 mod index;
 mod join;

@@ -1,9 +1,12 @@
-ghost use Rattle.std.specs.Prelude.{◌≡◌, ◌<◌, ◌^◌, All, ℕ, IfOk, length, map, sum};
+ghost use Rattle.std.specs.Prelude.{◌≡◌, ◌<◌, ◌^◌, All, ℕ, IfOk, length, map, nat_lt, sum, take, true};
+ghost use Rattle.std.specs.List.{flat_map};
 ghost use Rattle.query_model.specs.Parts.{merged_hits, merged_scores};
+ghost use Rattle.query_model.specs.Sorting.{sorted_by, IsInOrder};
 ghost use Rattle.shard_index.specs.Parts.{total_with, weight_by, weights_by};
 
-use crate::best::{keep_ids, keep_scores};
+use crate::best::{ascend, keep_ids, keep_scores};
 use crate::counts::Counts;
+use crate::heads::least_ids;
 use fan_base::{Ids, Memory, Scores};
 use query_model::Hits;
 use query_model::limits::MOST_LISTED;
@@ -14,16 +17,50 @@ pub fn merge_hits(alloc: Global, parts: &[Hits]) -> Result<Hits, Memory>
     requires { sum (map (λ hits. hits.total) parts.now) < 2 ^ 64 }
     ensures { IfOk result (λ hits. hits ≡ merged_hits parts.now) }
 {
+    let ids = first_of_parts(alloc, parts, MOST_LISTED)?;
+    Ok(Hits {
+        ids: Ids::from_vec(ids),
+        total: total_of(parts),
+    })
+}
+
+/// The `most` smallest ids of all parts, ascending. Where those of each part ascend, as those of a shard do, all parts are gone over at once,
+/// else one after another.
+fn first_of_parts(alloc: Global, parts: &[Hits], most: usize) -> Result<Vec<u32>, AllocError>
+    ensures { IfOk result (λ first. first.items ≡ take most (sorted_by nat_lt (flat_map (λ hits. hits.ids) parts.now))) }
+{
+    if all_ascend(parts) {
+        return least_ids(alloc, parts, most);
+    }
     let mut kept = Vec::new(alloc);
+    for part in parts {
+        keep_ids(&mut kept, most, part.ids.as_slice())?;
+    }
+    Ok(kept)
+}
+
+/// Whether the ids of each part ascend.
+fn all_ascend(parts: &[Hits]) -> bool
+    ensures { result ≡ true → All (λ hits. IsInOrder nat_lt hits.ids) parts.now }
+{
+    for part in parts {
+        if !ascend(part.ids.as_slice()) {
+            return false;
+        }
+    }
+    true
+}
+
+/// The sum of the totals.
+fn total_of(parts: &[Hits]) -> u64
+    requires { sum (map (λ hits. hits.total) parts.now) < 2 ^ 64 }
+    ensures { result ≡ sum (map (λ hits. hits.total) parts.now) }
+{
     let mut total = 0;
     for part in parts {
-        keep_ids(&mut kept, MOST_LISTED, part.ids.as_slice())?;
         total += part.total;
     }
-    Ok(Hits {
-        ids: Ids::from_vec(kept),
-        total,
-    })
+    total
 }
 
 /// The first `k` scores of all parts together, the greater score first, then the smaller id.
