@@ -24,12 +24,12 @@ pub fn merge_hits(alloc: Global, parts: &[Hits]) -> Result<Hits, Memory>
     })
 }
 
-/// The `most` smallest ids of all parts, ascending. Where those of each part ascend, as those of a shard do, all parts are gone over at once,
-/// else one after another.
+/// The `most` smallest ids of all parts, ascending. Where those of each part ascend, as those of a shard do, all parts are gone over at once.
+/// One or two, or such as don't ascend, are merged one after another.
 fn first_of_parts(alloc: Global, parts: &[Hits], most: usize) -> Result<Vec<u32>, AllocError>
     ensures { IfOk result (λ first. first.items ≡ take most (sorted_by nat_lt (flat_map (λ hits. hits.ids) parts.now))) }
 {
-    if all_ascend(parts) {
+    if parts.len() > 2 && all_ascend(parts) {
         return least_ids(alloc, parts, most);
     }
     let mut kept = Vec::new(alloc);
