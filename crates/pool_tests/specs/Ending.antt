@@ -1,8 +1,13 @@
 -- A pool that tasks are added to, and one whose end has begun.
 use Rattle.std.specs.Prelude.{◌≡◌, ℕ, List, Option, MatchOption, Result, IfOk, IfErr, length}
+use Rattle.fan_base.specs.declared.number.ExecId.{ExecId}
 use Rattle.keep_alive.specs.Seen.{TokenSeen, OwnerSeen}
 use Rattle.pool_model.specs.Passes.{AreAllPasses, AreAllEnds, adds_of}
 use Rattle.pool_model.specs.Seen.{PoolSeen, PassSeen, EndSeen, EndingSeen}
+
+-- The executor of a test's pool.
+abbrev pub tests_exec : ExecId
+tests_exec = record { 0 = 7 }
 
 -- The pass of the pool's one helper, where it has one.
 abbrev pub IsHelper : PoolSeen → Option EndSeen → Type 0

@@ -1,7 +1,8 @@
 // Pools on one thread and on several.
-ghost use Rattle.std.specs.Prelude.{◌≡◌, ◌⊎◌, ◌+◌, ◌<◌, ◌≤◌, ◌∷◌, ◌++◌, [], length, map, option_to_list, All, Contains, IfSome, Some, None};
+ghost use Rattle.std.specs.Prelude.{◌≡◌, ◌⊎◌, ◌+◌, ◌<◌, ◌≤◌, ◌∷◌, ◌++◌, [], true, false, length, map, option_to_list, vec_capacity, All, Contains, IfSome, Some, None};
 ghost use Rattle.pool_model.specs.Passes.{AreAllEnds, adds_of};
-ghost use Rattle.pool_tests.specs.Ending.{IsAdding, IsHelper, HasBegunToEnd};
+ghost use Rattle.prio_pool.specs.Made.{IsNewPool};
+ghost use Rattle.pool_tests.specs.Ending.{IsAdding, IsHelper, HasBegunToEnd, tests_exec};
 
 use fan_base::{ExecId, Gate, JobId, Mark, OpenGate, Refused};
 use job_trait::{Head, Headed, Job};
@@ -114,7 +115,33 @@ struct Adding<J> {
     helper: Option<HelperPass<J>>,
 }
 
-// Adds a task, for which there has to be memory. It gets the ticket of the one adder with this index.
+// Adds a task. It gets the ticket of the one adder with this index. Where memory is refused the job comes back.
+fn is_added<J: Numbered, R: Abort + Wait>(
+    rt: &R,
+    pool: &Pool<J>,
+    adding: &mut Adding<J>,
+    priority: i8,
+    id: u64,
+    index: u64,
+) -> bool
+    requires adding { IsAdding pool.now adding.old.owner adding.old.keep adding.old.pass adding.old.helper index }
+    requires room { index < 4294967295 }
+    ensures added { result ≡ true → IsAdding pool.now adding.new.owner adding.new.keep adding.new.pass adding.new.helper (index + 1) }
+    ensures refused { result ≡ false → IsAdding pool.now adding.new.owner adding.new.keep adding.new.pass adding.new.helper index }
+{
+    match pool.add(rt, &adding.keep, &mut adding.pass, priority, J::of(id)) {
+        Ok(ticket) => {
+            same(rt, (ticket.adder, ticket.index), (0, index));
+            true
+        }
+        Err(Refused::Memory(job)) => {
+            same(rt, job.taken_apart(), id);
+            false
+        }
+    }
+}
+
+// Adds a task, and once more where memory is refused.
 fn add<J: Numbered, R: Abort + Wait>(
     rt: &R,
     pool: &Pool<J>,
@@ -127,12 +154,10 @@ fn add<J: Numbered, R: Abort + Wait>(
     requires room { index < 4294967295 }
     ensures { IsAdding pool.now adding.new.owner adding.new.keep adding.new.pass adding.new.helper (index + 1) }
 {
-    match pool.add(rt, &adding.keep, &mut adding.pass, priority, J::of(id)) {
-        Ok(ticket) => same(rt, (ticket.adder, ticket.index), (0, index)),
-        Err(Refused::Memory(job)) => {
-            same(rt, job.taken_apart(), id);
-            rt.panic("memory")
-        }
+    if !is_added(rt, pool, adding, priority, id, index)
+        && !is_added(rt, pool, adding, priority, id, index)
+    {
+        rt.panic("memory")
     }
 }
 
@@ -195,11 +220,22 @@ fn end_helper<J: Headed, R: Abort>(
     }
 }
 
+// An empty list with room for so many. Where memory is refused it is asked for once more.
+fn list_with_room<X, R: Abort>(rt: &R, alloc: Global, room: usize) -> Vec<X>
+    ensures items { result.items ≡ [] }
+    ensures room { room ≤ vec_capacity result }
+{
+    match Vec::with_capacity(alloc, room) {
+        Ok(list) => list,
+        Err(_) => Vec::with_capacity(alloc, room).expect(rt, "memory"),
+    }
+}
+
 // A list of one.
 fn list_of<X, R: Abort>(rt: &R, alloc: Global, item: X) -> Vec<X>
     ensures { result.items ≡ item ∷ [] }
 {
-    let mut list = Vec::with_capacity(alloc, 1).expect(rt, "memory");
+    let mut list = list_with_room(rt, alloc, 1);
     list.push_reserved(item);
     list
 }
@@ -308,7 +344,7 @@ fn end_pool<J: Numbered, R: Abort + Wait>(
 
 // The ids of the records, in order, and how many there are.
 fn ids<R: Abort>(rt: &R, alloc: Global, mut ran: Runs) -> Vec<u64> {
-    let mut ids = Vec::new(alloc);
+    let mut ids = list_with_room(rt, alloc, ran.len());
     for _ in 0..ran.len() {
         let record = ran.pop().expect(rt, "a record");
         ids.push(record.job().0).expect(rt, "memory");
@@ -343,6 +379,18 @@ struct Opened<J: Headed> {
     workers: Vec<Worker<J>>,
 }
 
+// Makes such a pool. Where memory is refused it is asked for once more.
+fn new_pool<J: Headed, R: Abort>(rt: &R, alloc: Global, workers: u32, helpers: u32) -> PoolParts<J>
+    requires workers { (0 < workers) × (workers ≤ 64) }
+    requires helpers { helpers ≤ 1 }
+    ensures { IsNewPool tests_exec 3 1 workers helpers 0 result.pool result.owner result.keep result.adders.items result.workers.items result.helpers.items }
+{
+    match Pool::new(alloc, ExecId(7), 3, 1, workers, helpers, 0) {
+        Ok(parts) => parts,
+        Err(_) => Pool::new(alloc, ExecId(7), 3, 1, workers, helpers, 0).expect(rt, "memory"),
+    }
+}
+
 fn open_pool<J: Headed, R: Abort>(rt: &R, alloc: Global, workers: u32, helpers: u32) -> Opened<J>
     requires workers { (0 < workers) × (workers ≤ 64) }
     requires helpers { helpers ≤ 1 }
@@ -358,7 +406,7 @@ fn open_pool<J: Headed, R: Abort>(rt: &R, alloc: Global, workers: u32, helpers: 
         adders,
         workers,
         mut helpers,
-    } = Pool::new(alloc, ExecId(7), 3, 1, workers, helpers, 0).expect(rt, "memory");
+    } = new_pool(rt, alloc, workers, helpers);
     let pass = only_of(rt, adders);
     let helper = helpers.pop();
     helpers.destroy_empty();
@@ -425,7 +473,7 @@ fn new_slots<P, E, R: Abort>(rt: &R, alloc: Global, mut passes: Vec<P>) -> Vec<S
     ensures ends { All (λ s. s.end ≡ None) result.items }
     ensures count { length result.items ≡ length passes.items }
 {
-    let mut slots = Vec::with_capacity(alloc, passes.len()).expect(rt, "memory");
+    let mut slots = list_with_room(rt, alloc, passes.len());
     while let Some(pass) = passes.pop() {
         slots.push_reserved(new_slot(pass));
     }
@@ -438,7 +486,7 @@ fn all_ends<P, E, R: Abort>(rt: &R, alloc: Global, mut slots: Vec<Slot<P, E>>) -
     ensures ends { All (λ e. Contains (map (λ s. s.end) slots.items) (Some e)) result.items }
     ensures count { length result.items ≡ length slots.items }
 {
-    let mut ends = Vec::with_capacity(alloc, slots.len()).expect(rt, "memory");
+    let mut ends = list_with_room(rt, alloc, slots.len());
     while let Some(slot) = slots.pop() {
         ends.push_reserved(slot.end(rt));
     }
@@ -500,7 +548,7 @@ fn run_rows<J: Numbered, R: Abort + Wait>(
 )
     requires { length rows.now ≤ 1000 }
 {
-    let mut world = Vec::new(alloc);
+    let mut world = list_with_room(rt, alloc, rows.len());
     let (ran, _) = run_alone::<J, R>(rt, alloc, rows, 0, false, &mut world);
     check_list(rt, ids(rt, alloc, ran), expected);
     check_list(rt, world, expected);
@@ -561,7 +609,7 @@ fn run_outside<J: Numbered, R: Abort + Wait>(rt: &R, job: J, world: &mut Vec<u64
 // Stops a pool with two tasks before its worker works. None of them ran, and both come back.
 fn run_what_comes_back<J: Numbered, R: Abort + Wait>(rt: &R, alloc: Global) {
     let rows = [(0, 20), (0, 21)];
-    let mut world = Vec::new(alloc);
+    let mut world = list_with_room(rt, alloc, rows.len());
     let left = run_alone::<J, R>(rt, alloc, &rows, 0, true, &mut world);
     let mut returned = came_back(rt, left, (0, 2));
     same(rt, world.len(), 0);

@@ -1,4 +1,4 @@
-use Rattle.std.proofs.Common.{rules, ◌≡◌, ◌≤◌, ◌∷◌, ◌++◌, [], length, length-append, map, All, Contains, Option, Some, vec_capacity, ap, sym, subst, arith}
+use Rattle.std.proofs.Common.{◌≡◌, ◌≤◌, ◌∷◌, ◌++◌, [], length, length-append, map, All, Contains, Option, Some, vec_capacity, ap, sym, subst, arith}
 use Rattle.std.proofs.lemmas.List.Elements.{All-contains_itself, All-nil, All-pop, All-push}
 use Rattle.pool_tests.specs.declared.tests.Slot.{Slot}
 use Rattle.pool_tests.proofs.Lists.{map_has}
@@ -7,8 +7,8 @@ use Rattle.pool_tests.proofs.tests.all_ends.Goals as goal
 pub loop-slot-init : goal.loop-slot-init
 loop-slot-init g c =
     let IsEnd : g.row.E.Denot → Type 0 = λ e. Contains (map (λ (s : Slot g.row.P.Denot g.row.E.Denot). s.end) c.args.slots.items) (Some e) in
-    let none : c.expect-ends.result.items ≡ [] = search rules in
-    let room : length c.args.slots.items ≤ vec_capacity c.expect-ends.result = search rules in
+    let none : c.list_with_room-ends.result.items ≡ [] = c.list_with_room-ends.ensures.items in
+    let room : length c.args.slots.items ≤ vec_capacity c.list_with_room-ends.result = omega (arith, c.list_with_room-ends.ensures.room, c.len.ensures) in
     record {
       slots = All-contains_itself c.args.slots.items;
       ends = subst (All IsEnd) (sym none) (All-nil IsEnd);

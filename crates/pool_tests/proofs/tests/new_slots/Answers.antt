@@ -1,4 +1,4 @@
-use Rattle.std.proofs.Common.{rules, ◌≡◌, ◌≤◌, ◌∷◌, ◌++◌, [], length, length-append, All, Contains, IfSome, Option, Some, None, vec_capacity, ap, sym, subst, arith}
+use Rattle.std.proofs.Common.{◌≡◌, ◌≤◌, ◌∷◌, ◌++◌, [], length, length-append, All, Contains, IfSome, Option, Some, None, vec_capacity, ap, sym, subst, arith}
 use Rattle.std.proofs.lemmas.List.Elements.{All-contains_itself, All-nil, All-pop, All-push}
 use Rattle.pool_tests.specs.declared.tests.Slot.{Slot}
 use Rattle.pool_tests.proofs.tests.new_slots.Goals as goal
@@ -7,8 +7,8 @@ pub loop-pass-init : goal.loop-pass-init
 loop-pass-init g c =
     let HasPass : Slot g.row.P.Denot g.row.E.Denot → Type 0 = λ s. IfSome s.pass (Contains c.args.passes.items) in
     let HasNoEnd : Slot g.row.P.Denot g.row.E.Denot → Type 0 = λ s. s.end ≡ None in
-    let none : c.expect-slots.result.items ≡ [] = search rules in
-    let room : length c.args.passes.items ≤ vec_capacity c.expect-slots.result = search rules in
+    let none : c.list_with_room-slots.result.items ≡ [] = c.list_with_room-slots.ensures.items in
+    let room : length c.args.passes.items ≤ vec_capacity c.list_with_room-slots.result = omega (arith, c.list_with_room-slots.ensures.room, c.len.ensures) in
     record {
       passes = All-contains_itself c.args.passes.items;
       slots = subst (All HasPass) (sym none) (All-nil HasPass);

@@ -7,15 +7,15 @@ use Rattle.pool_tests.proofs.tests.open_pool.Goals as goal
 
 pub destroy_empty-requires : goal.destroy_empty-requires
 destroy_empty-requires g c =
-    let parts = rw c.expect-pool.ensures at c.new.ensures in
-    let made = c.expect-pool.result in
+    let parts = c.new_pool-pool.ensures in
+    let made = c.new_pool-pool.result in
     let count = ap length parts.helps_are ∙ count_helpers made.pool.id c.args.workers c.args.helpers in
     none_left_of c.pop-helper.result (omega (arith, count, made.helpers.ok.0, c.requires.helpers)) c.pop-helper.ensures.cases
 
 pub returns-clause-adding : goal.returns-clause-adding
 returns-clause-adding g c =
-    let parts = rw c.expect-pool.ensures at c.new.ensures in
-    let made = c.expect-pool.result in
+    let parts = c.new_pool-pool.ensures in
+    let made = c.new_pool-pool.result in
     let id = made.pool.id in
     let Unused : PassSeen → Type 0 = λ p. (p.pool ≡ id) × (adds_of p ≡ []) in
     let unused = one_has Unused made.adders.items c.only_of-pass.result c.only_of-pass.ensures (subst (All Unused) (sym parts.passes_are) (c.new_passes_are_unused.ensures.passes id 0 1)) in
@@ -35,12 +35,12 @@ returns-clause-adding g c =
 
 pub returns-clause-workers : goal.returns-clause-workers
 returns-clause-workers g c =
-    let parts = rw c.expect-pool.ensures at c.new.ensures in
-    let id = c.expect-pool.result.pool.id in
+    let parts = c.new_pool-pool.ensures in
+    let id = c.new_pool-pool.result.pool.id in
     let OfPool : WorkerSeen → Type 0 = λ w. w.pool ≡ id in
-    slots_have (λ s. s.pass) OfPool c.expect-pool.result.workers.items c.new_slots.result.items (subst (All OfPool) (sym parts.works_are) (c.new_passes_are_unused.ensures.workers id 0 c.args.workers)) c.new_slots.ensures.passes
+    slots_have (λ s. s.pass) OfPool c.new_pool-pool.result.workers.items c.new_slots.result.items (subst (All OfPool) (sym parts.works_are) (c.new_passes_are_unused.ensures.workers id 0 c.args.workers)) c.new_slots.ensures.passes
 
 pub returns-clause-count : goal.returns-clause-count
 returns-clause-count g c =
-    let parts = rw c.expect-pool.ensures at c.new.ensures in
-    (c.new_slots.ensures.count ∙ (ap length parts.works_are ∙ count_workers c.expect-pool.result.pool.id 0 c.args.workers), parts.workers_are)
+    let parts = c.new_pool-pool.ensures in
+    (c.new_slots.ensures.count ∙ (ap length parts.works_are ∙ count_workers c.new_pool-pool.result.pool.id 0 c.args.workers), parts.workers_are)
