@@ -119,6 +119,7 @@ pub fn is_at(places: &[u32], at: usize, place: u32) -> bool
     at < places.len() && places[at] == place
 }
 
+/// Whether a place is kept where those that have the bit are wanted, or the others.
 pub fn is_kept(wanted: bool, has: bool) -> bool
     ensures { result ≡ (if wanted then has else not has) }
 {

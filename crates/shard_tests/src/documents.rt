@@ -11,6 +11,7 @@ use shard_index::{Shard, Shards};
 use std::alloc::Global;
 use std::test::Fail;
 
+/// The words of a text, which single spaces part.
 pub fn words_of(alloc: Global, text: &str) -> Result<Words, Fail> {
     let mut words = Words::new(alloc);
     for part in text.split(' ') {
@@ -19,6 +20,7 @@ pub fn words_of(alloc: Global, text: &str) -> Result<Words, Fail> {
     Ok(words)
 }
 
+/// The expression that a text is, whose tokens single spaces part.
 pub fn expression(alloc: Global, text: &str) -> Result<Expr, Fail> {
     let mut tokens = Vec::new(alloc);
     for part in text.split(' ') {
@@ -34,6 +36,7 @@ pub fn expression(alloc: Global, text: &str) -> Result<Expr, Fail> {
     Ok(parse(alloc, tokens.as_slice())?)
 }
 
+/// The documents of a table of ids and texts.
 pub fn docs_of(alloc: Global, table: &[(u32, &str)]) -> Result<Docs, Fail> {
     let mut docs = Docs::new(alloc);
     for (id, text) in table {

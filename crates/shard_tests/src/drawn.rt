@@ -39,7 +39,7 @@ const OF_DRAWN: Questions = Questions {
     end: 135,
 };
 
-// 133 documents whose ids don't come in order, some with a word several times, one of 1,000 words and one of none.
+/// 133 documents whose ids don't come in order, some with a word several times, one of 1,000 words and one of none.
 pub fn drawn_docs(alloc: Global) -> Result<Docs, Fail> {
     let mut docs = Docs::new(alloc);
     for i in 0..131u32 {
