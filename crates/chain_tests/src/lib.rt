@@ -2,10 +2,6 @@
 #![tactic(auto)]
 
 #[cfg(test)]
-mod begun;
-#[cfg(test)]
-mod dispatched;
-#[cfg(test)]
 mod links;
 #[cfg(test)]
 mod proxies;

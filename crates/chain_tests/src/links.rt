@@ -1,13 +1,13 @@
 //! A thousand chains of four links each, with a proxy in the middle: the second link comes to the outcome of an inner core.
-ghost use Rattle.std.specs.Prelude.{◌≡◌, None};
+ghost use Rattle.std.specs.Prelude.{◌≡◌, None, false};
 
-use crate::seen::{Counts, Followed, Plain, Seen, closed};
+use crate::seen::{Counts, Facts, Followed, Open, Plain, Seen, closed, kept, key_of, same};
 use crate::steps::{Add, Name};
 use core_proxy::{NoProxy, Proxy};
 use core_word::{Consumer, Home, Key};
-use fan_base::{ExecId, Gate, HoldGate, JobId, Parcel, Refused, Try};
+use fan_base::{ExecId, Gate, HoldGate, JobId, Parcel, Refused};
 use job_steps::{OnValue, ValueStep};
-use promise_api::{Chain, Future, Promise, promise};
+use promise_api::{Chain, Future, promise};
 use std::alloc::Global;
 use std::sync::Wait;
 use std::thread;
@@ -15,8 +15,6 @@ use std::thread::Threads;
 
 // The callback of a core whose next link has the step K, and the number 7 at the end.
 type Next<'d, K, C, Q> = Chain<'d, OnValue<K>, u64, C, Q>;
-
-type Adding<'d, C> = Next<'d, Add, C, NoProxy>;
 
 type Inner<'i, C> = Consumer<'i, u64, C, NoProxy>;
 
@@ -93,21 +91,6 @@ struct Plan {
     threads: bool,
 }
 
-// A core's promise, as long as it wasn't kept.
-type Open<'h, C> = Option<Promise<'h, u64, C, NoProxy>>;
-
-// Keeps a promise, if that wasn't done before.
-fn kept<R: Wait, C: Followed>(rt: &R, alloc: Global, to: &mut Open<'_, C>, value: u64) -> Seen
-    ensures { to.new ≡ None }
-{
-    let mut seen = Seen::nothing();
-    if let Some(to) = to.take() {
-        let after = to.fulfil(Try::Value(value));
-        seen.after(rt, alloc, after);
-    }
-    seen
-}
-
 // Keeps the first core's promise by the value, and the inner one's by ten times the value.
 fn both_kept<R: Wait, C: Followed, I: Followed>(
     rt: &R,
@@ -118,13 +101,14 @@ fn both_kept<R: Wait, C: Followed, I: Followed>(
 ) -> Seen
     ensures { first.new ≡ None }
 {
+    let mut seen = Seen::nothing();
     let tenfold = value.saturating_mul(10);
-    if value % 2 == 0 {
-        let seen = kept(rt, alloc, first, value);
-        return seen.with(kept(rt, alloc, inner, tenfold));
+    if value % 2 != 0 {
+        kept(rt, alloc, inner, tenfold, &mut seen);
     }
-    let seen = kept(rt, alloc, inner, tenfold);
-    seen.with(kept(rt, alloc, first, value))
+    kept(rt, alloc, first, value, &mut seen);
+    kept(rt, alloc, inner, tenfold, &mut seen);
+    seen
 }
 
 // A future, and the links that are to be chained to it.
@@ -176,7 +160,9 @@ where
             chained(rt, alloc, waiting)
         },
     );
-    one.with(two)
+    let mut seen = one;
+    seen.add(two);
+    seen
 }
 
 // Promises the first core, chains these links to it, and keeps the promises.
@@ -206,10 +192,10 @@ where
         seen.add(beside(rt, alloc, &mut first, inner, value, &mut waiting));
     }
     if value / 2 % 2 == 0 {
-        seen.add(kept(rt, alloc, &mut first, value));
+        kept(rt, alloc, &mut first, value, &mut seen);
     }
     if value / 4 % 2 == 0 {
-        seen.add(kept(rt, alloc, inner, value.saturating_mul(10)));
+        kept(rt, alloc, inner, value.saturating_mul(10), &mut seen);
     }
     seen.add(chained(rt, alloc, &mut waiting));
     seen.add(both_kept(rt, alloc, &mut first, inner, value));
@@ -227,9 +213,7 @@ where
     L: Links<C> + Drop + Send,
 {
     if let Ok(mut home) = Home::new(plan.alloc) {
-        if let Some(key) = home.key() {
-            seen.add(run(rt, plan, key, inner, links));
-        }
+        seen.add(run(rt, plan, key_of(&mut home), inner, links));
         closed(home, &mut seen.tally);
     }
 }
@@ -248,16 +232,15 @@ where
     C: Followed + Send,
     I: Followed + Send,
     L: Links<C> + Drop + Send,
+    requires { home.now.taken ≡ false }
 {
-    if let Some(key) = home.key() {
-        let link = Link {
-            key,
-            no: 2,
-            step: Add(1),
-            rest,
-        };
-        with_one(rt, plan, inner, link, seen);
-    }
+    let link = Link {
+        key: key_of(home),
+        no: 2,
+        step: Add(1),
+        rest,
+    };
+    with_one(rt, plan, inner, link, seen);
 }
 
 fn with_two<R, C, I, L>(rt: &R, plan: Plan, inner: &mut Open<'_, I>, rest: L, seen: &mut Seen)
@@ -326,15 +309,15 @@ fn in_three<'c, 'i, R: Threads + Wait + Sync, C: Followed + Send, L: Links<C> + 
     inner: &'i mut Home<u64, C, NoProxy>,
     rest: L,
     seen: &mut Seen,
-) {
-    if let (Some(key), Some(inner)) = (home.key(), inner.key()) {
-        let (to, future) = promise(inner, 6, ExecId(3), &mut seen.tally);
-        let mut inner = Some(to);
-        let consumer = future.into_consumer();
-        named(rt, plan, key, consumer, &mut inner, rest, seen);
-        seen.add(kept(rt, plan.alloc, &mut inner, plan.value));
-        let None = inner else { unreachable!() };
-    }
+)
+    requires { (home.now.taken ≡ false) × (inner.now.taken ≡ false) }
+{
+    let (to, future) = promise(key_of(inner), 6, ExecId(3), &mut seen.tally);
+    let mut inner = Some(to);
+    let consumer = future.into_consumer();
+    named(rt, plan, key_of(home), consumer, &mut inner, rest, seen);
+    kept(rt, plan.alloc, &mut inner, plan.value, seen);
+    let None = inner else { unreachable!() };
 }
 
 fn with_three<R: Threads + Wait + Sync, C: Followed + Send, L: Links<C> + Drop + Send>(
@@ -352,52 +335,64 @@ fn with_three<R: Threads + Wait + Sync, C: Followed + Send, L: Links<C> + Drop +
     }
 }
 
-// The third and the fourth link.
-fn in_last<'d, 'e, R: Threads + Wait + Sync>(
+// The third link. (It and the fourth one are made in two functions, since their types are dear to prove where they are all known.)
+fn in_four<'d, R: Threads + Wait + Sync, C: Followed + Send, L: Links<C> + Drop + Send>(
     rt: &R,
     plan: Plan,
-    four: &'d mut Home<u64, Adding<'e, u64>, NoProxy>,
-    five: &'e mut Plain,
+    home: &'d mut Home<u64, C, NoProxy>,
+    rest: L,
+    seen: &mut Seen,
+)
+    requires { home.now.taken ≡ false }
+{
+    let link = Link {
+        key: key_of(home),
+        no: 4,
+        step: Add(1),
+        rest,
+    };
+    with_three(rt, plan, link, seen);
+}
+
+fn with_four<R: Threads + Wait + Sync, C: Followed + Send, L: Links<C> + Drop + Send>(
+    rt: &R,
+    plan: Plan,
+    rest: L,
     seen: &mut Seen,
 ) {
-    if let (Some(four), Some(five)) = (four.key(), five.key()) {
-        let rest = Link {
-            key: five,
-            no: 5,
-            step: Add(1),
-            rest: End,
-        };
-        let rest = Link {
-            key: four,
-            no: 4,
-            step: Add(1),
-            rest,
-        };
-        with_three(rt, plan, rest, seen);
+    if let Ok(mut home) = Home::new(plan.alloc) {
+        in_four(rt, plan, &mut home, rest, seen);
+        closed(home, &mut seen.tally);
     }
+}
+
+// The fourth link.
+fn in_five<'e, R: Threads + Wait + Sync>(rt: &R, plan: Plan, home: &'e mut Plain, seen: &mut Seen)
+    requires { home.now.taken ≡ false }
+{
+    let link = Link {
+        key: key_of(home),
+        no: 5,
+        step: Add(1),
+        rest: End,
+    };
+    with_four(rt, plan, link, seen);
 }
 
 // One chain in homes of its own.
 fn chain<R: Threads + Wait + Sync>(rt: &R, plan: Plan) -> Seen {
     let mut seen = Seen::nothing();
-    if let Ok(mut five) = Home::new(plan.alloc) {
-        if let Ok(mut four) = Home::new(plan.alloc) {
-            in_last(rt, plan, &mut four, &mut five, &mut seen);
-            closed(four, &mut seen.tally);
-        }
-        closed(five, &mut seen.tally);
+    if let Ok(mut home) = Home::new(plan.alloc) {
+        in_five(rt, plan, &mut home, &mut seen);
+        closed(home, &mut seen.tally);
     }
     seen
 }
 
-// Whether this chain gave its value at its end, once, with nothing left over, and counted what its length says.
-fn is_good(seen: &Seen, value: u64) -> bool {
+// What is expected of a chain: its value at its end, once, with nothing left over, and counted as its length says.
+fn expected(value: u64) -> Facts {
     let last = value.saturating_mul(10).saturating_add(2);
-    seen.fires == 1
-        && seen.end == Some((5, Try::Value(last), 7, false))
-        && seen.left_over == 0
-        && seen.refused == 0
-        && seen.counts() == (6, 5, 1, 6)
+    (1, Some((5, Ok(last), 7, false)), 0, None, 0, (6, 5, 1, 6))
 }
 
 // How many of these chains were good, and the numbers of all.
@@ -411,7 +406,7 @@ fn chains<R: Threads + Wait + Sync>(rt: &R, alloc: Global, threads: bool) -> (u6
             threads,
         };
         let seen = chain(rt, plan);
-        if is_good(&seen, value) {
+        if seen.facts() == expected(value) {
             good = good.saturating_add(1);
         }
         all.add(seen);
@@ -422,11 +417,11 @@ fn chains<R: Threads + Wait + Sync>(rt: &R, alloc: Global, threads: bool) -> (u6
 #[test]
 fn a_thousand_chains_give_each_its_value_once(rt: HostRuntime) {
     let answer = chains(&rt, rt.alloc(), false);
-    assert_eq!(rt; answer, (1000, (6000, 5000, 1000, 6000)));
+    same(&rt, answer, (1000, (6000, 5000, 1000, 6000)));
 }
 
 #[test]
 fn a_thousand_chains_on_two_threads_give_each_its_value_once(rt: HostRuntime) {
     let answer = chains(&rt, rt.alloc(), true);
-    assert_eq!(rt; answer, (1000, (6000, 5000, 1000, 6000)));
+    same(&rt, answer, (1000, (6000, 5000, 1000, 6000)));
 }

@@ -1,36 +1,113 @@
 //! Promises and futures by hand, each row with what must come of it.
+ghost use Rattle.std.specs.Prelude.{◌≡◌, false};
 
-use crate::dispatched;
-use crate::seen::{Counts, End, Plain, Seen, World, closed, let_go};
+use crate::seen::{
+    Facts, Followed, Outcome, Plain, Seen, World, after_adding, closed, drained, key_of, same,
+    try_of,
+};
 use crate::steps::{Count, Mend, Name, Note};
-use core_proxy::{NoProxy, settle};
+use core_proxy::{NoProxy, Proxy};
 use core_word::{Consumer, Fire, Home, Key, Landed, Tally};
-use fan_base::{ExecId, Parcel, Refused, Try};
-use job_steps::{Always, OnFault, OnValue};
-use job_trait::InlineExecutor;
-use promise_api::{After, Chain, Here, dispatch, promise, run_here};
+use fan_base::{ExecId, Fault, Parcel, Refused, Try};
+use job_steps::{Always, OnFault, OnValue, ValueStep};
+use job_trait::{InlineExecutor, ManualExecutor};
+use promise_api::{After, Chain, Future, Here, Promise, dispatch, promise, promise_of, run_here};
 use std::alloc::Global;
 use std::cell::Cell;
+use std::process::Abort;
 use std::sync::Wait;
 
-// The callback of a core whose continuation comes to a number.
+// The callback of a core whose continuation comes to a number, and the home of such a core.
 type Called<'b, K, Q> = Chain<'b, K, u64, u64, Q>;
 
-// The key of a core with such a callback.
-type CalledKey<'a, 'b, K, Q> = Key<'a, u64, Called<'b, K, Q>, NoProxy>;
+type CalledHome<'b, K, Q> = Home<u64, Called<'b, K, Q>, NoProxy>;
 
-type PlainKey<'b> = Key<'b, u64, u64, NoProxy>;
+// The future of the next core, and what setting the callback came to.
+type Continued<'a, 'b, K, Q> = (
+    Future<'b, u64, u64, Q>,
+    After<'a, u64, Called<'b, K, Q>, NoProxy>,
+);
 
-// How many fires of a chain's end came, the last one, and the numbers of the tally.
-type Answer = (u64, Option<End>, Counts);
+// What a row showed beside its end: the executors of the next future and of the chain, and whether the chain was run at once.
+type Shown = (ExecId, ExecId, bool);
 
-fn answer_of(seen: Seen) -> Answer {
-    let counts = seen.counts();
-    (seen.fires, seen.end, counts)
+// What a row came to.
+type Found = (Facts, Option<Shown>);
+
+// The halves of a core.
+type Halves<'h, C, P> = (Promise<'h, u64, C, P>, Future<'h, u64, C, P>);
+
+// Promises a core in a home that is new, for executor 3.
+fn promised<'h, C, P>(home: &'h mut Home<u64, C, P>, no: u64, t: &mut Tally) -> Halves<'h, C, P>
+    requires { home.now.taken ≡ false }
+{
+    promise(key_of(home), no, ExecId(3), t)
+}
+
+// The promise and the future of a core that was begun before.
+fn begun<'h, C, P>(
+    key: Key<'h, u64, C, P>,
+    no: u64,
+    exec: ExecId,
+    t: &mut Tally,
+) -> Halves<'h, C, P> {
+    let (producer, consumer) = key.start(no, t);
+    promise_of(producer, consumer, exec)
+}
+
+// The promise and the future of core 1, promised or begun before.
+fn started<'h, C, P>(
+    home: &'h mut Home<u64, C, P>,
+    by_hand: bool,
+    t: &mut Tally,
+) -> Halves<'h, C, P>
+    requires { home.now.taken ≡ false }
+{
+    if by_hand {
+        return begun(key_of(home), 1, ExecId(3), t);
+    }
+    promised(home, 1, t)
+}
+
+// Keeps a promise, or abandons it where there is no outcome, and answers what landed.
+fn landed_by<C>(
+    to: Promise<'_, u64, C, NoProxy>,
+    outcome: Option<Outcome>,
+    seen: &mut Seen,
+) -> Landed<u64, C> {
+    let After { landed, left } = match outcome {
+        None => to.abandon(),
+        Some(outcome) => to.fulfil(try_of(outcome)),
+    };
+    seen.left(left);
+    landed
+}
+
+// Sets the callback 7 at the end of a chain, and keeps its first promise or abandons it. It answers what landed, and the executor
+// of the next future. (For any callback, since each call is dear to prove where the continuation is known.)
+fn fired<R: Wait, C: Followed, Q: Proxy<u64, u64>>(
+    rt: &R,
+    alloc: Global,
+    to: Promise<'_, u64, C, NoProxy>,
+    continued: (Future<'_, u64, u64, Q>, After<'_, u64, C, NoProxy>),
+    outcome: Option<Outcome>,
+    seen: &mut Seen,
+) -> (Landed<u64, C>, ExecId) {
+    let (next, after) = continued;
+    seen.after(rt, alloc, after);
+    let exec = next.exec();
+    seen.set_callback(rt, alloc, next);
+    (landed_by(to, outcome, seen), exec)
+}
+
+// What is expected of a row of two cores whose end gets this outcome, and what it shows.
+fn end_of_two(outcome: Outcome, future: u32, chain: u32, ran_here: bool) -> Found {
+    let facts = (1, Some((2, outcome, 7, false)), 0, None, 0, (2, 2, 0, 2));
+    (facts, Some((ExecId(future), ExecId(chain), ran_here)))
 }
 
 // Dispatches a fire to an executor that runs it at once, and follows what comes of it.
-fn at_once<R: Wait>(
+fn run_mend<R: Wait>(
     rt: &R,
     alloc: Global,
     fire: Fire<u64, Called<'_, OnFault<Mend>, NoProxy>>,
@@ -38,384 +115,394 @@ fn at_once<R: Wait>(
 ) {
     let mut world = World::empty();
     let mut executor = InlineExecutor::new(fire.callback().exec(), &mut world);
-    match dispatch(rt, fire, &mut executor, &mut seen.tally) {
-        Ok(()) => {}
-        Err(Refused::Memory(job)) => let_go(job, seen),
-    }
+    let added = dispatch(rt, fire, &mut executor, &mut seen.tally);
     drop(executor);
-    world.follow(rt, alloc, seen);
+    after_adding(rt, alloc, added, world, seen);
 }
 
+// An abandoned promise, whose fault is mended on an executor that runs its job at once.
 fn mended<'a, 'b, R: Wait>(
     rt: &R,
     alloc: Global,
-    keys: (CalledKey<'a, 'b, OnFault<Mend>, NoProxy>, PlainKey<'b>),
-    seen: &mut Seen,
-) {
-    let (to, future) = promise(keys.0, 1, ExecId(3), &mut seen.tally);
-    let (next, after) = future.then_error(keys.1, 2, Mend(3), &mut seen.tally);
-    seen.after(rt, alloc, after);
-    let after = next.on(7, &mut seen.tally);
-    seen.after(rt, alloc, after);
-    let After { landed, left } = to.abandon();
-    seen.left(left);
-    match landed {
-        Landed::Waiting => {}
-        Landed::Fire(fire) => at_once(rt, alloc, fire, seen),
-    }
-}
-
-// A row whose continuation has a step on the value.
-#[derive(Clone, Copy)]
-enum Row {
-    // Fulfilled by the fault Cancelled(4).
-    Cancelled,
-    // With another executor, and fulfilled by 1.
-    Elsewhere(ExecId),
-    // With the allowance to run inline, fulfilled by 5, and run on this executor.
-    Here(ExecId),
-}
-
-fn outcome_of(row: Row) -> Try<u64> {
-    match row {
-        Row::Cancelled => Try::Cancelled(4),
-        Row::Elsewhere(_) => Try::Value(1),
-        Row::Here(_) => Try::Value(5),
-    }
-}
-
-// What a row showed beside its end: the executors of the next future and of the chain, and whether the chain was run at once.
-#[derive(Debug, PartialEq, Eq, Drop)]
-struct Shown {
-    future: ExecId,
-    chain: ExecId,
-    ran_here: bool,
-}
-
-// Runs the chain at once where that may be, and dispatches its fire where not.
-fn here<'b, R: Wait>(
-    rt: &R,
-    alloc: Global,
-    fire: Fire<u64, Called<'b, OnValue<Note<'_>>, NoProxy>>,
-    on: ExecId,
-    seen: &mut Seen,
-) -> bool {
-    match run_here(fire, on, &mut seen.tally) {
-        Here::Ran(after) => {
-            seen.after(rt, alloc, after);
-            true
-        }
-        Here::Not(fire) => {
-            dispatched::noted(rt, alloc, fire, seen);
-            false
-        }
-    }
-}
-
-fn continued<'a, 'b, 'c, R: Wait>(
-    rt: &R,
-    alloc: Global,
-    keys: (CalledKey<'a, 'b, OnValue<Note<'c>>, NoProxy>, PlainKey<'b>),
-    row: Row,
-    calls: &'c Cell<u64>,
-    seen: &mut Seen,
-) -> Shown {
-    let (to, future) = promise(keys.0, 1, ExecId(3), &mut seen.tally);
-    let (next, after) = match row {
-        Row::Cancelled => future.then(keys.1, 2, Note(calls), &mut seen.tally),
-        Row::Elsewhere(exec) => future
-            .via(exec)
-            .then(keys.1, 2, Note(calls), &mut seen.tally),
-        Row::Here(_) => future.then_inline(keys.1, 2, Note(calls), &mut seen.tally),
-    };
-    seen.after(rt, alloc, after);
-    let exec = next.exec();
-    let after = next.on(7, &mut seen.tally);
-    seen.after(rt, alloc, after);
-    let After { landed, left } = to.fulfil(outcome_of(row));
-    seen.left(left);
-    let mut shown = Shown {
-        future: exec,
-        chain: ExecId(0),
-        ran_here: false,
-    };
-    match landed {
-        Landed::Waiting => {}
-        Landed::Fire(fire) => {
-            shown.chain = fire.callback().exec();
-            match row {
-                Row::Here(on) => shown.ran_here = here(rt, alloc, fire, on, seen),
-                Row::Cancelled | Row::Elsewhere(_) => dispatched::noted(rt, alloc, fire, seen),
-            }
-        }
-    }
-    shown
-}
-
-// The same in these homes.
-fn continued_in<'a, 'b, 'c, R: Wait>(
-    rt: &R,
-    alloc: Global,
-    first: &'a mut Home<u64, Called<'b, OnValue<Note<'c>>, NoProxy>, NoProxy>,
+    first: &'a mut CalledHome<'b, OnFault<Mend>, NoProxy>,
     second: &'b mut Plain,
-    row: Row,
-    calls: &'c Cell<u64>,
     seen: &mut Seen,
-) -> Option<Shown> {
-    let (Some(one), Some(two)) = (first.key(), second.key()) else {
-        return None;
-    };
-    Some(continued(rt, alloc, (one, two), row, calls, seen))
-}
-
-// What a row answered and showed, and how often its step was called.
-fn row_on_value<R: Wait>(rt: &R, alloc: Global, row: Row) -> (Answer, Option<Shown>, u64) {
-    let mut seen = Seen::nothing();
-    let mut shown = None;
-    let calls = Cell::new(0);
-    if let Ok(mut second) = Home::new(alloc) {
-        if let Ok(mut first) = Home::new(alloc) {
-            shown = continued_in(rt, alloc, &mut first, &mut second, row, &calls, &mut seen);
-            closed(first, &mut seen.tally);
+) -> Shown
+    requires { (first.now.taken ≡ false) × (second.now.taken ≡ false) }
+{
+    let (to, future) = promised(first, 1, &mut seen.tally);
+    let continued = future.then_error(key_of(second), 2, Mend(3), &mut seen.tally);
+    let (landed, exec) = fired(rt, alloc, to, continued, None, seen);
+    match landed {
+        Landed::Waiting => (exec, ExecId(0), false),
+        Landed::Fire(fire) => {
+            let chosen = fire.callback().exec();
+            run_mend(rt, alloc, fire, seen);
+            (exec, chosen, false)
         }
-        closed(second, &mut seen.tally);
     }
-    (answer_of(seen), shown, calls.get())
-}
-
-fn on_executor(exec: u32, ran_here: bool) -> Option<Shown> {
-    Some(Shown {
-        future: ExecId(exec),
-        chain: ExecId(exec),
-        ran_here,
-    })
-}
-
-#[test]
-fn fault_passes_the_step_on_a_value(rt: HostRuntime) {
-    let end = Some((2, Try::Cancelled(4), 7, false));
-    let answer = (1, end, (2, 2, 0, 2));
-    assert_eq!(rt;
-        row_on_value(&rt, rt.alloc(), Row::Cancelled),
-        (answer, on_executor(3, false), 0)
-    );
-}
-
-#[test]
-fn chain_and_future_have_the_chosen_executor(rt: HostRuntime) {
-    let end = Some((2, Try::Value(1), 7, false));
-    let answer = (1, end, (2, 2, 0, 2));
-    assert_eq!(rt;
-        row_on_value(&rt, rt.alloc(), Row::Elsewhere(ExecId(9))),
-        (answer, on_executor(9, false), 1)
-    );
-}
-
-#[test]
-fn chain_runs_inline_on_its_own_executor_alone(rt: HostRuntime) {
-    let end = Some((2, Try::Value(5), 7, false));
-    let answer = (1, end, (2, 2, 0, 2));
-    assert_eq!(rt;
-        row_on_value(&rt, rt.alloc(), Row::Here(ExecId(3))),
-        (answer, on_executor(3, true), 1)
-    );
-    let end = Some((2, Try::Value(5), 7, false));
-    let answer = (1, end, (2, 2, 0, 2));
-    assert_eq!(rt;
-        row_on_value(&rt, rt.alloc(), Row::Here(ExecId(4))),
-        (answer, on_executor(3, false), 1)
-    );
 }
 
 #[test]
 fn abandoned_promise_is_mended_by_its_step(rt: HostRuntime) {
+    let rt = &rt;
     let mut seen = Seen::nothing();
-    let alloc = rt.alloc();
-    if let Ok(mut second) = Home::new(alloc) {
-        if let Ok(mut first) = Home::new(alloc) {
-            if let (Some(one), Some(two)) = (first.key(), second.key()) {
-                mended(&rt, alloc, (one, two), &mut seen);
-            }
+    let mut shown = None;
+    if let Ok(mut second) = Home::new(rt.alloc()) {
+        if let Ok(mut first) = Home::new(rt.alloc()) {
+            shown = Some(mended(rt, rt.alloc(), &mut first, &mut second, &mut seen));
             closed(first, &mut seen.tally);
         }
         closed(second, &mut seen.tally);
     }
-    let end = Some((2, Try::Value(3), 7, false));
-    assert_eq!(rt; answer_of(seen), (1, end, (2, 2, 0, 2)));
+    same(rt, (seen.facts(), shown), end_of_two(Ok(3), 3, 3, false));
 }
 
+// Dispatches a fire to an executor, and runs it there.
+fn run_count<R: Wait>(
+    rt: &R,
+    alloc: Global,
+    fire: Fire<u64, Called<'_, Always<Count<'_>>, NoProxy>>,
+    seen: &mut Seen,
+) {
+    let mut executor = ManualExecutor::new(alloc, fire.callback().exec());
+    let added = dispatch(rt, fire, &mut executor, &mut seen.tally);
+    drained(rt, alloc, added, executor, seen);
+}
+
+// A step that is always called.
 fn ensured<'a, 'b, 'c, R: Wait>(
     rt: &R,
     alloc: Global,
-    keys: (CalledKey<'a, 'b, Always<Count<'c>>, NoProxy>, PlainKey<'b>),
-    calls: &'c Cell<u64>,
-    seen: &mut Seen,
-) {
-    let (to, future) = promise(keys.0, 1, ExecId(3), &mut seen.tally);
-    let (next, after) = future.ensure(keys.1, 2, Count(calls), &mut seen.tally);
-    seen.after(rt, alloc, after);
-    let after = next.on(7, &mut seen.tally);
-    seen.after(rt, alloc, after);
-    let after = to.fulfil(Try::Value(2));
-    dispatched::counted(rt, alloc, after, seen);
-}
-
-// The same in these homes.
-fn ensured_in<'a, 'b, 'c, R: Wait>(
-    rt: &R,
-    alloc: Global,
-    first: &'a mut Home<u64, Called<'b, Always<Count<'c>>, NoProxy>, NoProxy>,
+    first: &'a mut CalledHome<'b, Always<Count<'c>>, NoProxy>,
     second: &'b mut Plain,
     calls: &'c Cell<u64>,
     seen: &mut Seen,
-) {
-    if let (Some(one), Some(two)) = (first.key(), second.key()) {
-        ensured(rt, alloc, (one, two), calls, seen);
+) -> Shown
+    requires { (first.now.taken ≡ false) × (second.now.taken ≡ false) }
+{
+    let (to, future) = promised(first, 1, &mut seen.tally);
+    let continued = future.ensure(key_of(second), 2, Count(calls), &mut seen.tally);
+    let (landed, exec) = fired(rt, alloc, to, continued, Some(Ok(2)), seen);
+    match landed {
+        Landed::Waiting => (exec, ExecId(0), false),
+        Landed::Fire(fire) => {
+            let chosen = fire.callback().exec();
+            run_count(rt, alloc, fire, seen);
+            (exec, chosen, false)
+        }
     }
 }
 
 #[test]
 fn ensured_step_is_called_once_and_the_outcome_stays(rt: HostRuntime) {
+    let rt = &rt;
     let mut seen = Seen::nothing();
     let calls = Cell::new(0);
-    let alloc = rt.alloc();
-    if let Ok(mut second) = Home::new(alloc) {
-        if let Ok(mut first) = Home::new(alloc) {
-            ensured_in(&rt, alloc, &mut first, &mut second, &calls, &mut seen);
+    let mut shown = None;
+    if let Ok(mut second) = Home::new(rt.alloc()) {
+        if let Ok(mut first) = Home::new(rt.alloc()) {
+            shown = Some(ensured(rt, rt.alloc(), &mut first, &mut second, &calls, &mut seen));
             closed(first, &mut seen.tally);
         }
         closed(second, &mut seen.tally);
     }
-    let end = Some((2, Try::Value(2), 7, false));
-    assert_eq!(rt; answer_of(seen), (1, end, (2, 2, 0, 2)));
-    assert_eq!(rt; calls.get(), 1);
+    let found = (seen.facts(), shown);
+    same(
+        rt,
+        (found, calls.get()),
+        (end_of_two(Ok(2), 3, 3, false), 1),
+    );
 }
 
-type Inner<'i> = Consumer<'i, u64, u64, NoProxy>;
+// How a step on the value is chained.
+#[derive(Clone, Copy)]
+enum How {
+    // As it is.
+    Then,
+    // On this executor.
+    Via(ExecId),
+    // With the allowance to run inline, and run on this executor.
+    Inline(ExecId),
+    // By hand: both cores were begun already, the next future is for executor 5, and the chain for executor 4.
+    ByHand,
+}
 
-// A step that comes to the outcome of another core, which is fulfilled afterwards.
-fn named<'a, 'b, 'i, R: Wait>(
-    rt: &R,
-    alloc: Global,
-    first: CalledKey<'a, 'b, OnValue<Name<'i, u64>>, Inner<'i>>,
-    second: Key<'b, u64, u64, Inner<'i>>,
-    inner: PlainKey<'i>,
-    seen: &mut Seen,
-) {
-    let (later, inner) = promise(inner, 3, ExecId(3), &mut seen.tally);
-    let (to, future) = promise(first, 1, ExecId(3), &mut seen.tally);
-    match Parcel::new(alloc, inner.into_consumer()) {
-        Err(Refused::Memory(inner)) => {
-            seen.refuse();
-            seen.left(inner.give_up().leave());
-            seen.left(future.detach());
-        }
-        Ok(inner) => {
-            let (next, after) = future.then(second, 2, Name(inner), &mut seen.tally);
-            seen.after(rt, alloc, after);
-            seen.set_callback(rt, alloc, next);
+type Noting<'b, 'c> = Called<'b, OnValue<Note<'c>>, NoProxy>;
+
+// Continues core 1 by core 2. (For any step, since each call is dear to prove where it is known.)
+fn chain_on<'a, 'b, K, Q>(
+    how: How,
+    future: Future<'a, u64, Called<'b, OnValue<K>, Q>, NoProxy>,
+    key: Key<'b, u64, u64, Q>,
+    step: K,
+    t: &mut Tally,
+) -> Continued<'a, 'b, OnValue<K>, Q>
+where
+    K: ValueStep<u64, Out = u64, Later = Q> + Drop,
+    Q: Proxy<u64, u64>,
+{
+    match how {
+        How::Then => future.then(key, 2, step, t),
+        How::Via(exec) => future.via(exec).then(key, 2, step, t),
+        How::Inline(_) => future.then_inline(key, 2, step, t),
+        How::ByHand => {
+            let (to, next) = begun(key, 2, ExecId(5), t);
+            let chain = Chain::of(to, OnValue { step }, future.exec()).via(ExecId(4));
+            (next, future.on(chain, t))
         }
     }
-    let after = to.fulfil(Try::Value(1));
-    dispatched::named(rt, alloc, after, seen);
-    let after = later.fulfil(Try::Value(6));
-    seen.after(rt, alloc, after);
 }
 
-// The same in these homes.
-fn named_in<'a, 'b, 'i, R: Wait>(
+// Runs the chain at once where that may be, and dispatches its fire where not.
+fn run<R: Wait>(
     rt: &R,
     alloc: Global,
-    first: &'a mut Home<u64, Called<'b, OnValue<Name<'i, u64>>, Inner<'i>>, NoProxy>,
-    second: &'b mut Home<u64, u64, Inner<'i>>,
-    inner: &'i mut Plain,
+    how: How,
+    fire: Fire<u64, Noting<'_, '_>>,
     seen: &mut Seen,
-) {
-    if let (Some(one), Some(two), Some(three)) = (first.key(), second.key(), inner.key()) {
-        named(rt, alloc, one, two, three, seen);
+) -> bool {
+    let mut fire = fire;
+    if let How::Inline(here) = how {
+        match run_here(fire, here, &mut seen.tally) {
+            Here::Ran(after) => {
+                seen.after(rt, alloc, after);
+                return true;
+            }
+            Here::Not(back) => fire = back,
+        }
+    }
+    let mut executor = ManualExecutor::new(alloc, fire.callback().exec());
+    let added = dispatch(rt, fire, &mut executor, &mut seen.tally);
+    drained(rt, alloc, added, executor, seen);
+    false
+}
+
+// A step on the value.
+fn noted<'a, 'b, 'c, R: Wait>(
+    rt: &R,
+    alloc: Global,
+    first: &'a mut CalledHome<'b, OnValue<Note<'c>>, NoProxy>,
+    second: &'b mut Plain,
+    calls: &'c Cell<u64>,
+    row: (How, Outcome),
+    seen: &mut Seen,
+) -> Shown
+    requires { (first.now.taken ≡ false) × (second.now.taken ≡ false) }
+{
+    let (how, outcome) = row;
+    let by_hand = matches!(how, How::ByHand);
+    let (to, future) = started(first, by_hand, &mut seen.tally);
+    let continued = chain_on(how, future, key_of(second), Note(calls), &mut seen.tally);
+    let (landed, exec) = fired(rt, alloc, to, continued, Some(outcome), seen);
+    match landed {
+        Landed::Waiting => (exec, ExecId(0), false),
+        Landed::Fire(fire) => {
+            let chosen = fire.callback().exec();
+            (exec, chosen, run(rt, alloc, how, fire, seen))
+        }
+    }
+}
+
+// Checks what a row with a step on the value comes to, and how often the step is called.
+fn check<R: Abort + Wait>(rt: &R, alloc: Global, row: (How, Outcome), expected: (Found, u64)) {
+    let mut seen = Seen::nothing();
+    let calls = Cell::new(0);
+    let mut shown = None;
+    if let Ok(mut second) = Home::new(alloc) {
+        if let Ok(mut first) = Home::new(alloc) {
+            shown = Some(noted(rt, alloc, &mut first, &mut second, &calls, row, &mut seen));
+            closed(first, &mut seen.tally);
+        }
+        closed(second, &mut seen.tally);
+    }
+    let found = (seen.facts(), shown);
+    same(rt, (found, calls.get()), expected);
+}
+
+#[test]
+fn fault_passes_the_step_on_a_value(rt: HostRuntime) {
+    let fault = Err(Fault::Cancelled(4));
+    let expected = (end_of_two(fault, 3, 3, false), 0);
+    check(&rt, rt.alloc(), (How::Then, fault), expected);
+}
+
+#[test]
+fn chain_and_future_have_the_chosen_executor(rt: HostRuntime) {
+    let expected = (end_of_two(Ok(1), 9, 9, false), 1);
+    check(&rt, rt.alloc(), (How::Via(ExecId(9)), Ok(1)), expected);
+}
+
+#[test]
+fn chain_runs_inline_on_its_own_executor_alone(rt: HostRuntime) {
+    for (here, ran_here) in [(3, true), (4, false)] {
+        let expected = (end_of_two(Ok(5), 3, 3, ran_here), 1);
+        check(
+            &rt,
+            rt.alloc(),
+            (How::Inline(ExecId(here)), Ok(5)),
+            expected,
+        );
     }
 }
 
 #[test]
+fn cores_begun_already_are_chained_by_hand(rt: HostRuntime) {
+    let expected = (end_of_two(Ok(5), 5, 4, false), 1);
+    check(&rt, rt.alloc(), (How::ByHand, Ok(5)), expected);
+}
+
+type Inner<'i> = Consumer<'i, u64, u64, NoProxy>;
+
+// Dispatches a fire to an executor, and runs it there.
+fn run_name<'i, R: Wait>(
+    rt: &R,
+    alloc: Global,
+    fire: Fire<u64, Called<'_, OnValue<Name<'i, u64>>, Inner<'i>>>,
+    seen: &mut Seen,
+) {
+    let mut executor = ManualExecutor::new(alloc, fire.callback().exec());
+    let added = dispatch(rt, fire, &mut executor, &mut seen.tally);
+    drained(rt, alloc, added, executor, seen);
+}
+
+// A step that comes to another core's outcome.
+fn named<'a, 'b, 'i, R: Wait>(
+    rt: &R,
+    alloc: Global,
+    first: &'a mut CalledHome<'b, OnValue<Name<'i, u64>>, Inner<'i>>,
+    second: &'b mut Home<u64, u64, Inner<'i>>,
+    step: Name<'i, u64>,
+    seen: &mut Seen,
+) -> Shown
+    requires { (first.now.taken ≡ false) × (second.now.taken ≡ false) }
+{
+    let (to, future) = promised(first, 1, &mut seen.tally);
+    let continued = chain_on(How::Then, future, key_of(second), step, &mut seen.tally);
+    let (landed, exec) = fired(rt, alloc, to, continued, Some(Ok(1)), seen);
+    match landed {
+        Landed::Waiting => (exec, ExecId(0), false),
+        Landed::Fire(fire) => {
+            let chosen = fire.callback().exec();
+            run_name(rt, alloc, fire, seen);
+            (exec, chosen, false)
+        }
+    }
+}
+
+// The same, where the other core is core 3, which is fulfilled by 6 afterwards.
+fn named_in<'a, 'b, 'i, R: Wait>(
+    rt: &R,
+    alloc: Global,
+    first: &'a mut CalledHome<'b, OnValue<Name<'i, u64>>, Inner<'i>>,
+    second: &'b mut Home<u64, u64, Inner<'i>>,
+    inner: &'i mut Plain,
+    seen: &mut Seen,
+) -> Option<Shown>
+    requires { (first.now.taken ≡ false) × (second.now.taken ≡ false) × (inner.now.taken ≡ false) }
+{
+    let (later, inner) = promised(inner, 3, &mut seen.tally);
+    let mut shown = None;
+    match Parcel::new(alloc, inner.into_consumer()) {
+        Err(Refused::Memory(inner)) => {
+            seen.refuse();
+            seen.left(inner.give_up().leave());
+        }
+        Ok(inner) => shown = Some(named(rt, alloc, first, second, Name(inner), seen)),
+    }
+    let after = later.fulfil(Try::Value(6));
+    seen.after(rt, alloc, after);
+    shown
+}
+
+#[test]
 fn step_may_come_to_the_outcome_of_another_core(rt: HostRuntime) {
+    let rt = &rt;
     let mut seen = Seen::nothing();
-    let alloc = rt.alloc();
-    if let Ok(mut inner) = Home::new(alloc) {
-        if let Ok(mut second) = Home::new(alloc) {
-            if let Ok(mut first) = Home::new(alloc) {
-                named_in(&rt, alloc, &mut first, &mut second, &mut inner, &mut seen);
+    let mut shown = None;
+    if let Ok(mut inner) = Home::new(rt.alloc()) {
+        if let Ok(mut second) = Home::new(rt.alloc()) {
+            if let Ok(mut first) = Home::new(rt.alloc()) {
+                shown = named_in(
+                    rt,
+                    rt.alloc(),
+                    &mut first,
+                    &mut second,
+                    &mut inner,
+                    &mut seen,
+                );
                 closed(first, &mut seen.tally);
             }
             closed(second, &mut seen.tally);
         }
         closed(inner, &mut seen.tally);
     }
-    let end = Some((3, Try::Value(6), 7, false));
-    assert_eq!(rt; answer_of(seen), (1, end, (3, 2, 1, 3)));
+    let facts = (1, Some((3, Ok(6), 7, false)), 0, None, 0, (3, 2, 1, 3));
+    let expected = (facts, Some((ExecId(3), ExecId(3), false)));
+    same(rt, (seen.facts(), shown), expected);
 }
 
-// A callback that may run inline, then a proxy, then the result of the core that it names. It answers how often the callback
-// fired before that.
+// A callback that may run inline, then a proxy, then the result of the core that it names. It answers what was seen before that.
 fn passed_on<'o, 'i, R: Wait>(
     rt: &R,
     alloc: Global,
-    outer: Key<'o, u64, u64, Inner<'i>>,
-    inner: PlainKey<'i>,
+    outer: &'o mut Home<u64, u64, Inner<'i>>,
+    inner: &'i mut Plain,
     seen: &mut Seen,
-) -> u64 {
-    let (to, future) = promise(outer, 1, ExecId(3), &mut seen.tally);
-    let (later, inner) = promise(inner, 2, ExecId(3), &mut seen.tally);
+) -> Facts
+    requires { (outer.now.taken ≡ false) × (inner.now.taken ≡ false) }
+{
+    let (to, future) = promised(outer, 1, &mut seen.tally);
+    let (later, inner) = promised(inner, 2, &mut seen.tally);
     seen.set_callback_inline(rt, alloc, future);
     seen.set_proxy(rt, alloc, to, inner.into_consumer());
-    let fires = seen.fires;
+    let before = seen.facts();
     let after = later.fulfil(Try::Value(8));
     seen.after(rt, alloc, after);
-    fires
+    before
 }
 
 #[test]
 fn allowance_to_run_inline_goes_through_a_proxy(rt: HostRuntime) {
+    let rt = &rt;
     let mut seen = Seen::nothing();
-    let alloc = rt.alloc();
-    let mut early = 1;
-    if let Ok(mut inner) = Home::new(alloc) {
-        if let Ok(mut outer) = Home::new(alloc) {
-            if let (Some(one), Some(two)) = (outer.key(), inner.key()) {
-                early = passed_on(&rt, alloc, one, two, &mut seen);
-            }
+    let mut before = None;
+    if let Ok(mut inner) = Home::new(rt.alloc()) {
+        if let Ok(mut outer) = Home::new(rt.alloc()) {
+            before = Some(passed_on(rt, rt.alloc(), &mut outer, &mut inner, &mut seen));
             closed(outer, &mut seen.tally);
         }
         closed(inner, &mut seen.tally);
     }
-    assert_eq!(rt; early, 0);
-    let end = Some((2, Try::Value(8), 7, true));
-    assert_eq!(rt; answer_of(seen), (1, end, (2, 1, 1, 2)));
+    let early = (0, None, 0, None, 0, (2, 0, 1, 1));
+    let late = (1, Some((2, Ok(8), 7, true)), 0, None, 0, (2, 1, 1, 2));
+    same(rt, (before, seen.facts()), (Some(early), late));
 }
 
-// Fulfils by 1 and detaches, in this order. It answers what settling the two leaves gave out.
-fn detached(key: PlainKey<'_>, t: &mut Tally) -> (Option<Try<u64>>, Option<Try<u64>>) {
-    let (to, future) = promise(key, 1, ExecId(3), t);
-    let After { landed, left } = to.fulfil(Try::Value(1));
-    match landed {
-        Landed::Waiting => {}
-        Landed::Fire(fire) => {
-            fire.unpack(t);
-        }
-    }
-    let first = settle(left, t);
-    (first, settle(future.detach(), t))
+// Fulfils by 1 and detaches, in this order. It answers what was seen when the first leave was settled.
+fn detached<R: Wait>(rt: &R, alloc: Global, home: &mut Plain, seen: &mut Seen) -> Facts
+    requires { home.now.taken ≡ false }
+{
+    let (to, future) = promised(home, 1, &mut seen.tally);
+    let after = to.fulfil(Try::Value(1));
+    seen.after(rt, alloc, after);
+    let first = seen.facts();
+    seen.left(future.detach());
+    first
 }
 
 #[test]
 fn one_leave_gives_out_what_nobody_claimed(rt: HostRuntime) {
-    let mut t = Tally::new();
-    let mut answers = (None, None);
-    if let Ok(mut home) = Plain::new(rt.alloc()) {
-        if let Some(key) = home.key() {
-            answers = detached(key, &mut t);
-        }
-        closed(home, &mut t);
+    let mut seen = Seen::nothing();
+    let mut first = None;
+    if let Ok(mut home) = Home::new(rt.alloc()) {
+        first = Some(detached(&rt, rt.alloc(), &mut home, &mut seen));
+        closed(home, &mut seen.tally);
     }
-    assert_eq!(rt; answers, (None, Some(Try::Value(1))));
-    assert_eq!(rt; (t.made(), t.handed(), t.freed()), (1, 0, 1));
+    let both = (0, None, 1, Some(Ok(1)), 0, (1, 0, 0, 1));
+    same(
+        &rt,
+        (first, seen.facts()),
+        (Some((0, None, 0, None, 0, (1, 0, 0, 0))), both),
+    );
 }

@@ -1,43 +1,72 @@
 //! What came to the ends of chains, and how a fire is followed to the end of its chain.
-ghost use Rattle.std.specs.Prelude.{◌≡◌, []};
+ghost use Rattle.std.specs.Prelude.{◌≡◌, [], None, false};
 
 use core_proxy::{NoProxy, Proxy, settle};
-use core_word::{Fire, Home, Landed, Left, Leftover, Tally, Unspent};
-use fan_base::{ExecId, Refused, Try};
+use core_word::{Fire, Home, Key, Landed, Left, Leftover, Tally, Unspent};
+use fan_base::{ExecId, Fault, Refused, Try};
 use job_steps::Cont;
 use job_trait::{Executor, ManualExecutor};
 use promise_api::{After, Chain, ChainJob, Future, Landing, Promise};
 use std::alloc::Global;
+use std::fmt::Debug;
 use std::mem;
+use std::process::Abort;
 use std::sync::Wait;
 
-// The fire of a chain's end: the core's number, the outcome, the callback, and whether it may run inline.
-pub(crate) type End = (u64, Try<u64>, u64, bool);
-
-// What came to the ends of chains: how many fires, the last one, the executor of the link that ran last, the outcome that was
-// left over last, how many were left over, how often there was no memory, and the numbers of all calls.
-#[derive(Drop)]
-pub(crate) struct Seen {
-    pub(crate) fires: u64,
-    pub(crate) end: Option<End>,
-    pub(crate) exec: ExecId,
-    pub(crate) unclaimed: Option<Try<u64>>,
-    pub(crate) left_over: u64,
-    pub(crate) refused: u64,
-    pub(crate) tally: Tally,
+// Compares two values. A test compares by this, since each assertion that a body makes of its own makes that body dearer to prove.
+pub(crate) fn same<T: PartialEq + Debug + Copy, R: Abort>(rt: &R, found: T, expected: T) {
+    assert_eq!(rt; found, expected);
 }
+
+// An outcome as a value that may be copied.
+pub(crate) type Outcome = Result<u64, Fault>;
+
+fn told(outcome: Try<u64>) -> Outcome {
+    match outcome {
+        Try::Value(value) => Ok(value),
+        Try::Broken => Err(Fault::Broken),
+        Try::Memory => Err(Fault::Memory),
+        Try::Cancelled(number) => Err(Fault::Cancelled(number)),
+    }
+}
+
+pub(crate) fn try_of(outcome: Outcome) -> Try<u64> {
+    match outcome {
+        Ok(value) => Try::Value(value),
+        Err(Fault::Broken) => Try::Broken,
+        Err(Fault::Memory) => Try::Memory,
+        Err(Fault::Cancelled(number)) => Try::Cancelled(number),
+    }
+}
+
+// The fire of a chain's end: the core's number, the outcome, the callback, and whether it may run inline.
+pub(crate) type End = (u64, Outcome, u64, bool);
 
 // Made, handed over, forwarded and freed.
 pub(crate) type Counts = (u64, u64, u64, u64);
+
+// How many fires of chains' ends came, and the last one; how many outcomes were left over, and the last one; how often there was
+// no memory; and the numbers of all calls.
+pub(crate) type Facts = (u64, Option<End>, u64, Option<Outcome>, u64, Counts);
+
+// What came to the ends of chains, with what `Facts` has.
+#[derive(Drop)]
+pub(crate) struct Seen {
+    fires: u64,
+    end: Option<End>,
+    left_over: u64,
+    unclaimed: Option<Outcome>,
+    refused: u64,
+    pub(crate) tally: Tally,
+}
 
 impl Seen {
     pub(crate) fn nothing() -> Seen {
         Seen {
             fires: 0,
             end: None,
-            exec: ExecId(0),
-            unclaimed: None,
             left_over: 0,
+            unclaimed: None,
             refused: 0,
             tally: Tally::new(),
         }
@@ -48,41 +77,26 @@ impl Seen {
         (t.made(), t.handed(), t.forwarded(), t.freed())
     }
 
-    // What both have seen. The end is that of the other one, where it has seen one.
-    pub(crate) fn with(mut self, other: Seen) -> Seen {
-        self.add(other);
-        self
+    pub(crate) fn facts(&self) -> Facts {
+        (
+            self.fires,
+            self.end,
+            self.left_over,
+            self.unclaimed,
+            self.refused,
+            self.counts(),
+        )
     }
 
+    // Adds what another one has seen. The ends are its own, where it has seen any.
     pub(crate) fn add(&mut self, other: Seen) {
-        let Seen {
-            fires,
-            end,
-            exec,
-            unclaimed,
-            left_over,
-            refused,
-            tally,
-        } = other;
+        let (fires, end, left_over, unclaimed, refused, _) = other.facts();
         self.fires = self.fires.saturating_add(fires);
         self.left_over = self.left_over.saturating_add(left_over);
         self.refused = self.refused.saturating_add(refused);
-        self.ended(end, exec);
-        self.unclaimed(unclaimed);
-        self.counted(tally);
-    }
-
-    fn ended(&mut self, end: Option<End>, exec: ExecId) {
-        if end.is_some() {
-            self.end = end;
-            self.exec = exec;
-        }
-    }
-
-    fn unclaimed(&mut self, outcome: Option<Try<u64>>) {
-        if outcome.is_some() {
-            self.unclaimed = outcome;
-        }
+        self.end = end.or(self.end);
+        self.unclaimed = unclaimed.or(self.unclaimed);
+        self.counted(other.tally);
     }
 
     pub(crate) fn refuse(&mut self) {
@@ -97,7 +111,7 @@ impl Seen {
     pub(crate) fn left_over(&mut self, outcome: Option<Try<u64>>) {
         if let Some(outcome) = outcome {
             self.left_over = self.left_over.saturating_add(1);
-            self.unclaimed = Some(outcome);
+            self.unclaimed = Some(told(outcome));
         }
     }
 
@@ -166,6 +180,25 @@ impl Seen {
     }
 }
 
+// A promise, as long as it wasn't kept.
+pub(crate) type Open<'h, C> = Option<Promise<'h, u64, C, NoProxy>>;
+
+// Keeps a promise, if that wasn't done before.
+pub(crate) fn kept<R: Wait, C: Followed>(
+    rt: &R,
+    alloc: Global,
+    to: &mut Open<'_, C>,
+    value: u64,
+    seen: &mut Seen,
+)
+    ensures { to.new ≡ None }
+{
+    if let Some(to) = to.take() {
+        let after = to.fulfil(Try::Value(value));
+        seen.after(rt, alloc, after);
+    }
+}
+
 // A callback whose fire can be followed to the end of its chain.
 pub(crate) trait Followed {
     // Runs what fired, each link on an executor of its own, up to the end.
@@ -180,7 +213,7 @@ impl Followed for u64 {
         let may_inline = fire.may_inline();
         let (no, outcome, callback) = fire.unpack(&mut seen.tally);
         seen.fires = seen.fires.saturating_add(1);
-        seen.end = Some((no, outcome, callback, may_inline));
+        seen.end = Some((no, told(outcome), callback, may_inline));
     }
 
     fn end(self, t: &mut Tally) {
@@ -216,32 +249,6 @@ where
     }
 }
 
-// An executor with the number that this chain chose.
-fn executor_of<'d, K, D, Q>(
-    alloc: Global,
-    fire: &Fire<u64, Chain<'d, K, u64, D, Q>>,
-) -> ManualExecutor<ChainJob<'d, u64, K, u64, D, Q>>
-    ensures { result ≡ record { exec = fire.now.callback.exec; jobs = [] } }
-{
-    ManualExecutor::new(alloc, fire.callback().exec())
-}
-
-// A job that was refused is given up.
-pub(crate) fn let_go<'d, K, D, Q>(job: ChainJob<'d, u64, K, u64, D, Q>, seen: &mut Seen)
-where
-    K: Cont<u64, Out = u64, Later = Q> + Drop,
-    Q: Proxy<u64, D>,
-    D: Followed,
-{
-    let ChainJob {
-        no: _,
-        outcome: _,
-        chain,
-    } = job;
-    seen.refuse();
-    chain.end(&mut seen.tally);
-}
-
 // Runs a link on an executor of its own, and follows what fires then. It does by hand what `dispatch` does, of which the checker
 // doesn't cover a call where both the executor's jobs and the continuation are type parameters.
 fn run_link<'d, K, D, Q, R: Wait>(
@@ -255,20 +262,20 @@ where
     Q: Proxy<u64, D>,
     D: Followed,
 {
-    seen.exec = fire.callback().exec();
-    let mut executor = executor_of(alloc, &fire);
+    let mut executor = ManualExecutor::new(alloc, fire.callback().exec());
     let (no, outcome, chain) = fire.unpack(&mut seen.tally);
-    match executor.add(rt, ChainJob { no, outcome, chain }) {
-        Ok(()) => {}
-        Err(Refused::Memory(job)) => let_go(job, seen),
-    }
-    drained(rt, alloc, executor, seen);
+    let added = executor.add(rt, ChainJob { no, outcome, chain });
+    drained(rt, alloc, added, executor, seen);
 }
 
-// Runs what an executor has, and follows what fires then.
+// What adding a job answered.
+type Added<'d, K, D, Q> = Result<(), Refused<ChainJob<'d, u64, K, u64, D, Q>>>;
+
+// Runs what an executor has, after a job was added or refused, and follows what fires then.
 pub(crate) fn drained<'d, K, D, Q, R: Wait>(
     rt: &R,
     alloc: Global,
+    added: Added<'d, K, D, Q>,
     mut executor: ManualExecutor<ChainJob<'d, u64, K, u64, D, Q>>,
     seen: &mut Seen,
 )
@@ -280,33 +287,54 @@ where
     let mut world = World::empty();
     executor.drain(rt, &mut world);
     executor.close();
+    after_adding(rt, alloc, added, world, seen);
+}
+
+// Follows what an executor's world got, after a job was added or refused. One that was refused is given up.
+pub(crate) fn after_adding<'d, K, D, Q, R: Wait>(
+    rt: &R,
+    alloc: Global,
+    added: Added<'d, K, D, Q>,
+    world: World<D>,
+    seen: &mut Seen,
+)
+where
+    K: Cont<u64, Out = u64, Later = Q> + Drop,
+    Q: Proxy<u64, D>,
+    D: Followed,
+{
+    match added {
+        Ok(()) => {}
+        Err(Refused::Memory(job)) => {
+            let ChainJob {
+                no: _,
+                outcome: _,
+                chain,
+            } = job;
+            seen.refuse();
+            chain.end(&mut seen.tally);
+        }
+    }
     world.follow(rt, alloc, seen);
 }
 
-// Where a link's job lands: the fire of the next core, what was left over, and what the run has counted.
+// Where a link's job lands: the fire of the next core, and what else the run has shown.
 pub(crate) struct World<D> {
     fire: Option<Fire<u64, D>>,
-    left_over: Option<Try<u64>>,
-    tally: Tally,
+    seen: Seen,
 }
 
 impl<D: Followed> World<D> {
     pub(crate) fn empty() -> World<D> {
         World {
             fire: None,
-            left_over: None,
-            tally: Tally::new(),
+            seen: Seen::nothing(),
         }
     }
 
     pub(crate) fn follow<R: Wait>(self, rt: &R, alloc: Global, seen: &mut Seen) {
-        let World {
-            fire,
-            left_over,
-            tally,
-        } = self;
-        seen.left_over(left_over);
-        seen.counted(tally);
+        let World { fire, seen: ran } = self;
+        seen.add(ran);
         match fire {
             None => {}
             Some(fire) => D::follow(fire, rt, alloc, seen),
@@ -328,8 +356,8 @@ impl<D: Followed> Landing<u64, D> for World<D> {
         match self.fire.replace(fire) {
             None => {}
             Some(before) => {
-                let (_, _, callback) = before.unpack(&mut self.tally);
-                callback.end(&mut self.tally);
+                let (_, _, callback) = before.unpack(&mut self.seen.tally);
+                callback.end(&mut self.seen.tally);
             }
         }
     }
@@ -337,13 +365,22 @@ impl<D: Followed> Landing<u64, D> for World<D> {
     fn unclaimed(&mut self, outcome: Try<u64>)
         ensures { Unit {0} }
     {
-        self.left_over = Some(outcome);
+        self.seen.left_over(Some(outcome));
     }
 
     fn counted(&mut self, tally: Tally) {
-        let before = mem::replace(&mut self.tally, Tally::new());
-        self.tally = before.merge(tally);
+        self.seen.counted(tally);
     }
+}
+
+// The key of a home that is new.
+pub(crate) fn key_of<'h, C, P>(home: &'h mut Home<u64, C, P>) -> Key<'h, u64, C, P>
+    requires { home.now.taken ≡ false }
+{
+    let Some(key) = home.key() else {
+        unreachable!()
+    };
+    key
 }
 
 // Gives a home's memory back. A callback or a proxy that waits in it is given up.
