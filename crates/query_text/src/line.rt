@@ -15,7 +15,7 @@ use crate::query::{after_line, query_from};
 use crate::so_far::SoFar;
 use crate::words::words_of;
 use fan_base::Doc;
-use query_model::limits::{MOST_QUERIES, MOST_TICKS};
+use query_model::limits::{MOST_QUERIES, MOST_TICKS, MOST_WORDS};
 use query_model::{Keyword, Line};
 use std::alloc::{AllocError, Global};
 
@@ -151,13 +151,14 @@ fn keyword_line(
     }
 }
 
-/// The document that the fields behind `doc` give.
+/// The document that the fields behind `doc` give. The room for its words is the same for each, so that it lies where that of the
+/// document before lay, which is gone.
 fn doc_of(alloc: Global, so_far: &SoFar, mut fields: Fields<'_>) -> Result<Doc, LineFault>
     ensures { Gives result (doc_behind so_far.now fields.entry) }
 {
     let id = fields.next().ok_or(MISSING_FIELD)?;
     let id = number_field(id, 0, u32::MAX)?;
-    let words = words_of(alloc, fields)?;
+    let words = words_of(alloc, fields, MOST_WORDS)?;
     so_far.doc_room(id)?;
     Ok(Doc { id, words })
 }

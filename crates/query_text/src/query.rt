@@ -12,7 +12,7 @@ use crate::so_far::SoFar;
 use crate::tokens::{expr_of, first_tokens};
 use crate::words::{without_spare, words_of};
 use query_grammar::Expr;
-use query_model::limits::{MOST_DELAY, MOST_RANKED};
+use query_model::limits::{MOST_DELAY, MOST_RANKED, MOST_WORDS};
 use query_model::{Ask, ExprAsk, Keyword, Line, Prio, Query};
 use std::alloc::Global;
 
@@ -132,6 +132,7 @@ fn top_behind(alloc: Global, mut fields: Fields<'_>) -> Result<Ask, LineFault>
     if fields.is_empty() {
         return Err(MISSING_FIELD);
     }
-    let words = words_of(alloc, fields)?;
+    let room = fields.guess().min(MOST_WORDS);
+    let words = words_of(alloc, fields, room)?;
     Ok(Ask::Top(most, without_spare(words)))
 }

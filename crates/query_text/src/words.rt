@@ -12,11 +12,10 @@ use std::alloc::Global;
 /// How many bytes are looked at together.
 const LANES: usize = 16;
 
-/// The words of a document or of a `top`.
-pub fn words_of(alloc: Global, mut fields: Fields<'_>) -> Result<Words, LineFault>
+/// The words of a document or of a `top`, where there is room for so many at first.
+pub fn words_of(alloc: Global, mut fields: Fields<'_>, room: usize) -> Result<Words, LineFault>
     ensures { Gives result (words_of fields.entry) }
 {
-    let room = fields.guess().min(MOST_WORDS);
     let mut words = Words::from_vec(Vec::with_capacity(alloc, room)?);
     'texts: while let Some((line, size)) = fields.next_place() {
         if words.len() == MOST_WORDS {
