@@ -1,4 +1,5 @@
 pub mod CutLemmas
+pub mod DigitLemmas
 pub mod KnownLemmas
 pub mod LineLemmas
 pub mod NumberLemmas

@@ -20,6 +20,7 @@ pub use reply::{error_line, reply_line};
 pub use write::write_input;
 
 mod cut;
+mod digits;
 mod expr_text;
 mod fault;
 mod fields;

@@ -1,11 +1,18 @@
-ghost use Rattle.std.specs.Prelude.{◌≡◌, IfOk};
+ghost use Rattle.std.specs.Prelude.{◌≡◌, ◌++◌, IfOk};
+ghost use Rattle.std.specs.Fmt.{decimal};
 ghost use Rattle.query_model.specs.declared.reply.Reply.TheVariants as reply;
 ghost use Rattle.query_model.specs.Output.{error_text, reply_text, kind_text, limit_text, presence_text};
 
+use crate::digits::{push_byte, push_decimal};
 use fan_base::Memory;
 use query_model::{BadInput, BadKind, Hits, Limit, Reply};
 use std::alloc::Global;
-use std::fmt::Write;
+
+/// How many bytes most parts of a line have at most: a number behind a space, and a score.
+const PART_ROOM: usize = 12;
+
+/// How many bytes a line without parts has at most: two numbers of 20 digits, a colon, and the longest text beside them.
+const REST_ROOM: usize = 48;
 
 /// The line of a reply to the query with the number `n`.
 pub fn reply_line(alloc: Global, n: u64, reply: &Reply) -> Result<Vec<u8>, Memory>
@@ -23,26 +30,33 @@ pub fn reply_line(alloc: Global, n: u64, reply: &Reply) -> Result<Vec<u8>, Memor
 fn find_line(alloc: Global, n: u64, hits: &Hits) -> Result<Vec<u8>, Memory>
     ensures { IfOk result (λ line. line.items ≡ reply_text n (reply.Find hits.now)) }
 {
-    let total = hits.total;
-    let mut text = format!(in alloc; "{n} find {total}:")?;
+    let mut text = line_start(alloc, n, b" find ", hits.ids.len())?;
+    push_decimal(&mut text, hits.total)?;
+    push_byte(&mut text, b':')?;
     for id in hits.ids.as_slice() {
-        write!(text, " {id}")?;
+        push_byte(&mut text, b' ')?;
+        push_decimal(&mut text, u64::from(*id))?;
     }
-    text.push('\n')?;
-    Ok(text.into_bytes())
+    push_byte(&mut text, b'\n')?;
+    Ok(text)
 }
 
 fn count_line(alloc: Global, n: u64, total: u64) -> Result<Vec<u8>, Memory>
     ensures { IfOk result (λ line. line.items ≡ reply_text n (reply.Count total)) }
 {
-    Ok(format!(in alloc; "{n} count {total}\n")?.into_bytes())
+    let mut text = line_start(alloc, n, b" count ", 0)?;
+    push_decimal(&mut text, total)?;
+    push_byte(&mut text, b'\n')?;
+    Ok(text)
 }
 
 fn presence_line(alloc: Global, n: u64, present: bool) -> Result<Vec<u8>, Memory>
     ensures { IfOk result (λ line. line.items ≡ reply_text n (reply.Present present)) }
 {
-    let answer = presence_text(present);
-    Ok(format!(in alloc; "{n} exists {answer}\n")?.into_bytes())
+    let mut text = line_start(alloc, n, b" exists ", 0)?;
+    text.extend_from_slice(presence_text(present).as_bytes())?;
+    push_byte(&mut text, b'\n')?;
+    Ok(text)
 }
 
 fn presence_text(present: bool) -> &'static str
@@ -54,19 +68,34 @@ fn presence_text(present: bool) -> &'static str
 fn top_line(alloc: Global, n: u64, scores: &[(u32, u64)]) -> Result<Vec<u8>, Memory>
     ensures { IfOk result (λ line. line.items ≡ reply_text n (reply.Top scores.now)) }
 {
-    let listed = scores.len();
-    let mut text = format!(in alloc; "{n} top {listed}:")?;
+    let mut text = line_start(alloc, n, b" top ", scores.len())?;
+    push_decimal(&mut text, scores.len() as u64)?;
+    push_byte(&mut text, b':')?;
     for (id, score) in scores {
-        write!(text, " {id}={score}")?;
+        push_byte(&mut text, b' ')?;
+        push_decimal(&mut text, u64::from(*id))?;
+        push_byte(&mut text, b'=')?;
+        push_decimal(&mut text, *score)?;
     }
-    text.push('\n')?;
-    Ok(text.into_bytes())
+    push_byte(&mut text, b'\n')?;
+    Ok(text)
 }
 
 fn cancelled_line(alloc: Global, n: u64) -> Result<Vec<u8>, Memory>
     ensures { IfOk result (λ line. line.items ≡ reply_text n reply.Cancelled) }
 {
-    Ok(format!(in alloc; "{n} cancelled\n")?.into_bytes())
+    line_start(alloc, n, b" cancelled\n", 0)
+}
+
+/// The start of a line: a number, and what kind of reply it is. There is room for the rest of the line, with so many parts.
+fn line_start(alloc: Global, n: u64, kind: &[u8], parts: usize) -> Result<Vec<u8>, Memory>
+    ensures { IfOk result (λ text. text.items ≡ decimal n ++ kind.now) }
+{
+    let room = parts.saturating_mul(PART_ROOM).saturating_add(REST_ROOM);
+    let mut text = Vec::with_capacity(alloc, room)?;
+    push_decimal(&mut text, n)?;
+    text.extend_from_slice(kind)?;
+    Ok(text)
 }
 
 /// The line that says why an input was refused.
