@@ -1,6 +1,6 @@
 -- The first piece of a text, the first field of a line and the first part of a field, by where they are cut.
-use Rattle.std.proofs.Common.{◌≡◌, ℕ, [], ◌∷◌, ◌++◌, length, take, drop, get_or, Bool, true, false, ◌≤◌, ◌||◌, eqb, true≢false, sym, refl, ap, ◌∙◌, arith, append-nil, length-append}
-use Rattle.std.specs.List.{All, AllByRecursion, onto_first, flat_map}
+use Rattle.std.proofs.Common.{◌≡◌, ℕ, [], ◌∷◌, ◌++◌, ◌+◌, ◌<◌, length, take, drop, get_or, Bool, true, false, ◌≤◌, ◌||◌, eqb, true≢false, sym, refl, ap, ◌∙◌, arith, append-nil, length-append}
+use Rattle.std.specs.List.{All, AllByRecursion, onto_first, flat_map, position_or_len}
 use Rattle.std.specs.Prelude.{filter, find, not}
 use Rattle.std.proofs.lemmas.Bool.{lt-ltb, eqb-true, or_from, or_parts}
 use Rattle.std.proofs.lemmas.List.Concat.{flat_map-append}
@@ -11,6 +11,7 @@ use Rattle.std.proofs.Math.Seq.{take-append_seam}
 use Rattle.query_model.specs.Pieces.{Bytes, fields, is_skipped, is_some_text, says_nothing, pieces, line_feed, space}
 use Rattle.query_model.specs.Expressions.{apart, is_sign, parts}
 use Rattle.query_text.specs.Cuts.{HasNoSpaceFirst, ends_run, IsAtEndOfRun}
+use Rattle.query_text.proofs.FirstLemmas.{cut_here, found_near, front_clear}
 
 last_piece : (b : ℕ) (bs : Bytes) → AllByRecursion (λ b. eqb b line_feed ≡ false) (b ∷ bs) → pieces (b ∷ bs) ≡ (b ∷ bs) ∷ []
 unfolding pieces
@@ -111,6 +112,18 @@ pub field_last : (line spaces rest front : Bytes) → All (λ b. b ≡ space) sp
 field_last line spaces rest front are_spaces whole some clear cut =
     fields_behind line spaces rest are_spaces whole
     ∙ (ap fields cut ∙ (field_at_end front (some_whole front (ap (λ xs. eqb (length xs) 0) (sym cut) ∙ some)) clear ∙ ap (λ fs. front ∷ fs) (sym no_fields)))
+
+no_space_first : (line : Bytes) → eqb (get_or line 0 0) space ≡ false → HasNoSpaceFirst line
+no_space_first [] other = tt
+no_space_first (b ∷ bs) other = other
+
+-- a field that begins the line, with a space behind it among the first n bytes
+pub field_near : (line : Bytes) (n size : ℕ) → n ≤ length line → eqb (get_or line 0 0) space ≡ false → size ≡ position_or_len (λ b. eqb b space) (take n (drop 0 line)) → size < n
+    → fields line ≡ take size line ∷ fields (drop (size + 1) line)
+field_near line n size room other is near =
+    let found = found_near space line n size room is near in
+    field_cut line [] line (take size line) (drop (size + 1) line) (All-from_recursion (λ b. b ≡ space) [] tt) refl (no_space_first line other)
+    (front_clear space line size found) (cut_here space line size found (omega (arith, room, near)))
 
 -- what begins with a field has it as its first so many bytes
 pub front_within : (rest front more : Bytes) → rest ≡ front ++ more → length front ≤ length rest

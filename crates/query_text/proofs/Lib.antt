@@ -1,5 +1,6 @@
 pub mod CutLemmas
 pub mod DigitLemmas
+pub mod FirstLemmas
 pub mod KnownLemmas
 pub mod LineLemmas
 pub mod NumberLemmas

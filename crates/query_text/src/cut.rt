@@ -4,7 +4,7 @@ ghost use Rattle.std.specs.List.{position_or_len};
 use std::simd::prelude::*;
 
 /// How many bytes are looked at together.
-const LANES: usize = 16;
+pub const LANES: usize = 16;
 
 /// What stands before the first `at`, and what stands behind it; all of the bytes and nothing where it doesn't occur.
 pub fn cut(bytes: &[u8], at: u8) -> (&[u8], Option<&[u8]>)
@@ -38,7 +38,7 @@ fn before(bytes: &[u8], at: u8) -> usize
 }
 
 /// The same of the 16 bytes behind `from`.
-fn lanes_before(bytes: &[u8], from: usize, at: u8) -> usize
+pub fn lanes_before(bytes: &[u8], from: usize, at: u8) -> usize
     requires { from + LANES ≤ length bytes.now }
     ensures { result ≡ position_or_len (λ byte. byte == at) (take LANES (drop from bytes.now)) }
 {

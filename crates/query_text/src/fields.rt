@@ -3,7 +3,7 @@ ghost use Rattle.std.specs.Iterator.{YieldsFirstRef, item_count};
 ghost use Rattle.query_model.specs.Pieces.{fields, space};
 ghost use Rattle.query_text.specs.Cuts.{HasNoSpaceFirst};
 
-use crate::cut::cut;
+use crate::cut::{LANES, cut, lanes_before};
 use std::marker::Model;
 
 /// The fields of a line that are still to be read, from the first on.
@@ -76,6 +76,33 @@ fn first_field(line: &[u8]) -> Option<(&[u8], &[u8])>
 
 /// A line from its first field on, how many bytes the field has, and what stands behind it.
 fn first_place(line: &[u8]) -> Option<(&[u8], usize, &[u8])>
+    ensures within { IfSome result (λ place. place.1 ≤ length place.0.now) }
+    ensures first { MatchOption result (fields line.now ≡ []) (λ place. fields line.now ≡ take place.1 place.0.now ∷ fields place.2.now) }
+{
+    match near_place(line) {
+        Some(place) => Some(place),
+        None => far_place(line),
+    }
+}
+
+/// The same where the line begins with the field and its first 16 bytes have a space behind it, as those of most words. Else none.
+fn near_place(line: &[u8]) -> Option<(&[u8], usize, &[u8])>
+    ensures within { IfSome result (λ place. place.1 ≤ length place.0.now) }
+    ensures first { IfSome result (λ place. fields line.now ≡ take place.1 place.0.now ∷ fields place.2.now) }
+{
+    if line.len() < LANES || line[0] == b' ' {
+        return None;
+    }
+    let size = lanes_before(line, 0, b' ');
+    if size < LANES {
+        Some((line, size, &line[size + 1..]))
+    } else {
+        None
+    }
+}
+
+/// The same for any line.
+fn far_place(line: &[u8]) -> Option<(&[u8], usize, &[u8])>
     ensures within { IfSome result (λ place. place.1 ≤ length place.0.now) }
     ensures first { MatchOption result (fields line.now ≡ []) (λ place. fields line.now ≡ take place.1 place.0.now ∷ fields place.2.now) }
 {

@@ -1,17 +1,8 @@
-use Rattle.std.proofs.Common.{◌≡◌, ℕ, ◌+◌, ◌≤◌, Bool, List, eqb, not, cond, length, take, drop, sym, ap, ◌∙◌, arith, add_assoc}
+use Rattle.std.proofs.Common.{◌≡◌, ℕ, ◌+◌, Bool, eqb, not, take, drop, sym, ap, ◌∙◌, arith, add_assoc}
 use Rattle.std.proofs.lemmas.Bool.{cond-true, eq-eqb}
-use Rattle.std.proofs.lemmas.List.Folds.{prefix_len-append}
-use Rattle.std.proofs.lemmas.Simd.{chunk-drop, length-chunk}
-use Rattle.std.specs.List.{prefix_len, position_or_len}
+use Rattle.std.specs.List.{position_or_len}
+use Rattle.query_text.proofs.FirstLemmas.{by_group}
 use Rattle.query_text.proofs.cut.before.Goals as goal
-
--- how many pass from i on, by how many of the first n there
-by_group : (p : ℕ → Bool) (xs : List ℕ) (i n : ℕ) → i + n ≤ length xs
-    → prefix_len p (drop i xs) ≡ cond (eqb (prefix_len p (take n (drop i xs))) n) (n + prefix_len p (drop (i + n) xs)) (prefix_len p (take n (drop i xs)))
-by_group p xs i n room =
-    ap (prefix_len p) (chunk-drop i n xs)
-    ∙ (prefix_len-append p (take n (drop i xs)) (drop (i + n) xs)
-    ∙ ap (λ m. cond (eqb (prefix_len p (take n (drop i xs))) m) (m + prefix_len p (drop (i + n) xs)) (prefix_len p (take n (drop i xs)))) (length-chunk i n xs room))
 
 pub groups-preserved : goal.groups-preserved
 groups-preserved c =

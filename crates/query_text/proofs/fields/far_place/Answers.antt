@@ -2,7 +2,7 @@ use Rattle.std.proofs.Common.{◌≡◌, ◌∷◌, [], ◌∙◌, sym, ap, appe
 use Rattle.std.proofs.lemmas.Option.{MatchOption-at_some, MatchOption-at_none}
 use Rattle.query_model.specs.Pieces.{fields}
 use Rattle.query_text.proofs.CutLemmas.{no_field, field_cut, field_last, front_in_place, front_within}
-use Rattle.query_text.proofs.fields.first_place.Goals as goal
+use Rattle.query_text.proofs.fields.far_place.Goals as goal
 
 pub returns-then-is_empty-clause-first : goal.returns-then-is_empty-clause-first
 returns-then-is_empty-clause-first c = no_field _ _ _ c.split_spaces.ensures.spaces c.split_spaces.ensures.whole (sym c.is_empty.ensures ∙ c.if-is_empty.true)
