@@ -19,6 +19,9 @@ use query_model::limits::{MOST_QUERIES, MOST_TICKS, MOST_WORDS};
 use query_model::{Keyword, Line};
 use std::alloc::{AllocError, Global};
 
+/// For how many words a room is small.
+const FEW_WORDS: usize = 32;
+
 /// The line that a piece stands for behind the lines so far, or none where it is skipped.
 #[tactic(auto, unfolding(query_model::specs::Lines::said_behind))]
 pub fn line_of(
@@ -151,16 +154,27 @@ fn keyword_line(
     }
 }
 
-/// The document that the fields behind `doc` give. The room for its words is the same for each, so that it lies where that of the
-/// document before lay, which is gone.
+/// The document that the fields behind `doc` give.
 fn doc_of(alloc: Global, so_far: &SoFar, mut fields: Fields<'_>) -> Result<Doc, LineFault>
     ensures { Gives result (doc_behind so_far.now fields.entry) }
 {
     let id = fields.next().ok_or(MISSING_FIELD)?;
     let id = number_field(id, 0, u32::MAX)?;
-    let words = words_of(alloc, fields, MOST_WORDS)?;
+    let room = room_for(&fields);
+    let words = words_of(alloc, fields, room)?;
     so_far.doc_room(id)?;
     Ok(Doc { id, words })
+}
+
+/// For how many words of a document there is room at first. For more than a few it is always the same room, so that it lies where that
+/// of the document before lay, which is gone. Small rooms an allocator gives again by itself.
+fn room_for(fields: &Fields<'_>) -> usize {
+    let guess = fields.guess();
+    if guess <= FEW_WORDS {
+        guess
+    } else {
+        MOST_WORDS
+    }
 }
 
 /// The ticks that the fields behind `tick` give.
