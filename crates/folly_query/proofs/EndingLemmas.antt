@@ -25,7 +25,7 @@ use Rattle.folly_query.specs.declared.report.Report.{Report}
 use Rattle.folly_query.specs.declared.report.Status.{Status}
 use Rattle.folly_query.specs.declared.report.Status.TheVariants as status
 use Rattle.reply_printer.specs.Passing.{Gains}
-use Rattle.folly_query.specs.Passing.{ReadsAll, ReadsTooMuch}
+use Rattle.input_reader.specs.Sources.{ReadsAll, ReadsTooMuch}
 use Rattle.folly_query.specs.Endings.{Comes, EndsAs, EndsBy, RefusesAs, SumsUpAs, SumsUpBy, TellsPool, IsWritten, WritesAs, asked_of, summary_by}
 use Rattle.folly_query.specs.Reports.{TellsAll, asked_by, status_of}
 

@@ -16,7 +16,7 @@ use Rattle.folly_query.specs.declared.report.Report.{Report}
 use Rattle.folly_query.specs.declared.report.Status.{Status}
 use Rattle.folly_query.specs.declared.report.Status.TheVariants as status
 use Rattle.reply_printer.specs.Passing.{Gains, GainsFront}
-use Rattle.folly_query.specs.Passing.{most_bytes, ReadsAll, ReadsTooMuch, FailsBehind}
+use Rattle.input_reader.specs.Sources.{most_bytes, ReadsAll, ReadsTooMuch, FailsBehind}
 use Rattle.folly_query.specs.Reports.{TellsAll, asked_by}
 
 -- all was read, it is accepted, and what is told of a pool holds of the run over it

@@ -1,4 +1,3 @@
-pub mod Passing
 pub mod Endings
 pub mod Statuses
 pub mod Reports

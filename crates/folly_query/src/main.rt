@@ -8,8 +8,8 @@
 //! main: the real source, sink and gate --query_main--> Report: the status, the pool, the queues, the cores
 //!
 //! words   no command: Usage, and nothing is read or written
-//! run     source --read_all--> bytes --read_lines--> table --with_shards--> lines without words, shards --fan_run_named--> sink
-//!            | ReadFault, TooLarge  | BadInput: the error line is written                         Done | WriteFault
+//! run     source --read_source--> table --with_shards--> lines without words, shards --fan_run_named--> sink
+//!            | ReadFault, TooLarge, BadInput: the error line is written                Done | WriteFault
 //! gen     seed --generate--> table, answered the same way into memory --summary_text--> sink      Done | WriteFault
 //! any     Memory, where there was too little
 //!
@@ -49,7 +49,6 @@ mod answer;
 mod args;
 mod buffer;
 mod generated;
-mod read;
 mod report;
 mod run;
 #[cfg(test)]

@@ -11,12 +11,12 @@ ghost use Rattle.folly_query.specs.Reports.{IsRefusal, TellsNothing};
 use crate::answer::answer;
 use crate::args::Args;
 use crate::generated::sum_up;
-use crate::read::{ReadEnd, read_all};
 use crate::report::{Report, Status};
 use fan_base::{Gate, Memory, Sink, Source};
+use input_reader::{ReadEnd, read_source};
+use query_model::BadInput;
 use query_model::laws::accepted_is_within_limits;
-use query_model::{BadInput, InputFault};
-use query_text::{error_line, read_lines};
+use query_text::{error_line, input_law};
 use query_words::laws::{commands_are_in_range, words_are_at_most_one_command};
 use query_words::{Command, Settings};
 use reply_printer::write_all;
@@ -103,19 +103,15 @@ fn run<S: Source, K: Sink + Send, G: Gate, R: Threads + Wait + Sync>(
     ensures pool { IfSome result.pool (TellsPool settings
         (shown (S.left source.old) (S.faults source.old)) (shown (S.left source.new) (S.faults source.new))) }
 {
-    let text = match read_all(alloc, source) {
-        Ok(text) => text,
+    input_law();
+    let table = match read_source(alloc, source, settings.shards) {
+        Ok(table) => table,
         Err(ReadEnd::Memory) => return Report::empty(alloc, Status::Memory),
         Err(ReadEnd::Fault) => return Report::empty(alloc, Status::ReadFault),
         Err(ReadEnd::TooLarge) => return Report::empty(alloc, Status::TooLarge),
-    };
-    let table = match read_lines(alloc, text.as_slice(), settings.shards) {
-        Ok(table) => table,
-        Err(InputFault::Memory) => return Report::empty(alloc, Status::Memory),
-        Err(InputFault::Bad(bad)) => return Report::empty(alloc, refuse(alloc, bad, sink)),
+        Err(ReadEnd::Bad(bad)) => return Report::empty(alloc, refuse(alloc, bad, sink)),
     };
     accepted_is_within_limits();
-    drop(text);
     Report::of_run(answer(rt, alloc, table, settings, sink, gate))
 }
 

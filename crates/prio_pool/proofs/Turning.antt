@@ -58,6 +58,7 @@ module _ (old mid : TakersSeen) (found : Option Ending) (is : mid ≡ and_looked
           list = list;
           led = led;
           found = found;
+          found_is = took.did.found ∙ ap (λ (x : TakersSeen). x.found) is;
           queue = queue;
           task = entry_of head task;
           within = subst (λ (n : ℕ). queue < n) same took.within;

@@ -20,6 +20,7 @@ pub record RanOneMore {W : Type 0} (runs : JobId → W → Mark → W → Type 0
   pub list : new.records ≡ old.records ++ entry ∷ []
   pub led : runs entry.job w entry.mark v
   pub found : Option Ending
+  pub found_is : new.found ≡ found
   pub queue : ℕ
   pub task : Entry
   pub within : queue < length old.pool.queues
@@ -31,6 +32,7 @@ pub record FoundEmpty {W : Type 0} (old : EndSeen) (w : W) (new : EndSeen) (v : 
   pub popped : new.popped ≡ old.popped
   pub world : v ≡ w
   pub found : Option Ending
+  pub found_is : new.found ≡ found
   pub turn : TookTurn old new (idle found)
 
 abbrev pub HelpDid : {W : Type 0} → (JobId → W → Mark → W → Type 0) → Helped → EndSeen → W → EndSeen → W → Type 0

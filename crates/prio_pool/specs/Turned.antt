@@ -29,6 +29,7 @@ module _ {W : Type 0} (runs : JobId → W → Mark → W → Type 0) (ends_at_st
     pub list : more ≡ records ++ entry ∷ []
     pub led : runs entry.job w entry.mark v
     pub found : Option Ending
+    pub found_is : new.found ≡ found
     pub queue : ℕ
     pub task : Entry
     pub within : queue < length old.pool.queues

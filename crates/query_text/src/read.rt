@@ -1,20 +1,13 @@
-ghost use Rattle.std.specs.Prelude.{◌≡◌, ◌≤◌, ◌++◌, Ok, Err, Option, IfOk};
-ghost use Rattle.std.specs.Option.{option_to_list};
+ghost use Rattle.std.specs.Prelude.{◌≡◌, ◌≤◌, Err, IfOk};
 ghost use Rattle.query_model.specs.declared.fault.BadInput.{BadInput};
 ghost use Rattle.query_model.specs.declared.line.Input.{Input};
-ghost use Rattle.query_model.specs.declared.line.Line.{Line};
-ghost use Rattle.query_model.specs.Lines.{LineBehind};
 ghost use Rattle.query_model.specs.Reading.{Accepts, Refuses};
 ghost use Rattle.query_text.specs.Outcomes.{AreLinesOf, IsInput, IsRefusal};
 
-use crate::fault::LineFault;
 use crate::law::input_law;
-use crate::line::line_of;
-use crate::pieces::Pieces;
-use crate::so_far::SoFar;
+use crate::reading::Reading;
 use line_table::LineTable;
-use query_model::laws::{lines_by_facts, one_piece_more};
-use query_model::{BadInput, Input, InputFault};
+use query_model::{Input, InputFault};
 use std::alloc::Global;
 
 /// Reads the lines of an input that is to be answered over so many shards, their documents by numbers.
@@ -33,7 +26,7 @@ pub fn read_lines(alloc: Global, bytes: &[u8], shards: u32) -> Result<LineTable,
     ensures refuses { (bad : BadInput) → Refuses bytes.now shards bad → IsRefusal result bad }
 {
     input_law();
-    read_pieces(alloc, bytes, shards)
+    read_whole(alloc, bytes, shards)
 }
 
 /// Reads an input that is to be answered over so many shards, with all its words.
@@ -57,41 +50,13 @@ pub fn read_input(alloc: Global, bytes: &[u8], shards: u32) -> Result<Input, Inp
     })
 }
 
-/// The lines that the pieces of the bytes stand for, or the first refusal.
-fn read_pieces(alloc: Global, bytes: &[u8], shards: u32) -> Result<LineTable, InputFault>
+/// The lines that these bytes stand for, or the first refusal.
+fn read_whole(alloc: Global, bytes: &[u8], shards: u32) -> Result<LineTable, InputFault>
     ensures accepted { IfOk result (λ lines. Accepts bytes.now shards (record { lines = lines })) }
     ensures refused { (bad : BadInput) → result ≡ Err (InputFault.Bad bad) → Refuses bytes.now shards bad }
 {
-    one_piece_more();
-    let mut so_far = SoFar::new(alloc);
-    let mut number = 0u64;
-    let mut pieces = Pieces::new(bytes);
-    'pieces: while let Some(piece) = pieces.next() {
-        number += 1;
-        match read_piece(alloc, shards, so_far, number, piece) {
-            Ok(more) => so_far = more,
-            Err(fault) => return Err(fault),
-        }
-    }
-    Ok(so_far.into_table())
-}
-
-/// The lines with the one, if any, that the piece with this number stands for.
-fn read_piece(
-    alloc: Global,
-    shards: u32,
-    so_far: SoFar,
-    number: u64,
-    piece: &[u8],
-) -> Result<SoFar, InputFault>
-    ensures ok { IfOk result (λ more. (mark : Option Line) × LineBehind shards so_far piece.now (Ok mark) × (more ≡ so_far ++ option_to_list mark)) }
-    ensures refused { (bad : BadInput) → result ≡ Err (InputFault.Bad bad) → (bad.line ≡ number) × LineBehind shards so_far piece.now (Err bad.kind) }
-{
-    lines_by_facts();
-    match line_of(alloc, shards, &so_far, piece) {
-        Ok(Some(line)) => so_far.with(line),
-        Ok(None) => Ok(so_far),
-        Err(LineFault::Bad(kind)) => Err(InputFault::Bad(BadInput { line: number, kind })),
-        Err(LineFault::Memory) => Err(InputFault::Memory),
+    match Reading::new(alloc).read(alloc, shards, bytes) {
+        Ok(reading) => Ok(reading.into_table()),
+        Err(fault) => Err(fault),
     }
 }

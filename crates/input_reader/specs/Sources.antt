@@ -1,5 +1,5 @@
 -- What is read from a source to its end.
-use Rattle.std.specs.Prelude.{ℕ, ◌≡◌, ◌↔◌, ◌≤◌, ◌<◌, ◌+◌, List, [], ◌++◌, length, Some, IfSome}
+use Rattle.std.specs.Prelude.{ℕ, ◌≡◌, ◌↔◌, ◌≤◌, ◌<◌, ◌+◌, List, [], length, Some, IfSome}
 use Rattle.std.specs.Io.KnownBytes.{Consumes}
 use Rattle.fan_base.specs.Outside.{Shown, FaultsRose}
 
@@ -11,13 +11,11 @@ most_bytes = 67108864
 abbrev pub most_asked : ℕ
 most_asked = 65536
 
--- n bytes were read and put behind a text, none of them only at the source's end, and nothing failed
-pub record ReadsPiece (old new : Shown) (before after : List ℕ) (n : ℕ) : Type 0 where
-  pub got : List ℕ
-  pub grown : after ≡ before ++ got
+-- these bytes were read, none of them only at the source's end, and nothing failed
+pub record ReadsPiece (old new : Shown) (got : List ℕ) : Type 0 where
   pub moved : Consumes old.bytes new.bytes got
-  pub many : length got ≡ n
-  pub end : IfSome old.bytes (λ bytes. (n ≡ 0) ↔ (bytes ≡ []))
+  pub few : length got ≤ most_asked
+  pub end : IfSome old.bytes (λ bytes. (got ≡ []) ↔ (bytes ≡ []))
   pub sound : new.faults ≡ old.faults
 
 -- this text was all that the source had left, nothing failed, and it wasn't too much

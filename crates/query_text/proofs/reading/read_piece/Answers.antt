@@ -1,7 +1,7 @@
 use Rattle.std.proofs.Common.{rules, ◌≡◌, Some, Ok, subst}
 use Rattle.query_model.specs.Lines.{LineBehind}
 use Rattle.query_text.proofs.LineLemmas.{has_room}
-use Rattle.query_text.proofs.read.read_piece.Goals as goal
+use Rattle.query_text.proofs.reading.read_piece.Goals as goal
 
 pub with-requires : goal.with-requires
 with-requires c =
