@@ -4,7 +4,7 @@ use Rattle.std.specs.Option.{IfSome}
 use Rattle.std.specs.Io.KnownBytes.{Consumes, Keeps}
 use Rattle.std.proofs.KnownBytes.{Consumes-kept}
 use Rattle.fan_base.specs.Outside.{FaultsRose, Shown}
-use Rattle.input_reader.specs.Sources.{most_bytes, FailsBehind, ReadsAll, ReadsPiece}
+use Rattle.input_reader.specs.Sources.{most_bytes, FailsBehind, ReadsAll, ReadsChunk}
 
 nothing_left : (xs ys zs text got : List ℕ) → xs ≡ text ++ ys → ys ≡ got ++ zs → got ≡ [] → ys ≡ [] → (xs ≡ text) × (Some zs ≡ Some [])
 nothing_left xs ys zs text got first then none end =
@@ -18,7 +18,7 @@ all_read (Some xs) (Some ys) None text got first then end none = absurd then
 all_read (Some xs) (Some ys) (Some zs) text got first then end none = nothing_left xs ys zs text got first then none (end.0 none)
 
 module _ (old mid new : Shown) (text : List ℕ) (consumed : Consumes old.bytes mid.bytes text) (sound : mid.faults ≡ old.faults) (few : length text ≤ most_bytes) where
-  pub reads_all : (got : List ℕ) → ReadsPiece mid new got → got ≡ [] → ReadsAll old new text
+  pub reads_all : (got : List ℕ) → ReadsChunk mid new got → got ≡ [] → ReadsAll old new text
   reads_all got read none = record { whole = all_read old.bytes mid.bytes new.bytes text got consumed read.moved read.end none; sound = read.sound ∙ sound; few = few }
 
   pub fails_behind : Keeps mid.bytes new.bytes → FaultsRose mid.faults new.faults → FailsBehind old new text

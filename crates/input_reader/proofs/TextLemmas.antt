@@ -1,4 +1,4 @@
--- What one more piece makes of what was read so far, and what is left of it at the end.
+-- What one more chunk makes of what was read so far, and what is left of it at the end.
 use Rattle.std.proofs.Common.{◌≡◌, ℕ, ◌+◌, ◌≤◌, [], ◌∷◌, ◌++◌, length, Result, Ok, Err, refl, sym, ap, ◌∙◌, subst, arith, append_assoc, append-nil, length-append, ◌⊎◌, inl, inr}
 use Rattle.std.specs.Result.{IfOk}
 use Rattle.query_model.specs.declared.fault.BadInput.{BadInput}
@@ -24,28 +24,28 @@ module _ (shards : ℕ) (text tail : Bytes) (reading : ReadSoFar) where
   last_refused bad refuses (closed, is, ends, read, few) =
       subst (λ t. Refuses t shards bad) (ap (λ t. closed ++ t) (append-nil tail) ∙ sym is) (refuses closed [] ends read (inr refl))
 
-  -- a piece without a line feed
-  pub none_closed : (piece : Bytes) → IsReadAs shards text tail (UpTo reading) → IsReadAs shards (text ++ piece) (tail ++ piece) (UpTo reading)
-  none_closed piece (closed, is, ends, read, few) = (closed, ap (λ t. t ++ piece) is ∙ append_assoc closed tail piece, ends, read, few)
+  -- a chunk without a line feed
+  pub none_closed : (chunk : Bytes) → IsReadAs shards text tail (UpTo reading) → IsReadAs shards (text ++ chunk) (tail ++ chunk) (UpTo reading)
+  none_closed chunk (closed, is, ends, read, few) = (closed, ap (λ t. t ++ chunk) is ∙ append_assoc closed tail chunk, ends, read, few)
 
-  module _ (piece closed rest whole : Bytes) (parts : piece ≡ closed ++ rest) (feed : EndsInFeed closed) (whole_is : whole ≡ tail ++ closed) where
+  module _ (chunk closed rest whole : Bytes) (parts : chunk ≡ closed ++ rest) (feed : EndsInFeed closed) (whole_is : whole ≡ tail ++ closed) where
     whole_ends : EndsInFeed whole
     whole_ends = subst EndsInFeed (sym whole_is) (behind_feed tail closed feed)
 
     -- the lines that end in it were read
     pub some_closed : (more : ReadSoFar) → ((t : Bytes) → EndsLine t → HasReadText shards t reading → HasReadText shards (t ++ whole) more) → more.number ≤ reading.number + length whole
-        → IsReadAs shards text tail (UpTo reading) → IsReadAs shards (text ++ piece) rest (UpTo more)
+        → IsReadAs shards text tail (UpTo reading) → IsReadAs shards (text ++ chunk) rest (UpTo more)
     some_closed more reads number (before, is, ends, read, few) =
-        let all : text ++ piece ≡ (before ++ whole) ++ rest =
-        ap (λ t. t ++ piece) is ∙ (ap (λ p. (before ++ tail) ++ p) parts
+        let all : text ++ chunk ≡ (before ++ whole) ++ rest =
+        ap (λ t. t ++ chunk) is ∙ (ap (λ p. (before ++ tail) ++ p) parts
         ∙ (sym (append_assoc (before ++ tail) closed rest) ∙ ap (λ t. t ++ rest) (append_assoc before tail closed ∙ ap (λ t. before ++ t) (sym whole_is)))) in
         (before ++ whole, all, inr (behind_feed before whole whole_ends), reads before ends read, omega (arith, number, few, length-append before whole))
 
     -- one of them is refused
     pub one_refused : (bad : BadInput) → ((t left : Bytes) → EndsLine t → HasReadText shards t reading → EndsLine whole ⊎ (left ≡ []) → Refuses (t ++ (whole ++ left)) shards bad)
-        → IsReadAs shards text tail (UpTo reading) → IsReadAs shards (text ++ piece) [] (Refused bad)
+        → IsReadAs shards text tail (UpTo reading) → IsReadAs shards (text ++ chunk) [] (Refused bad)
     one_refused bad refuses (before, is, ends, read, few) = λ left.
-        let all : before ++ (whole ++ (rest ++ left)) ≡ (text ++ piece) ++ left =
+        let all : before ++ (whole ++ (rest ++ left)) ≡ (text ++ chunk) ++ left =
         ap (λ w. before ++ (w ++ (rest ++ left))) whole_is
         ∙ (sym (append_assoc before (tail ++ closed) (rest ++ left))
         ∙ (ap (λ t. t ++ (rest ++ left)) (sym (append_assoc before tail closed))
@@ -55,8 +55,8 @@ module _ (shards : ℕ) (text tail : Bytes) (reading : ReadSoFar) where
         subst (λ t. Refuses t shards bad) all (refuses before (rest ++ left) ends read (inl (inr whole_ends)))
 
 -- a refusal stays, whatever comes behind it
-pub refused_more : (shards : ℕ) (text piece tail new : Bytes) (bad : BadInput) → IsReadAs shards text tail (Refused bad) → IsReadAs shards (text ++ piece) new (Refused bad)
-refused_more shards text piece tail new bad refuses = λ rest. subst (λ t. Refuses t shards bad) (sym (append_assoc text piece rest)) (refuses (piece ++ rest))
+pub refused_more : (shards : ℕ) (text chunk tail new : Bytes) (bad : BadInput) → IsReadAs shards text tail (Refused bad) → IsReadAs shards (text ++ chunk) new (Refused bad)
+refused_more shards text chunk tail new bad refuses = λ rest. subst (λ t. Refuses t shards bad) (sym (append_assoc text chunk rest)) (refuses (chunk ++ rest))
 
 pub refused_whole : (shards : ℕ) (text tail : Bytes) (bad : BadInput) → IsReadAs shards text tail (Refused bad) → Refuses text shards bad
 refused_whole shards text tail bad refuses = subst (λ t. Refuses t shards bad) (append-nil text) (refuses [])

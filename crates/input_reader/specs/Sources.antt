@@ -12,7 +12,7 @@ abbrev pub most_asked : ℕ
 most_asked = 65536
 
 -- these bytes were read, none of them only at the source's end, and nothing failed
-pub record ReadsPiece (old new : Shown) (got : List ℕ) : Type 0 where
+pub record ReadsChunk (old new : Shown) (got : List ℕ) : Type 0 where
   pub moved : Consumes old.bytes new.bytes got
   pub few : length got ≤ most_asked
   pub end : IfSome old.bytes (λ bytes. (got ≡ []) ↔ (bytes ≡ []))

@@ -1,12 +1,12 @@
-//! The lines of an input, read from a source piece by piece.
+//! The lines of an input, read from a source chunk by chunk.
 //!
 //! ```text
-//!   Source --read--> a piece of at most 65,536 bytes --> the lines that end in it --> Reading --> the lines as a table
+//!   Source --read--> a chunk of at most 65,536 bytes --> the lines that end in it --> Reading --> the lines as a table
 //!                          ^                   |
-//!                          +-- what is behind its last line feed waits for the next piece
+//!                          +-- what is behind its last line feed waits for the next chunk
 //! ```
 //!
-//! The bytes themselves aren't kept: beside the lines only one piece and the line that it leaves open lie in memory. Behind a refusal the source
+//! The bytes themselves aren't kept: beside the lines only one chunk and the line that it leaves open lie in memory. Behind a refusal the source
 //! is read on to its end all the same, since a fault of the source, or too many bytes, comes before it.
 #![tactic(auto)]
 

@@ -3,7 +3,7 @@ ghost use Rattle.fan_base.specs.Outside.{FaultsRose, shown};
 ghost use Rattle.query_model.specs.declared.fault.BadInput.{BadInput};
 ghost use Rattle.query_model.specs.Reading.{Accepts, Refuses};
 ghost use Rattle.std.specs.Io.KnownBytes.{Keeps};
-ghost use Rattle.input_reader.specs.Sources.{FailsBehind, ReadsAll, ReadsPiece, ReadsTooMuch};
+ghost use Rattle.input_reader.specs.Sources.{FailsBehind, ReadsAll, ReadsChunk, ReadsTooMuch};
 
 use crate::end::ReadEnd;
 use crate::text::TextSoFar;
@@ -15,7 +15,7 @@ use std::alloc::{AllocError, Global};
 pub const MOST_BYTES: usize = 67_108_864;
 
 /// How many bytes a read asks for.
-const PIECE: usize = 65_536;
+const CHUNK: usize = 65_536;
 
 /// Reads all that the source has left: the lines of an input that is to be answered over so many shards, their documents by numbers.
 ///
@@ -34,31 +34,31 @@ pub fn read_source<S: Source>(
     ensures too_large { result ≡ Err ReadEnd.TooLarge → ((text : List ℕ)
         × ReadsTooMuch (shown (S.left source.old) (S.faults source.old)) (shown (S.left source.new) (S.faults source.new)) text) }
 {
-    let mut piece = zeros(alloc, PIECE)?;
+    let mut chunk = zeros(alloc, CHUNK)?;
     let mut text = TextSoFar::new(alloc);
     'reads: while text.len() <= MOST_BYTES {
-        let n = match read_piece(source, piece.as_mut_slice()) {
+        let n = match read_chunk(source, chunk.as_mut_slice()) {
             Some(n) => n,
             None => return Err(ReadEnd::Fault),
         };
         if n == 0 {
             return text.end(alloc, shards);
         }
-        text = text.with(alloc, shards, &piece[..n])?;
+        text = text.with(alloc, shards, &chunk[..n])?;
     }
     Err(ReadEnd::TooLarge)
 }
 
-/// Reads some bytes into the front of a piece. None where the source failed.
-fn read_piece<S: Source>(source: &mut S, piece: &mut [u8]) -> Option<usize>
-    requires { length piece.old ≡ PIECE }
-    ensures within { IfSome result (λ n. n ≤ length piece.new) }
-    ensures size { length piece.new ≡ length piece.old }
-    ensures some { IfSome result (λ n. ReadsPiece (shown (S.left source.old) (S.faults source.old)) (shown (S.left source.new) (S.faults source.new)) (take n piece.new)) }
+/// Reads some bytes into the front of a chunk. None where the source failed.
+fn read_chunk<S: Source>(source: &mut S, chunk: &mut [u8]) -> Option<usize>
+    requires { length chunk.old ≡ CHUNK }
+    ensures within { IfSome result (λ n. n ≤ length chunk.new) }
+    ensures size { length chunk.new ≡ length chunk.old }
+    ensures some { IfSome result (λ n. ReadsChunk (shown (S.left source.old) (S.faults source.old)) (shown (S.left source.new) (S.faults source.new)) (take n chunk.new)) }
     ensures kept { IfNone result (Keeps (S.left source.old) (S.left source.new)) }
     ensures rose { IfNone result (FaultsRose (S.faults source.old) (S.faults source.new)) }
 {
-    match source.read(piece) {
+    match source.read(chunk) {
         Ok(n) => Some(n),
         Err(_) => None,
     }

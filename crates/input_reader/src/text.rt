@@ -45,23 +45,23 @@ impl TextSoFar {
         self.len
     }
 
-    /// The same with one more piece.
-    pub(crate) fn with(self, alloc: Global, shards: u32, piece: &[u8]) -> Result<TextSoFar, Memory>
+    /// The same with one more chunk.
+    pub(crate) fn with(self, alloc: Global, shards: u32, chunk: &[u8]) -> Result<TextSoFar, Memory>
         requires some { (text : Bytes) × IsTextSoFar shards text self }
-        requires room { self.len + length piece.now < 2 ^ 32 }
-        ensures len { IfOk result (λ more. more.len ≡ self.len + length piece.now) }
-        ensures text { IfOk result (λ more. (text : Bytes) → IsTextSoFar shards text self → IsTextSoFar shards (text ++ piece.now) more) }
+        requires room { self.len + length chunk.now < 2 ^ 32 }
+        ensures len { IfOk result (λ more. more.len ≡ self.len + length chunk.now) }
+        ensures text { IfOk result (λ more. (text : Bytes) → IsTextSoFar shards text self → IsTextSoFar shards (text ++ chunk.now) more) }
     {
         let TextSoFar {
             lines,
             mut tail,
             len,
         } = self;
-        let lines = lines_with(alloc, shards, lines, &mut tail, piece)?;
+        let lines = lines_with(alloc, shards, lines, &mut tail, chunk)?;
         Ok(TextSoFar {
             lines,
             tail,
-            len: len + piece.len(),
+            len: len + chunk.len(),
         })
     }
 
@@ -86,36 +86,36 @@ impl TextSoFar {
     }
 }
 
-/// The lines with those that end in one more piece. Behind a refusal nothing is kept of it.
+/// The lines with those that end in one more chunk. Behind a refusal nothing is kept of it.
 fn lines_with(
     alloc: Global,
     shards: u32,
     lines: ReadLines,
     tail: &mut Vec<u8>,
-    piece: &[u8],
+    chunk: &[u8],
 ) -> Result<ReadLines, Memory>
-    requires some { (text : Bytes) × IsReadAs shards text tail.old.items lines × (length text + length piece.now < 2 ^ 32) }
-    ensures { IfOk result (λ more. (text : Bytes) → IsReadAs shards text tail.old.items lines → IsReadAs shards (text ++ piece.now) tail.new.items more) }
+    requires some { (text : Bytes) × IsReadAs shards text tail.old.items lines × (length text + length chunk.now < 2 ^ 32) }
+    ensures { IfOk result (λ more. (text : Bytes) → IsReadAs shards text tail.old.items lines → IsReadAs shards (text ++ chunk.now) tail.new.items more) }
 {
     match lines {
-        ReadLines::UpTo(reading) => read_closed(alloc, shards, reading, tail, piece),
+        ReadLines::UpTo(reading) => read_closed(alloc, shards, reading, tail, chunk),
         ReadLines::Refused(bad) => Ok(ReadLines::Refused(bad)),
     }
 }
 
-/// Reads the lines that end in a piece. What comes behind the last of them stays open.
+/// Reads the lines that end in a chunk. What comes behind the last of them stays open.
 fn read_closed(
     alloc: Global,
     shards: u32,
     reading: Reading,
     tail: &mut Vec<u8>,
-    piece: &[u8],
+    chunk: &[u8],
 ) -> Result<ReadLines, Memory>
-    requires room { reading.number + length tail.old.items + length piece.now < 2 ^ 64 }
-    ensures { IfOk result (λ lines. (text : Bytes) → IsReadAs shards text tail.old.items (ReadLines.UpTo reading) → IsReadAs shards (text ++ piece.now) tail.new.items lines) }
+    requires room { reading.number + length tail.old.items + length chunk.now < 2 ^ 64 }
+    ensures { IfOk result (λ lines. (text : Bytes) → IsReadAs shards text tail.old.items (ReadLines.UpTo reading) → IsReadAs shards (text ++ chunk.now) tail.new.items lines) }
 {
-    let Some((closed, rest)) = cut_last(piece) else {
-        tail.extend_from_slice(piece)?;
+    let Some((closed, rest)) = cut_last(chunk) else {
+        tail.extend_from_slice(chunk)?;
         return Ok(ReadLines::UpTo(reading));
     };
     tail.extend_from_slice(closed)?;
@@ -150,20 +150,20 @@ fn read_last(
     }
 }
 
-/// The piece up to its last line feed, and what comes behind it. None where it has no line feed.
-fn cut_last(piece: &[u8]) -> Option<(&[u8], &[u8])>
-    ensures { IfSome result (λ parts. (piece.now ≡ parts.0.now ++ parts.1.now) × EndsInFeed parts.0.now) }
+/// The chunk up to its last line feed, and what comes behind it. None where it has no line feed.
+fn cut_last(chunk: &[u8]) -> Option<(&[u8], &[u8])>
+    ensures { IfSome result (λ parts. (chunk.now ≡ parts.0.now ++ parts.1.now) × EndsInFeed parts.0.now) }
 {
-    let last = last_feed(piece)?;
-    Some((&piece[..last + 1], &piece[last + 1..]))
+    let last = last_feed(chunk)?;
+    Some((&chunk[..last + 1], &chunk[last + 1..]))
 }
 
 /// The place of the last line feed.
-fn last_feed(piece: &[u8]) -> Option<usize>
-    ensures { IfSome result (λ place. (place < length piece.now) × (get_or piece.now place 0 ≡ line_feed)) }
+fn last_feed(chunk: &[u8]) -> Option<usize>
+    ensures { IfSome result (λ place. (place < length chunk.now) × (get_or chunk.now place 0 ≡ line_feed)) }
 {
-    for place in (0..piece.len()).rev() {
-        if piece[place] == b'\n' {
+    for place in (0..chunk.len()).rev() {
+        if chunk[place] == b'\n' {
             return Some(place);
         }
     }

@@ -7,7 +7,7 @@ abbrev pub invariant-reads : goal.invariant-reads
 invariant-reads g l = record {
   text : (text : List ℕ) × Consumes (g.S.Source.left l.initial.source) (g.S.Source.left l.source) text × IsTextSoFar l.shards text l.text;
   sound : g.S.Source.faults l.source ≡ g.S.Source.faults l.initial.source;
-  room : vec_len l.piece ≡ 65536;
+  room : vec_len l.chunk ≡ 65536;
   few : l.text.len ≤ 67174400;
 }
 
