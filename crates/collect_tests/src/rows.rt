@@ -2,8 +2,8 @@
 ghost use Rattle.std.specs.Prelude.{◌≤◌};
 
 use collect_ops::{
-    AllArrived, AllDesk, AllValues, AnyArrived, AnyDesk, AnyValueArrived, AnyValueDesk, Arrival,
-    Arrivals, Arrived, Desk, FirstValue, Gathers, Kept, Listed, Taken, ValuesArrived, ValuesDesk,
+    AllDesk, AllValues, AnyDesk, AnyValueDesk, Arrival, Arrivals, Arrived, Desk, FirstValue,
+    Gathers, Kept, Listed, Taken, ValuesDesk,
 };
 use fan_base::{Fault, Try};
 use std::alloc::Global;
@@ -70,16 +70,16 @@ enum Said {
     More,
 }
 
-fn all_said(answer: AllArrived<'_, u64, u64>) -> Said {
-    match answer {
+fn all_said(arrival: Arrival<'_, AllDesk<u64, u64>>, outcome: Try<u64>) -> Said {
+    match arrival.arrive(outcome) {
         Arrived::Complete(list, end, _) => Said::All(outcomes_listed(list), end),
         Arrived::Back(outcome, _) => Said::Back(told(outcome)),
         Arrived::More(_) => Said::More,
     }
 }
 
-fn values_said(answer: ValuesArrived<'_, u64, u64>) -> Said {
-    match answer {
+fn values_said(arrival: Arrival<'_, ValuesDesk<u64, u64>>, outcome: Try<u64>) -> Said {
+    match arrival.arrive(outcome) {
         Arrived::Complete(found, end, _) => match found {
             AllValues::Values(list) => Said::All(values_listed(list), end),
             AllValues::Fault(index, fault) => Said::First(index, told(fault), end),
@@ -89,16 +89,16 @@ fn values_said(answer: ValuesArrived<'_, u64, u64>) -> Said {
     }
 }
 
-fn any_said(answer: AnyArrived<'_, u64, u64>) -> Said {
-    match answer {
+fn any_said(arrival: Arrival<'_, AnyDesk<u64, u64>>, outcome: Try<u64>) -> Said {
+    match arrival.arrive(outcome) {
         Arrived::Complete((index, outcome), end, _) => Said::First(index, told(outcome), end),
         Arrived::Back(outcome, _) => Said::Back(told(outcome)),
         Arrived::More(_) => Said::More,
     }
 }
 
-fn any_value_said(answer: AnyValueArrived<'_, u64, u64>) -> Said {
-    match answer {
+fn any_value_said(arrival: Arrival<'_, AnyValueDesk<u64, u64>>, outcome: Try<u64>) -> Said {
+    match arrival.arrive(outcome) {
         Arrived::Complete(found, end, _) => match found {
             FirstValue::Value(index, value) => Said::First(index, Ok(value), end),
             FirstValue::AllFailed(index, fault) => Said::First(index, told(fault), end),
@@ -180,9 +180,9 @@ fn values_kept(mut kept: Kept<ValuesDesk<u64, u64>>) -> (List, Option<u64>) {
 fn all_of_three<R: Abort>(rt: &R, alloc: Global) -> (Said, Said, Said) {
     let mut gathered: AllDesk<u64, u64> = desk(rt, alloc, 3);
     let (zero, one, two) = three(rt, &mut gathered);
-    let first = all_said(two.arrive(Try::Value(2)));
-    let second = all_said(zero.arrive(Try::Broken));
-    let third = all_said(one.arrive(Try::Value(1)));
+    let first = all_said(two, Try::Value(2));
+    let second = all_said(zero, Try::Broken);
+    let third = all_said(one, Try::Value(1));
     (first, second, third)
 }
 
@@ -198,7 +198,7 @@ fn all_outcomes_by_index(rt: HostRuntime) {
 fn all_of_one<R: Abort>(rt: &R, alloc: Global) -> (Said, bool) {
     let mut gathered: AllDesk<u64, u64> = desk(rt, alloc, 1);
     let only = one(rt, &mut gathered);
-    let answer = all_said(only.arrive(Try::Value(4)));
+    let answer = all_said(only, Try::Value(4));
     let taken = match gathered.arrivals() {
         Ok(_) => false,
         Err(Taken) => true,
@@ -222,8 +222,8 @@ fn values_of_two<R: Abort>(
 ) -> (Said, Said) {
     let mut gathered: ValuesDesk<u64, u64> = desk(rt, alloc, 2);
     let (zero, one) = two(rt, &mut gathered);
-    let first = values_said(one.arrive(first));
-    let second = values_said(zero.arrive(second));
+    let first = values_said(one, first);
+    let second = values_said(zero, second);
     (first, second)
 }
 
@@ -245,8 +245,8 @@ fn values_by_index_or_the_first_fault(rt: HostRuntime) {
 fn value_then_fault<R: Abort>(rt: &R, alloc: Global) -> (Said, Said, List, Option<u64>) {
     let mut gathered: ValuesDesk<u64, u64> = desk(rt, alloc, 2);
     let (zero, one) = two(rt, &mut gathered);
-    let first = values_said(zero.arrive(Try::Value(7)));
-    let second = values_said(one.arrive(Try::Broken));
+    let first = values_said(zero, Try::Value(7));
+    let second = values_said(one, Try::Broken);
     let (kept, end) = values_kept(gathered.close());
     (first, second, kept, end)
 }
@@ -256,7 +256,7 @@ fn value_alone<R: Abort>(rt: &R, alloc: Global) -> (List, Option<u64>) {
     let mut gathered: ValuesDesk<u64, u64> = desk(rt, alloc, 2);
     let (zero, one) = two(rt, &mut gathered);
     let _ = unsafe { ManuallyDrop::new_unchecked(zero) };
-    values_said(one.arrive(Try::Value(8)));
+    values_said(one, Try::Value(8));
     values_kept(gathered.close())
 }
 
@@ -282,8 +282,8 @@ fn what_was_kept_comes_out_once(rt: HostRuntime) {
 fn any_of_two<R: Abort>(rt: &R, alloc: Global, first: Try<u64>, second: Try<u64>) -> (Said, Said) {
     let mut gathered: AnyDesk<u64, u64> = desk(rt, alloc, 2);
     let (zero, one) = two(rt, &mut gathered);
-    let first = any_said(one.arrive(first));
-    let second = any_said(zero.arrive(second));
+    let first = any_said(one, first);
+    let second = any_said(zero, second);
     (first, second)
 }
 
@@ -304,8 +304,8 @@ fn any_value_of_two<R: Abort>(
 ) -> (Said, Said, Option<Outcome>, Option<u64>) {
     let mut gathered: AnyValueDesk<u64, u64> = desk(rt, alloc, 2);
     let (zero, one) = two(rt, &mut gathered);
-    let first = any_value_said(zero.arrive(first));
-    let second = any_value_said(one.arrive(second));
+    let first = any_value_said(zero, first);
+    let second = any_value_said(one, second);
     let (outcome, end) = any_value_kept(gathered.close());
     (first, second, outcome, end)
 }
@@ -314,9 +314,9 @@ fn any_value_of_two<R: Abort>(
 fn any_value_of_three<R: Abort>(rt: &R, alloc: Global) -> (Said, Said, Said) {
     let mut gathered: AnyValueDesk<u64, u64> = desk(rt, alloc, 3);
     let (zero, one, two) = three(rt, &mut gathered);
-    let first = any_value_said(two.arrive(Try::Broken));
-    let second = any_value_said(zero.arrive(Try::Value(5)));
-    let third = any_value_said(one.arrive(Try::Value(6)));
+    let first = any_value_said(two, Try::Broken);
+    let second = any_value_said(zero, Try::Value(5));
+    let third = any_value_said(one, Try::Value(6));
     (first, second, third)
 }
 
