@@ -172,17 +172,6 @@ fn taken<M, R: Wait>(rt: &R, receiver: &mut Receiver<M>) -> Option<Stamped<M>>
     receiver.take(rt)
 }
 
-// Whether all senders were found ended. If not, it sleeps.
-fn ended_or_slept<M, R: Wait>(rt: &R, receiver: &mut Receiver<M>) -> bool
-    ensures { IsSameReceiver receiver.old receiver.new }
-{
-    let ended = receiver.ended();
-    if !ended {
-        receiver.sleep(rt);
-    }
-    ended
-}
-
 // The next message, after as many sleeps as it takes, or `None` where none can come any more.
 fn next<M, R: Wait>(rt: &R, receiver: &mut Receiver<M>) -> Option<Stamped<M>>
     ensures { IsSameReceiver receiver.old receiver.new }
@@ -191,9 +180,10 @@ fn next<M, R: Wait>(rt: &R, receiver: &mut Receiver<M>) -> Option<Stamped<M>>
         if let Some(stamped) = taken(rt, receiver) {
             return Some(stamped);
         }
-        if ended_or_slept(rt, receiver) {
+        if receiver.ended() {
             return taken(rt, receiver);
         }
+        receiver.sleep(rt);
     }
     unreachable!()
 }
@@ -222,22 +212,16 @@ fn count_all<R: Abort + Wait>(rt: &R, receiver: &mut Receiver<u64>) -> [u64; 2]
 {
     let mut counts = [0; 2];
     for _ in rt.forever() {
-        let Some(stamped) = next(rt, receiver) else {
+        let Some(Stamped { stamp, message }) = next(rt, receiver) else {
             return counts;
         };
-        count(rt, &mut counts, stamped);
+        let sender = stamp.sender as usize;
+        assert!(rt; sender < 2);
+        let expected = counts[sender];
+        same(rt, (stamp.index, message), (expected, expected));
+        counts[sender] = message.wrapping_add(1);
     }
     unreachable!()
-}
-
-// Counts a message, which has to be the next of its sender.
-fn count<R: Abort>(rt: &R, counts: &mut [u64; 2], stamped: Stamped<u64>) {
-    let Stamped { stamp, message } = stamped;
-    let sender = stamp.sender as usize;
-    assert!(rt; sender < 2);
-    let expected = counts[sender];
-    same(rt, (stamp.index, message), (expected, expected));
-    counts[sender] = message.wrapping_add(1);
 }
 
 // What a thread is lent: a sender, and its end once it has ended. Their types are parameters, so that it may cross threads where they may.
