@@ -12,5 +12,5 @@ module _ {M : Type 0} where
   IsSameReceiver old new = (new.queue ≡ old.queue) × (new.senders ≡ old.senders)
 
   -- a sender that was there has ended, where there is an end
-  abbrev pub HasEnded : Option (Sending M) → Option (Sending M) → Type 0
-  HasEnded sender end = IfSome sender (λ s. IfSome end (λ e. IsSameSender s e))
+  abbrev pub HasLeftEnd : Option (Sending M) → Option (Sending M) → Type 0
+  HasLeftEnd sender end = IfSome sender (λ s. IfSome end (λ e. IsSameSender s e))

@@ -1,6 +1,6 @@
 ghost use Rattle.std.specs.Prelude.{◌≡◌, ◌≤◌, [], length, vec_capacity, Some, None, IfSome};
 ghost use Rattle.notify_queue.specs.Ends.{new_receiver, new_sender};
-ghost use Rattle.queue_tests.specs.Lent.{IsSameSender, IsSameReceiver, HasEnded};
+ghost use Rattle.queue_tests.specs.Lent.{IsSameSender, IsSameReceiver, HasLeftEnd};
 
 use fan_base::{Memory, Refused};
 use notify_queue::{QueueEnd, Receiver, Sender, SenderEnd, Stamped, queue};
@@ -269,7 +269,7 @@ type Putter = Slot<Sender<u64>, SenderEnd<u64>>;
 // Puts so many messages, and ends.
 fn put_and_end<R: Abort + Wait>(rt: &R, putter: &mut Putter, many: u32)
     requires { putter.old.end ≡ None }
-    ensures { HasEnded putter.old.sender putter.new.end }
+    ensures { HasLeftEnd putter.old.sender putter.new.end }
 {
     let Some(mut sender) = putter.sender.take() else {
         return;
@@ -305,18 +305,18 @@ fn two_threads_put_and_one_takes(rt: HostRuntime) {
         rt,
         &mut ||
             requires { (first.end ≡ None) × (second.end ≡ None) }
-            ensures first { HasEnded first.entry.sender first.exit.end }
-            ensures second { HasEnded second.entry.sender second.exit.end }
+            ensures first { HasLeftEnd first.entry.sender first.exit.end }
+            ensures second { HasLeftEnd second.entry.sender second.exit.end }
         {
             join_mut(
                 rt,
                 &mut ||
                     requires { first.end ≡ None }
-                    ensures { HasEnded first.entry.sender first.exit.end }
+                    ensures { HasLeftEnd first.entry.sender first.exit.end }
                 { put_and_end(rt, &mut first, MANY) },
                 &mut ||
                     requires { second.end ≡ None }
-                    ensures { HasEnded second.entry.sender second.exit.end }
+                    ensures { HasLeftEnd second.entry.sender second.exit.end }
                 { put_and_end(rt, &mut second, MANY) },
             );
         },
@@ -388,7 +388,7 @@ fn bounce<R: Abort + Wait>(
 fn play<R: Abort + Wait>(rt: &R, receiver: &mut Receiver<u64>, putter: &mut Putter, ahead: u64)
     requires { putter.old.end ≡ None }
     ensures receiver { IsSameReceiver receiver.old receiver.new }
-    ensures end { HasEnded putter.old.sender putter.new.end }
+    ensures end { HasLeftEnd putter.old.sender putter.new.end }
 {
     let Some(mut sender) = putter.sender.take() else {
         return;
@@ -411,12 +411,12 @@ fn no_message_is_slept_through(rt: HostRuntime) {
         &mut ||
             requires { pong.end ≡ None }
             ensures receiver { IsSameReceiver pings.entry pings.exit }
-            ensures end { HasEnded pong.entry.sender pong.exit.end }
+            ensures end { HasLeftEnd pong.entry.sender pong.exit.end }
         { play(rt, &mut pings, &mut pong, 0) },
         &mut ||
             requires { ping.end ≡ None }
             ensures receiver { IsSameReceiver pongs.entry pongs.exit }
-            ensures end { HasEnded ping.entry.sender ping.exit.end }
+            ensures end { HasLeftEnd ping.entry.sender ping.exit.end }
         { play(rt, &mut pongs, &mut ping, 1) },
     );
     let (_, _, pings) = closed(rt, alloc, pings, ping.end(rt), other_ping.end(rt));
