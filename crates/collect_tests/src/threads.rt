@@ -1,14 +1,14 @@
 //! Each kind of desk filled by four threads, with outcomes that must be spent.
-ghost use Rattle.std.specs.Prelude.{◌≡◌, vec_len, IfOk, false};
+ghost use Rattle.std.specs.Prelude.{◌≡◌, vec_len};
 
+use super::rows::{dealt, got, same};
 use collect_ops::{
     All, AllDesk, AllValues, Any, AnyDesk, AnyValue, AnyValueDesk, Arrival, Arrived, Desk,
-    FirstValue, Kept, Listed, Nothing, Refused, Values, ValuesDesk,
+    FirstValue, Kept, Listed, Nothing, Values, ValuesDesk,
 };
 use fan_base::Try;
-use std::alloc::{AllocError, Global};
-use std::mem::ManuallyDrop;
-use std::test::Fail;
+use std::alloc::Global;
+use std::process::Abort;
 use std::thread;
 use std::thread::Threads;
 
@@ -32,7 +32,7 @@ fn outcome_spent(outcome: Try<Token>) -> u64 {
 
 // What arrivals have answered: completions, outcomes of a list that stood at their index, outcomes that came back, and
 // outcomes that were kept.
-#[derive(Debug, PartialEq, Eq, Drop)]
+#[derive(Clone, Copy, Debug, PartialEq, Eq)]
 struct Seen {
     completed: u64,
     listed: u64,
@@ -224,38 +224,34 @@ struct Portion<'d, X, K> {
     seen: Seen,
 }
 
-// Lets go of a value that can't be dropped.
-fn forget<X>(value: X) {
-    let _ = unsafe { ManuallyDrop::new_unchecked(value) };
+// Adds an item to a list.
+fn add<X, R: Abort>(rt: &R, list: &mut Vec<X>, item: X) {
+    match list.push(item) {
+        Ok(()) => {}
+        Err(_refused) => rt.panic("memory"),
+    }
 }
 
 // All arrivals of a desk of 1,000, in four portions.
-fn portions_of<'d, X, K>(
+fn portions_of<'d, X, K, R: Abort>(
+    rt: &R,
     alloc: Global,
     desk: &'d mut Desk<X, Token, K>,
-) -> Result<Vec<Portion<'d, X, K>>, AllocError> {
-    let mut portions = Vec::with_capacity(alloc, 4)?;
-    let Ok(mut arrivals) = desk.arrivals() else {
-        return Ok(portions);
-    };
+) -> Vec<Portion<'d, X, K>> {
+    let mut portions = Vec::new(alloc);
+    let mut arrivals = dealt(rt, desk);
     for _ in 0..4 {
-        let mut portion = Vec::new(alloc);
+        let mut list = Vec::new(alloc);
         for _ in 0..250 {
-            if let Some(arrival) = arrivals.next() {
-                if let Err(failed) = portion.push(arrival) {
-                    forget(failed);
-                }
-            }
+            add(rt, &mut list, got(rt, arrivals.next()));
         }
         let portion = Portion {
-            arrivals: portion,
+            arrivals: list,
             seen: Seen::new(),
         };
-        if let Err(failed) = portions.push(portion) {
-            forget(failed);
-        }
+        add(rt, &mut portions, portion);
     }
-    Ok(portions)
+    portions
 }
 
 fn bring_all<'d, X: 'd, K: Brings<X> + 'd>(portion: &mut Portion<'d, X, K>)
@@ -274,15 +270,10 @@ fn seen_by<'d, X: 'd, K: Brings<X> + 'd>(mut portion: Portion<'d, X, K>) -> Seen
     seen
 }
 
-fn desk<X, K>(alloc: Global) -> Result<Desk<X, Token, K>, AllocError>
-    ensures { IfOk result (λ desk. desk.taken ≡ false) }
-{
+fn desk<X, K, R: Abort>(rt: &R, alloc: Global) -> Desk<X, Token, K> {
     match Desk::new(alloc, COUNT, Token(70)) {
-        Ok(desk) => Ok(desk),
-        Err(Refused::Memory(end)) => {
-            spent(end);
-            Err(AllocError)
-        }
+        Ok(desk) => desk,
+        Err(_refused) => rt.panic("memory"),
     }
 }
 
@@ -296,60 +287,16 @@ fn seen_in<'d, X: 'd, K: Brings<X> + 'd>(mut portions: Vec<Portion<'d, X, K>>) -
     seen
 }
 
-// What the arrivals of each kind of desk of 1,000 answer that four threads bring, and how much is left there. A closure for
-// threads stands in a function of its own for each kind.
-type Filled = Result<(Seen, u64), AllocError>;
-
-fn all_filled(rt: &(impl Threads + Sync), alloc: Global) -> Filled {
-    let mut desk = desk::<Try<Token>, All>(alloc)?;
-    let seen = match portions_of(alloc, &mut desk) {
-        Ok(mut portions) => {
-            thread::for_each_mut(rt, &mut portions, 4, &|_, portion| bring_all(portion));
-            Ok(seen_in(portions))
-        }
-        Err(failed) => Err(failed),
-    };
-    let rest = All::rest(desk.close());
-    Ok((seen?, rest))
-}
-
-fn values_filled(rt: &(impl Threads + Sync), alloc: Global) -> Filled {
-    let mut desk = desk::<Token, Values>(alloc)?;
-    let seen = match portions_of(alloc, &mut desk) {
-        Ok(mut portions) => {
-            thread::for_each_mut(rt, &mut portions, 4, &|_, portion| bring_all(portion));
-            Ok(seen_in(portions))
-        }
-        Err(failed) => Err(failed),
-    };
-    let rest = Values::rest(desk.close());
-    Ok((seen?, rest))
-}
-
-fn any_filled(rt: &(impl Threads + Sync), alloc: Global) -> Filled {
-    let mut desk = desk::<Nothing, Any<Token>>(alloc)?;
-    let seen = match portions_of(alloc, &mut desk) {
-        Ok(mut portions) => {
-            thread::for_each_mut(rt, &mut portions, 4, &|_, portion| bring_all(portion));
-            Ok(seen_in(portions))
-        }
-        Err(failed) => Err(failed),
-    };
-    let rest = Any::rest(desk.close());
-    Ok((seen?, rest))
-}
-
-fn any_value_filled(rt: &(impl Threads + Sync), alloc: Global) -> Filled {
-    let mut desk = desk::<(), AnyValue<Token>>(alloc)?;
-    let seen = match portions_of(alloc, &mut desk) {
-        Ok(mut portions) => {
-            thread::for_each_mut(rt, &mut portions, 4, &|_, portion| bring_all(portion));
-            Ok(seen_in(portions))
-        }
-        Err(failed) => Err(failed),
-    };
-    let rest = AnyValue::rest(desk.close());
-    Ok((seen?, rest))
+// What the arrivals of a desk of 1,000 answer that four threads bring, and how much is left there.
+fn filled<X: Send, K: Brings<X> + Send, R: Abort + Threads + Sync>(
+    rt: &R,
+    alloc: Global,
+) -> (Seen, u64) {
+    let mut desk = desk::<X, K, R>(rt, alloc);
+    let mut portions = portions_of(rt, alloc, &mut desk);
+    thread::for_each_mut(rt, &mut portions, 4, &|_, portion| bring_all(portion));
+    let seen = seen_in(portions);
+    (seen, K::rest(desk.close()))
 }
 
 // One completion with the whole list, or with one outcome, and nothing left.
@@ -374,13 +321,11 @@ const FIRST: (Seen, u64) = (
 );
 
 #[test]
-fn four_threads_fill_each_desk(rt: HostRuntime) -> Result<(), Fail> {
+fn four_threads_fill_each_desk(rt: HostRuntime) {
+    let rt = &rt;
     let alloc = rt.alloc();
-    let all = all_filled(&rt, alloc)?;
-    let values = values_filled(&rt, alloc)?;
-    let any = any_filled(&rt, alloc)?;
-    let any_value = any_value_filled(&rt, alloc)?;
-    assert_eq!(rt; (all, values), (WHOLE, WHOLE));
-    assert_eq!(rt; (any, any_value), (FIRST, FIRST));
-    Ok(())
+    same(rt, filled::<Try<Token>, All, _>(rt, alloc), WHOLE);
+    same(rt, filled::<Token, Values, _>(rt, alloc), WHOLE);
+    same(rt, filled::<Nothing, Any<Token>, _>(rt, alloc), FIRST);
+    same(rt, filled::<(), AnyValue<Token>, _>(rt, alloc), FIRST);
 }

@@ -4,25 +4,49 @@ use core_word::{
     Consumer, Home, Key, Landed, Left, LeftC, LeftP, Leftover, Met, Passed, Producer, Sight, State,
     Tally, Unspent,
 };
-use fan_base::Try;
-use std::alloc::{AllocError, Global};
+use fan_base::{Fault, Try};
+use std::alloc::Global;
+use std::fmt::Debug;
 use std::mem::ManuallyDrop;
 use std::ops::Range;
-use std::test::Fail;
+use std::process::Abort;
 use std::thread;
 use std::thread::Threads;
+
+// Compares two values. A test compares by this, since each assertion that a body makes of its own makes that body dearer to prove.
+fn same<T: PartialEq + Debug + Copy, R: Abort>(rt: &R, found: T, expected: T) {
+    assert_eq!(rt; found, expected);
+}
+
+// An outcome as a value that may be copied.
+type Outcome = Result<u64, Fault>;
+
+fn told(outcome: Try<u64>) -> Outcome {
+    match outcome {
+        Try::Value(value) => Ok(value),
+        Try::Broken => Err(Fault::Broken),
+        Try::Memory => Err(Fault::Memory),
+        Try::Cancelled(number) => Err(Fault::Cancelled(number)),
+    }
+}
 
 // A core of numbers.
 type Numbers = Home<u64, u64, u64>;
 
-// What a setting call answers, as plain data.
-#[derive(Debug, PartialEq, Eq, Drop)]
+// What a setting call or a leave answers, as plain data.
+#[derive(Clone, Copy, Debug, PartialEq, Eq)]
 enum Answer {
     Waiting,
     /// The core's number, the outcome, the callback, and whether it may run inline.
-    Fire(u64, Try<u64>, u64, bool),
+    Fire(u64, Outcome, u64, bool),
     /// The callback, the proxy, and whether the callback has the allowance.
     Forward(u64, u64, bool),
+    /// The first leave.
+    Stays,
+    /// The last leave: nothing is left over.
+    Nothing,
+    Outcome(Outcome),
+    Proxy(u64),
 }
 
 fn landed(landed: Landed<u64, u64>, t: &mut Tally) -> Answer {
@@ -31,7 +55,7 @@ fn landed(landed: Landed<u64, u64>, t: &mut Tally) -> Answer {
         Landed::Fire(fire) => {
             let inline = fire.may_inline();
             let (no, outcome, callback) = fire.unpack(t);
-            Answer::Fire(no, outcome, callback, inline)
+            Answer::Fire(no, told(outcome), callback, inline)
         }
     }
 }
@@ -53,7 +77,7 @@ fn met(met: Met<u64, u64, u64>, t: &mut Tally) -> Answer {
         Met::Fire(fire) => {
             let inline = fire.may_inline();
             let (no, outcome, callback) = fire.unpack(t);
-            Answer::Fire(no, outcome, callback, inline)
+            Answer::Fire(no, told(outcome), callback, inline)
         }
         Met::Forward(forward) => {
             let inline = forward.allows();
@@ -63,137 +87,58 @@ fn met(met: Met<u64, u64, u64>, t: &mut Tally) -> Answer {
     }
 }
 
-// None for the first leave, else what is left over.
-fn left(left: Left<'_, u64, u64, u64>, t: &mut Tally) -> Option<Leftover<u64, u64>> {
+fn left_told(leftover: Leftover<u64, u64>) -> Answer {
+    match leftover {
+        Leftover::Nothing => Answer::Nothing,
+        Leftover::Outcome(outcome) => Answer::Outcome(told(outcome)),
+        Leftover::Proxy(proxy) => Answer::Proxy(proxy),
+    }
+}
+
+fn left(left: Left<'_, u64, u64, u64>, t: &mut Tally) -> Answer {
     match left {
-        Left::First(_) => None,
+        Left::First(_) => Answer::Stays,
         Left::Last(leftover, husk) => {
             husk.end(t);
-            Some(leftover)
+            left_told(leftover)
         }
     }
 }
 
-fn begun<'h>(
+fn producer_left(producer: LeftP<'_, u64, u64, u64>, t: &mut Tally) -> Answer {
+    left(producer.leave(), t)
+}
+
+fn consumer_left(consumer: LeftC<'_, u64, u64, u64>, t: &mut Tally) -> Answer {
+    left(consumer.leave(), t)
+}
+
+fn gave_up(consumer: Consumer<'_, u64, u64, u64>, t: &mut Tally) -> Answer {
+    left(consumer.give_up().leave(), t)
+}
+
+fn begun<'h, R: Abort>(
+    rt: &R,
     home: &'h mut Numbers,
     no: u64,
     t: &mut Tally,
-) -> Result<(Producer<'h, u64, u64, u64>, Consumer<'h, u64, u64, u64>), AllocError> {
+) -> (Producer<'h, u64, u64, u64>, Consumer<'h, u64, u64, u64>) {
     match home.key() {
-        Some(key) => Ok(key.start(no, t)),
-        None => Err(AllocError),
+        Some(key) => key.start(no, t),
+        None => rt.panic("a home without its key"),
     }
 }
 
-fn numbers(alloc: Global) -> Result<Numbers, AllocError> {
-    Home::new(alloc).map_err(|_| AllocError)
+fn new_home<T, C, P, R: Abort>(rt: &R, alloc: Global) -> Home<T, C, P> {
+    match Home::new(alloc) {
+        Ok(home) => home,
+        Err(_) => rt.panic("memory"),
+    }
 }
 
 // Made, handed over, forwarded, freed and reopened.
 fn counts(t: &Tally) -> (u64, u64, u64, u64, u64) {
     (t.made(), t.handed(), t.forwarded(), t.freed(), t.reopened())
-}
-
-#[test]
-fn callback_first_then_result(rt: HostRuntime) -> Result<(), Fail> {
-    let mut home = numbers(rt.alloc())?;
-    let mut t = Tally::new();
-    let (producer, consumer) = begun(&mut home, 9, &mut t)?;
-    let (answer, consumer) = consumer.set_callback(7);
-    let first = met(answer, &mut t);
-    let (answer, producer) = producer.set_result(Try::Value(5));
-    let second = landed(answer, &mut t);
-    let third = left(producer.leave(), &mut t);
-    let fourth = left(consumer.leave(), &mut t);
-    assert_eq!(rt; first, Answer::Waiting);
-    assert_eq!(rt; second, Answer::Fire(9, Try::Value(5), 7, false));
-    assert_eq!(rt; third, None);
-    assert_eq!(rt; fourth, Some(Leftover::Nothing));
-    assert_eq!(rt; counts(&t), (1, 1, 0, 1, 0));
-    assert!(rt; home.key().is_none());
-    Ok(())
-}
-
-#[test]
-fn result_first_then_callback(rt: HostRuntime) -> Result<(), Fail> {
-    let mut home = numbers(rt.alloc())?;
-    let mut t = Tally::new();
-    let (producer, consumer) = begun(&mut home, 9, &mut t)?;
-    let (answer, producer) = producer.set_result(Try::Value(5));
-    let first = landed(answer, &mut t);
-    let second = left(producer.leave(), &mut t);
-    let (answer, consumer) = consumer.set_callback(7);
-    let third = met(answer, &mut t);
-    let fourth = left(consumer.leave(), &mut t);
-    assert_eq!(rt; first, Answer::Waiting);
-    assert_eq!(rt; second, None);
-    assert_eq!(rt; third, Answer::Fire(9, Try::Value(5), 7, false));
-    assert_eq!(rt; fourth, Some(Leftover::Nothing));
-    assert_eq!(rt; counts(&t), (1, 1, 0, 1, 0));
-    Ok(())
-}
-
-#[test]
-fn result_is_left_over_where_the_consumer_gives_up(rt: HostRuntime) -> Result<(), Fail> {
-    let mut home = numbers(rt.alloc())?;
-    let mut t = Tally::new();
-    let (producer, consumer) = begun(&mut home, 1, &mut t)?;
-    let first = left(consumer.give_up().leave(), &mut t);
-    let (answer, producer) = producer.set_result(Try::Value(5));
-    let second = landed(answer, &mut t);
-    let third = left(producer.leave(), &mut t);
-    assert_eq!(rt; first, None);
-    assert_eq!(rt; second, Answer::Waiting);
-    assert_eq!(rt; third, Some(Leftover::Outcome(Try::Value(5))));
-
-    let mut home = numbers(rt.alloc())?;
-    let (producer, consumer) = begun(&mut home, 2, &mut t)?;
-    let (answer, producer) = producer.set_result(Try::Value(5));
-    let first = landed(answer, &mut t);
-    let second = left(producer.leave(), &mut t);
-    let third = left(consumer.give_up().leave(), &mut t);
-    assert_eq!(rt; first, Answer::Waiting);
-    assert_eq!(rt; second, None);
-    assert_eq!(rt; third, Some(Leftover::Outcome(Try::Value(5))));
-    assert_eq!(rt; counts(&t), (2, 0, 0, 2, 0));
-    Ok(())
-}
-
-#[test]
-fn proxy_is_left_over_or_gets_the_callback(rt: HostRuntime) -> Result<(), Fail> {
-    let mut home = numbers(rt.alloc())?;
-    let mut t = Tally::new();
-    let (producer, consumer) = begun(&mut home, 1, &mut t)?;
-    let (answer, producer) = producer.set_proxy(3);
-    let first = passed(answer, &mut t);
-    let second = left(producer.leave(), &mut t);
-    let third = left(consumer.give_up().leave(), &mut t);
-    assert_eq!(rt; first, Answer::Waiting);
-    assert_eq!(rt; second, None);
-    assert_eq!(rt; third, Some(Leftover::Proxy(3)));
-
-    let mut home = numbers(rt.alloc())?;
-    let (producer, consumer) = begun(&mut home, 2, &mut t)?;
-    let (answer, consumer) = consumer.set_callback(7);
-    let first = met(answer, &mut t);
-    let (answer, producer) = producer.set_proxy(3);
-    let second = passed(answer, &mut t);
-    let third = left(consumer.leave(), &mut t);
-    let fourth = left(producer.leave(), &mut t);
-    assert_eq!(rt; first, Answer::Waiting);
-    assert_eq!(rt; second, Answer::Forward(7, 3, false));
-    assert_eq!(rt; third, None);
-    assert_eq!(rt; fourth, Some(Leftover::Nothing));
-    assert_eq!(rt; counts(&t), (2, 0, 1, 2, 0));
-    Ok(())
-}
-
-// One use of a home: who acts first, and how.
-#[derive(Drop)]
-struct Case {
-    callback_first: bool,
-    inline: bool,
-    is_proxy: bool,
 }
 
 fn asked<'h>(
@@ -222,6 +167,123 @@ fn given<'h>(
     (landed(answer, t), producer)
 }
 
+// Callback, result, and the leaves of producer and consumer; and whether the home's key stays taken.
+fn callback_first<R: Abort>(rt: &R, alloc: Global, t: &mut Tally) -> ([Answer; 4], bool) {
+    let mut home: Numbers = new_home(rt, alloc);
+    let (producer, consumer) = begun(rt, &mut home, 9, t);
+    let (first, consumer) = asked(consumer, false, t);
+    let (second, producer) = given(producer, false, t);
+    let third = producer_left(producer, t);
+    let fourth = consumer_left(consumer, t);
+    ([first, second, third, fourth], home.key().is_none())
+}
+
+const FIRE: Answer = Answer::Fire(9, Ok(5), 7, false);
+
+#[test]
+fn callback_first_then_result(rt: HostRuntime) {
+    let rt = &rt;
+    let mut t = Tally::new();
+    let expected = [Answer::Waiting, FIRE, Answer::Stays, Answer::Nothing];
+    same(rt, callback_first(rt, rt.alloc(), &mut t), (expected, true));
+    same(rt, counts(&t), (1, 1, 0, 1, 0));
+}
+
+// Result, the producer's leave, callback, and the consumer's leave.
+fn result_first<R: Abort>(rt: &R, alloc: Global, t: &mut Tally) -> [Answer; 4] {
+    let mut home: Numbers = new_home(rt, alloc);
+    let (producer, consumer) = begun(rt, &mut home, 9, t);
+    let (first, producer) = given(producer, false, t);
+    let second = producer_left(producer, t);
+    let (third, consumer) = asked(consumer, false, t);
+    let fourth = consumer_left(consumer, t);
+    [first, second, third, fourth]
+}
+
+#[test]
+fn result_first_then_callback(rt: HostRuntime) {
+    let rt = &rt;
+    let mut t = Tally::new();
+    let expected = [Answer::Waiting, Answer::Stays, FIRE, Answer::Nothing];
+    same(rt, result_first(rt, rt.alloc(), &mut t), expected);
+    same(rt, counts(&t), (1, 1, 0, 1, 0));
+}
+
+// The consumer gives up and leaves, and then the producer sets its result and leaves.
+fn given_up_first<R: Abort>(rt: &R, alloc: Global, t: &mut Tally) -> [Answer; 3] {
+    let mut home: Numbers = new_home(rt, alloc);
+    let (producer, consumer) = begun(rt, &mut home, 1, t);
+    let first = gave_up(consumer, t);
+    let (second, producer) = given(producer, false, t);
+    [first, second, producer_left(producer, t)]
+}
+
+// The producer acts and leaves, and then the consumer gives up and leaves.
+fn given_up_last<R: Abort>(rt: &R, alloc: Global, is_proxy: bool, t: &mut Tally) -> [Answer; 3] {
+    let mut home: Numbers = new_home(rt, alloc);
+    let (producer, consumer) = begun(rt, &mut home, 2, t);
+    let (first, producer) = given(producer, is_proxy, t);
+    let second = producer_left(producer, t);
+    [first, second, gave_up(consumer, t)]
+}
+
+#[test]
+fn result_is_left_over_where_the_consumer_gives_up(rt: HostRuntime) {
+    let rt = &rt;
+    let mut t = Tally::new();
+    let over = Answer::Outcome(Ok(5));
+    let found = given_up_first(rt, rt.alloc(), &mut t);
+    same(rt, found, [Answer::Stays, Answer::Waiting, over]);
+    let found = given_up_last(rt, rt.alloc(), false, &mut t);
+    same(rt, found, [Answer::Waiting, Answer::Stays, over]);
+    same(rt, counts(&t), (2, 0, 0, 2, 0));
+}
+
+// Callback, proxy, and the leaves of consumer and producer.
+fn proxy_last<R: Abort>(rt: &R, alloc: Global, t: &mut Tally) -> [Answer; 4] {
+    let mut home: Numbers = new_home(rt, alloc);
+    let (producer, consumer) = begun(rt, &mut home, 2, t);
+    let (first, consumer) = asked(consumer, false, t);
+    let (second, producer) = given(producer, true, t);
+    let third = consumer_left(consumer, t);
+    let fourth = producer_left(producer, t);
+    [first, second, third, fourth]
+}
+
+#[test]
+fn proxy_is_left_over_or_gets_the_callback(rt: HostRuntime) {
+    let rt = &rt;
+    let mut t = Tally::new();
+    let found = given_up_last(rt, rt.alloc(), true, &mut t);
+    same(
+        rt,
+        found,
+        [Answer::Waiting, Answer::Stays, Answer::Proxy(3)],
+    );
+    let forward = Answer::Forward(7, 3, false);
+    let expected = [Answer::Waiting, forward, Answer::Stays, Answer::Nothing];
+    same(rt, proxy_last(rt, rt.alloc(), &mut t), expected);
+    same(rt, counts(&t), (2, 0, 1, 2, 0));
+}
+
+// One use of a home: who acts first, and how, and what the second act has to answer.
+#[derive(Clone, Copy)]
+struct Use {
+    callback_first: bool,
+    inline: bool,
+    is_proxy: bool,
+    wanted: Answer,
+}
+
+fn one_use(callback_first: bool, inline: bool, is_proxy: bool, wanted: Answer) -> Use {
+    Use {
+        callback_first,
+        inline,
+        is_proxy,
+        wanted,
+    }
+}
+
 fn reopened<'h>(left: Left<'h, u64, u64, u64>, t: &mut Tally) -> Option<Key<'h, u64, u64, u64>> {
     match left {
         Left::First(_) => None,
@@ -229,81 +291,94 @@ fn reopened<'h>(left: Left<'h, u64, u64, u64>, t: &mut Tally) -> Option<Key<'h, 
     }
 }
 
-// What the first and the second act answer, and the key of the next use.
-fn used_once<'h>(
+// The key that one of two leaves has given.
+fn either<'h, R: Abort>(
+    rt: &R,
+    one: Option<Key<'h, u64, u64, u64>>,
+    other: Option<Key<'h, u64, u64, u64>>,
+) -> Key<'h, u64, u64, u64> {
+    match one.or(other) {
+        Some(key) => key,
+        None => rt.panic("a home that was not reopened"),
+    }
+}
+
+// Uses a home once, compares what the two acts answer, and hands out the key of the next use.
+fn used_once<'h, R: Abort>(
+    rt: &R,
     key: Key<'h, u64, u64, u64>,
-    case: Case,
+    case: Use,
     t: &mut Tally,
-) -> (Answer, Answer, Option<Key<'h, u64, u64, u64>>) {
+) -> Key<'h, u64, u64, u64> {
     let (producer, consumer) = key.start(9, t);
     if case.callback_first {
         let (first, consumer) = asked(consumer, case.inline, t);
         let (second, producer) = given(producer, case.is_proxy, t);
+        same(rt, (first, second), (Answer::Waiting, case.wanted));
         let key = reopened(consumer.leave(), t);
-        return (first, second, key.or(reopened(producer.leave(), t)));
+        return either(rt, key, reopened(producer.leave(), t));
     }
     let (first, producer) = given(producer, case.is_proxy, t);
     let (second, consumer) = asked(consumer, case.inline, t);
+    same(rt, (first, second), (Answer::Waiting, case.wanted));
     let key = reopened(producer.leave(), t);
-    (first, second, key.or(reopened(consumer.leave(), t)))
+    either(rt, key, reopened(consumer.leave(), t))
 }
 
-#[test]
-fn an_inline_allowance_goes_to_the_later_act(rt: HostRuntime) -> Result<(), Fail> {
-    let mut home = numbers(rt.alloc())?;
-    let mut t = Tally::new();
-    // Callback first, inline, proxy: the fire or the forward, with its allowance.
-    let fire = |inline| Answer::Fire(9, Try::Value(5), 7, inline);
-    let cases = [
-        (true, false, false, fire(false)),
-        (true, true, false, fire(true)),
-        (false, false, false, fire(false)),
-        (false, true, false, fire(false)),
-        (true, false, true, Answer::Forward(7, 3, false)),
-        (true, true, true, Answer::Forward(7, 3, true)),
-        (false, false, true, Answer::Forward(7, 3, false)),
-        (false, true, true, Answer::Forward(7, 3, true)),
-    ];
-    let mut next = home.key();
-    for (callback_first, inline, is_proxy, wanted) in cases {
-        let key = next.take().expect(&rt, "the home was reopened");
-        let case = Case {
-            callback_first,
-            inline,
-            is_proxy,
-        };
-        let (first, second, key) = used_once(key, case, &mut t);
-        next = key;
-        assert_eq!(rt; first, Answer::Waiting);
-        assert_eq!(rt; second, wanted);
+// Uses a home once for each case, one after another.
+fn used_by_each<R: Abort>(rt: &R, home: &mut Numbers, cases: &[Use], t: &mut Tally) {
+    let Some(mut key) = home.key() else {
+        rt.panic("a home without its key")
+    };
+    for case in cases {
+        key = used_once(rt, key, *case, t);
     }
-    drop(next);
-    assert_eq!(rt; counts(&t), (8, 4, 4, 8, 8));
-    assert_eq!(rt; rest(home), (None, None, None, State::Start, 2));
-    Ok(())
 }
 
 #[test]
-fn a_producer_learns_of_its_callback_before_it_acts(rt: HostRuntime) -> Result<(), Fail> {
-    let mut home = numbers(rt.alloc())?;
+fn an_inline_allowance_goes_to_the_later_act(rt: HostRuntime) {
+    let rt = &rt;
+    let mut home: Numbers = new_home(rt, rt.alloc());
     let mut t = Tally::new();
-    let (mut producer, consumer) = begun(&mut home, 9, &mut t)?;
-    let first = producer.look();
-    let (answer, consumer) = consumer.set_callback(7);
-    met(answer, &mut t);
-    let second = producer.look();
-    let third = left(consumer.leave(), &mut t);
-    let fourth = producer.look();
-    let (answer, producer) = producer.set_result(Try::Value(5));
-    let fifth = landed(answer, &mut t);
-    let sixth = left(producer.leave(), &mut t);
-    assert_eq!(rt; first, Sight::NoCallback);
-    assert_eq!(rt; second, Sight::Callback);
-    assert_eq!(rt; third, None);
-    assert_eq!(rt; fourth, Sight::CallbackLeft);
-    assert_eq!(rt; fifth, Answer::Fire(9, Try::Value(5), 7, false));
-    assert_eq!(rt; sixth, Some(Leftover::Nothing));
-    Ok(())
+    let forward = Answer::Forward(7, 3, false);
+    let inline_forward = Answer::Forward(7, 3, true);
+    let cases = [
+        one_use(true, false, false, FIRE),
+        one_use(true, true, false, Answer::Fire(9, Ok(5), 7, true)),
+        one_use(false, false, false, FIRE),
+        one_use(false, true, false, FIRE),
+        one_use(true, false, true, forward),
+        one_use(true, true, true, inline_forward),
+        one_use(false, false, true, forward),
+        one_use(false, true, true, inline_forward),
+    ];
+    used_by_each(rt, &mut home, &cases, &mut t);
+    same(rt, counts(&t), (8, 4, 4, 8, 8));
+    same(rt, rest(home), (None, None, None, State::Start, 2));
+}
+
+// What a producer's looks find: before the callback, behind it, and behind the consumer's leave. And what that leave, the result and
+// the producer's leave answer.
+fn looked<R: Abort>(rt: &R, alloc: Global) -> ([Sight; 3], [Answer; 3]) {
+    let mut home: Numbers = new_home(rt, alloc);
+    let mut t = Tally::new();
+    let (mut producer, consumer) = begun(rt, &mut home, 9, &mut t);
+    let before = producer.look();
+    let (_, consumer) = asked(consumer, false, &mut t);
+    let behind = producer.look();
+    let first = consumer_left(consumer, &mut t);
+    let last = producer.look();
+    let (second, producer) = given(producer, false, &mut t);
+    let third = producer_left(producer, &mut t);
+    ([before, behind, last], [first, second, third])
+}
+
+#[test]
+fn a_producer_learns_of_its_callback_before_it_acts(rt: HostRuntime) {
+    let rt = &rt;
+    let sights = [Sight::NoCallback, Sight::Callback, Sight::CallbackLeft];
+    let answers = [Answer::Stays, FIRE, Answer::Nothing];
+    same(rt, looked(rt, rt.alloc()), (sights, answers));
 }
 
 // What a thread has done with its halves: what it counted, what was left over, and how many answers had another
@@ -342,11 +417,9 @@ impl<'h> Driven<'h> {
     fn answered(&mut self, n: u64, answer: Answer) {
         let is_own = match answer {
             Answer::Waiting => true,
-            Answer::Fire(no, Try::Value(value), callback, _) => {
-                no == n && value == n && callback == n
-            }
-            Answer::Fire(..) => false,
+            Answer::Fire(no, Ok(value), callback, _) => no == n && value == n && callback == n,
             Answer::Forward(callback, proxy, _) => callback == n && proxy == n,
+            _ => false,
         };
         if !is_own {
             self.strangers = self.strangers.saturating_add(1);
@@ -358,18 +431,18 @@ impl<'h> Driven<'h> {
             Left::First(_) => {}
             Left::Last(leftover, husk) => {
                 self.key = Some(husk.reopen(&mut self.tally));
-                self.left_over(n, leftover);
+                self.left_over(n, left_told(leftover));
             }
         }
     }
 
-    fn left_over(&mut self, n: u64, leftover: Leftover<u64, u64>) {
+    fn left_over(&mut self, n: u64, leftover: Answer) {
         match leftover {
-            Leftover::Nothing => {}
-            Leftover::Outcome(Try::Value(value)) if value == n => {
+            Answer::Nothing => {}
+            Answer::Outcome(Ok(value)) if value == n => {
                 self.outcomes = self.outcomes.saturating_add(1);
             }
-            Leftover::Proxy(proxy) if proxy == n => {
+            Answer::Proxy(proxy) if proxy == n => {
                 self.proxies = self.proxies.saturating_add(1);
             }
             _ => self.strangers = self.strangers.saturating_add(1),
@@ -492,26 +565,37 @@ fn totals(all: &Driven<'_>) -> Totals {
     )
 }
 
-#[test]
-fn two_threads_use_one_home_a_thousand_times(rt: HostRuntime) -> Result<(), Fail> {
-    let mut home = numbers(rt.alloc())?;
-    let all = totals(&driven_in_one(&rt, &mut home, 0..1000, false));
-    assert_eq!(rt; all, (1000, 1000, 0, 1000, 1000, 0, 0, 0));
-    Ok(())
+// Two threads with the halves of a thousand cores in one home.
+fn driven_thousand<R: Abort + Threads>(rt: &R, alloc: Global, mixed: bool) -> Totals {
+    let mut home: Numbers = new_home(rt, alloc);
+    totals(&driven_in_one(rt, &mut home, 0..1000, mixed))
+}
+
+// Two threads with the halves of a core in a home of its own.
+fn driven_alone<R: Abort + Threads>(rt: &R, alloc: Global, n: u64) -> Tally
+    requires { n < 1000 }
+{
+    let mut home: Numbers = new_home(rt, alloc);
+    driven_in_one(rt, &mut home, n..n + 1, true).tally
 }
 
 #[test]
-fn two_threads_mix_proxies_and_give_ups(rt: HostRuntime) -> Result<(), Fail> {
+fn two_threads_use_one_home_a_thousand_times(rt: HostRuntime) {
+    let rt = &rt;
+    let expected = (1000, 1000, 0, 1000, 1000, 0, 0, 0);
+    same(rt, driven_thousand(rt, rt.alloc(), false), expected);
+}
+
+#[test]
+fn two_threads_mix_proxies_and_give_ups(rt: HostRuntime) {
+    let rt = &rt;
     let mut all = Tally::new();
     for n in 0..1000 {
-        let mut home = numbers(rt.alloc())?;
-        all = all.merge(driven_in_one(&rt, &mut home, n..n + 1, true).tally);
+        all = all.merge(driven_alone(rt, rt.alloc(), n));
     }
-    assert_eq!(rt; counts(&all), (1000, 250, 250, 1000, 1000));
-    let mut home = numbers(rt.alloc())?;
-    let all = totals(&driven_in_one(&rt, &mut home, 0..1000, true));
-    assert_eq!(rt; all, (1000, 250, 250, 1000, 1000, 250, 250, 0));
-    Ok(())
+    same(rt, counts(&all), (1000, 250, 250, 1000, 1000));
+    let expected = (1000, 250, 250, 1000, 1000, 250, 250, 0);
+    same(rt, driven_thousand(rt, rt.alloc(), true), expected);
 }
 
 // A value that can't be dropped.
@@ -531,12 +615,13 @@ fn outcome_spent(outcome: Try<Token>) -> u64 {
 }
 
 // The outcome of tokens as one of numbers.
-fn outcome_read(outcome: Try<Token>) -> Try<u64> {
+fn outcome_read(outcome: Option<Try<Token>>) -> Option<Outcome> {
     match outcome {
-        Try::Value(token) => Try::Value(spent(token)),
-        Try::Broken => Try::Broken,
-        Try::Memory => Try::Memory,
-        Try::Cancelled(n) => Try::Cancelled(n),
+        Some(Try::Value(token)) => Some(Ok(spent(token))),
+        Some(Try::Broken) => Some(Err(Fault::Broken)),
+        Some(Try::Memory) => Some(Err(Fault::Memory)),
+        Some(Try::Cancelled(n)) => Some(Err(Fault::Cancelled(n))),
+        None => None,
     }
 }
 
@@ -562,7 +647,8 @@ fn token_left(left: Left<'_, Token, Token, Token>, t: &mut Tally) -> u64 {
     }
 }
 
-type Rest = (Option<Try<u64>>, Option<u64>, Option<u64>, State, u64);
+// The outcome, the callback and the proxy that a closed home hands out, its state, and how many halves were attached.
+type Rest = (Option<Outcome>, Option<u64>, Option<u64>, State, u64);
 
 fn closed(home: Home<Token, Token, Token>) -> Rest {
     let Unspent {
@@ -571,12 +657,8 @@ fn closed(home: Home<Token, Token, Token>) -> Rest {
         proxy,
         end,
     } = home.close();
-    let outcome = match outcome {
-        Some(outcome) => Some(outcome_read(outcome)),
-        None => None,
-    };
     (
-        outcome,
+        outcome_read(outcome),
         slot_read(callback),
         slot_read(proxy),
         end.state(),
@@ -621,25 +703,31 @@ fn tokens_through(
     (fired, first, token_left(consumer.leave(), t))
 }
 
+// A core of tokens, once through, and what its closed home hands out.
+fn tokens_closed<R: Abort>(
+    rt: &R,
+    alloc: Global,
+    gives_up: bool,
+    t: &mut Tally,
+) -> ((u64, u64, u64), Rest) {
+    let mut home = new_home(rt, alloc);
+    let through = tokens_through(&mut home, gives_up, t);
+    (through, closed(home))
+}
+
 #[test]
-fn values_that_cannot_be_dropped_come_out(rt: HostRuntime) -> Result<(), Fail> {
+fn values_that_cannot_be_dropped_come_out(rt: HostRuntime) {
+    let rt = &rt;
     let mut t = Tally::new();
-    let mut home = Home::new(rt.alloc()).map_err(|_| AllocError)?;
-    let through = tokens_through(&mut home, false, &mut t);
-    let rest = closed(home);
-    assert_eq!(rt; through, (75, 0, 0));
-    assert_eq!(rt; rest, (None, None, None, State::Done, 0));
-
-    let mut home = Home::new(rt.alloc()).map_err(|_| AllocError)?;
-    let through = tokens_through(&mut home, true, &mut t);
-    let rest = closed(home);
-    assert_eq!(rt; through, (0, 0, 5));
-    assert_eq!(rt; rest, (None, None, None, State::OnlyResult, 0));
-
-    let home = Home::new(rt.alloc()).map_err(|_| AllocError)?;
-    assert_eq!(rt; closed(home), (None, None, None, State::Start, 2));
-    assert_eq!(rt; counts(&t), (2, 1, 0, 2, 0));
-    Ok(())
+    let rest = (None, None, None, State::Done, 0);
+    let found = tokens_closed(rt, rt.alloc(), false, &mut t);
+    same(rt, found, ((75, 0, 0), rest));
+    let rest = (None, None, None, State::OnlyResult, 0);
+    let found = tokens_closed(rt, rt.alloc(), true, &mut t);
+    same(rt, found, ((0, 0, 5), rest));
+    let rest = (None, None, None, State::Start, 2);
+    same(rt, closed(new_home(rt, rt.alloc())), rest);
+    same(rt, counts(&t), (2, 1, 0, 2, 0));
 }
 
 // Lets go of a value that can't be dropped.
@@ -654,89 +742,77 @@ fn rest(home: Numbers) -> Rest {
         proxy,
         end,
     } = home.close();
+    let outcome = match outcome {
+        Some(outcome) => Some(told(outcome)),
+        None => None,
+    };
     (outcome, callback, proxy, end.state(), end.attached())
 }
 
-// A home that is closed with a result in it, of which the producer has left or not.
-fn with_a_result(alloc: Global, leaves: bool) -> Result<Rest, AllocError> {
-    let mut home = numbers(alloc)?;
+// A home that is closed with a result in it, or a proxy, of which the producer has left or not.
+fn with_what_was_given<R: Abort>(rt: &R, alloc: Global, is_proxy: bool, leaves: bool) -> Rest {
+    let mut home: Numbers = new_home(rt, alloc);
     let mut t = Tally::new();
-    let (producer, consumer) = begun(&mut home, 1, &mut t)?;
+    let (producer, consumer) = begun(rt, &mut home, 1, &mut t);
     forget(consumer);
-    let (answer, producer) = producer.set_result(Try::Value(5));
-    landed(answer, &mut t);
+    let (_, producer) = given(producer, is_proxy, &mut t);
     if leaves {
-        left(producer.leave(), &mut t);
+        producer_left(producer, &mut t);
     } else {
         forget(producer);
     }
-    Ok(rest(home))
+    rest(home)
 }
 
-fn with_a_proxy(alloc: Global, leaves: bool) -> Result<Rest, AllocError> {
-    let mut home = numbers(alloc)?;
+// A home that is closed with a callback in it, of which the consumer has left or not.
+fn with_a_callback<R: Abort>(rt: &R, alloc: Global, inline: bool, leaves: bool) -> Rest {
+    let mut home: Numbers = new_home(rt, alloc);
     let mut t = Tally::new();
-    let (producer, consumer) = begun(&mut home, 1, &mut t)?;
-    forget(consumer);
-    let (answer, producer) = producer.set_proxy(3);
-    passed(answer, &mut t);
-    if leaves {
-        left(producer.leave(), &mut t);
-    } else {
-        forget(producer);
-    }
-    Ok(rest(home))
-}
-
-fn with_a_callback(alloc: Global, inline: bool, leaves: bool) -> Result<Rest, AllocError> {
-    let mut home = numbers(alloc)?;
-    let mut t = Tally::new();
-    let (producer, consumer) = begun(&mut home, 1, &mut t)?;
+    let (producer, consumer) = begun(rt, &mut home, 1, &mut t);
     forget(producer);
     let (_, consumer) = asked(consumer, inline, &mut t);
     if leaves {
-        left(consumer.leave(), &mut t);
+        consumer_left(consumer, &mut t);
     } else {
         forget(consumer);
     }
-    Ok(rest(home))
+    rest(home)
+}
+
+// Compares what a home hands out with a result in it, or a proxy.
+fn check_given<R: Abort>(rt: &R, alloc: Global, is_proxy: bool, leaves: bool, expected: Rest) {
+    same(
+        rt,
+        with_what_was_given(rt, alloc, is_proxy, leaves),
+        expected,
+    );
+}
+
+// Compares what a home hands out with a callback in it.
+fn check_callback<R: Abort>(rt: &R, alloc: Global, inline: bool, leaves: bool, expected: Rest) {
+    same(rt, with_a_callback(rt, alloc, inline, leaves), expected);
 }
 
 #[test]
-fn what_waits_in_a_closed_home_comes_out(rt: HostRuntime) -> Result<(), Fail> {
+fn what_waits_in_a_closed_home_comes_out(rt: HostRuntime) {
+    let rt = &rt;
     let alloc = rt.alloc();
-    let result = Some(Try::Value(5));
-    assert_eq!(rt;
-        with_a_result(alloc, false)?,
-        (result, None, None, State::OnlyResult, 2)
-    );
-    let result = Some(Try::Value(5));
-    assert_eq!(rt;
-        with_a_result(alloc, true)?,
-        (result, None, None, State::OnlyResult, 1)
-    );
-    assert_eq!(rt;
-        with_a_callback(alloc, false, false)?,
-        (None, Some(7), None, State::OnlyCallback, 2)
-    );
-    assert_eq!(rt;
-        with_a_callback(alloc, false, true)?,
-        (None, Some(7), None, State::OnlyCallback, 1)
-    );
-    assert_eq!(rt;
-        with_a_callback(alloc, true, true)?,
-        (None, Some(7), None, State::OnlyCallbackAllowInline, 1)
-    );
-    assert_eq!(rt;
-        with_a_proxy(alloc, false)?,
-        (None, None, Some(3), State::Proxy, 2)
-    );
-    assert_eq!(rt;
-        with_a_proxy(alloc, true)?,
-        (None, None, Some(3), State::Proxy, 1)
-    );
-    assert_eq!(rt; rest(numbers(alloc)?), (None, None, None, State::Start, 2));
-    Ok(())
+    let waits = (Some(Ok(5)), None, None, State::OnlyResult, 2);
+    check_given(rt, alloc, false, false, waits);
+    let waits = (Some(Ok(5)), None, None, State::OnlyResult, 1);
+    check_given(rt, alloc, false, true, waits);
+    let waits = (None, Some(7), None, State::OnlyCallback, 2);
+    check_callback(rt, alloc, false, false, waits);
+    let waits = (None, Some(7), None, State::OnlyCallback, 1);
+    check_callback(rt, alloc, false, true, waits);
+    let waits = (None, Some(7), None, State::OnlyCallbackAllowInline, 1);
+    check_callback(rt, alloc, true, true, waits);
+    let waits = (None, None, Some(3), State::Proxy, 2);
+    check_given(rt, alloc, true, false, waits);
+    let waits = (None, None, Some(3), State::Proxy, 1);
+    check_given(rt, alloc, true, true, waits);
+    let nothing = (None, None, None, State::Start, 2);
+    same(rt, rest(new_home(rt, alloc)), nothing);
 }
 
 fn may_cross<X: Send>(_: &X) {}
@@ -779,11 +855,11 @@ fn crossing_parts(home: &mut Numbers, t: &mut Tally) -> u64 {
 }
 
 #[test]
-fn every_part_of_a_core_may_cross_threads(rt: HostRuntime) -> Result<(), Fail> {
-    let mut home = numbers(rt.alloc())?;
+fn every_part_of_a_core_may_cross_threads(rt: HostRuntime) {
+    let rt = &rt;
+    let mut home: Numbers = new_home(rt, rt.alloc());
     may_cross(&home);
     let mut t = Tally::new();
-    assert_eq!(rt; crossing_parts(&mut home, &mut t), 8);
+    same(rt, crossing_parts(&mut home, &mut t), 8);
     may_cross(&t);
-    Ok(())
 }

@@ -1,6 +1,7 @@
+use super::tests::same;
 use fan_base::{Parcel, Parcels, Refused};
 use std::alloc::Global;
-use std::test::Fail;
+use std::process::Abort;
 use std::thread::join;
 
 // A value that must be spent.
@@ -15,14 +16,24 @@ impl Pledge {
     }
 }
 
-fn wrapped(alloc: Global, number: u32) -> Option<Parcel<Pledge>> {
-    match Parcel::new(alloc, Pledge { number }) {
-        Ok(parcel) => Some(parcel),
-        Err(Refused::Memory(pledge)) => {
-            pledge.spend();
-            None
-        }
+fn parcel_of<X, R: Abort>(rt: &R, alloc: Global, value: X) -> Parcel<X> {
+    match Parcel::new(alloc, value) {
+        Ok(parcel) => parcel,
+        Err(_refused) => rt.panic("memory"),
     }
+}
+
+fn wrapped<R: Abort>(rt: &R, alloc: Global, number: u32) -> Parcel<Pledge> {
+    parcel_of(rt, alloc, Pledge { number })
+}
+
+// A list to whose front parcels with the numbers from 0 on were pushed.
+fn parcels_to<R: Abort>(rt: &R, alloc: Global, many: u32) -> Parcels<Pledge> {
+    let mut parcels = Parcels::new();
+    for number in 0..many {
+        parcels.push_front(wrapped(rt, alloc, number));
+    }
+    parcels
 }
 
 fn opened(parcels: &mut Parcels<Pledge>) -> Option<u32> {
@@ -31,70 +42,62 @@ fn opened(parcels: &mut Parcels<Pledge>) -> Option<u32> {
 }
 
 #[test]
-fn a_parcel_gives_its_value(rt: HostRuntime) -> Result<(), Fail> {
-    let parcel = wrapped(rt.alloc(), 7).ok_or("memory")?;
-    assert_eq!(rt; parcel.open().spend(), 7);
-    let _dropped = wrapped(rt.alloc(), 8).ok_or("memory")?;
-    Ok(())
+fn a_parcel_gives_its_value(rt: HostRuntime) {
+    let rt = &rt;
+    same(rt, wrapped(rt, rt.alloc(), 7).open().spend(), 7);
+    let _dropped = wrapped(rt, rt.alloc(), 8);
 }
 
 #[test]
-fn parcels_keep_their_order(rt: HostRuntime) -> Result<(), Fail> {
-    let mut parcels = Parcels::new();
-    for number in 0..4 {
-        parcels.push_front(wrapped(rt.alloc(), number).ok_or("memory")?);
-    }
-    assert_eq!(rt; opened(&mut parcels), Some(3));
+fn parcels_keep_their_order(rt: HostRuntime) {
+    let rt = &rt;
+    let mut parcels = parcels_to(rt, rt.alloc(), 4);
+    same(rt, opened(&mut parcels), Some(3));
     let mut turned = parcels.reversed();
-    assert_eq!(rt; opened(&mut turned), Some(0));
-    assert_eq!(rt; opened(&mut turned), Some(1));
-    Ok(())
+    same(rt, opened(&mut turned), Some(0));
+    same(rt, opened(&mut turned), Some(1));
 }
 
 #[test]
-fn a_refused_value_comes_back(rt: HostRuntime) -> Result<(), Fail> {
+fn a_refused_value_comes_back(rt: HostRuntime) {
     let pledge = match Parcel::new(rt.alloc(), Pledge { number: 9 }) {
         Ok(parcel) => parcel.open(),
         Err(Refused::Memory(pledge)) => pledge,
     };
-    assert_eq!(rt; pledge.spend(), 9);
-    Ok(())
+    same(&rt, pledge.spend(), 9);
 }
 
 #[test]
-fn values_of_each_size_lie_in_a_block(rt: HostRuntime) -> Result<(), Fail> {
-    let empty = Parcel::new(rt.alloc(), ()).ok().ok_or("memory")?;
-    let byte = Parcel::new(rt.alloc(), 7u8).ok().ok_or("memory")?;
-    let long = Parcel::new(rt.alloc(), 8u128).ok().ok_or("memory")?;
-    let wide = Parcel::new(rt.alloc(), [9u64; 40]).ok().ok_or("memory")?;
+fn values_of_each_size_lie_in_a_block(rt: HostRuntime) {
+    let rt = &rt;
+    let empty = parcel_of(rt, rt.alloc(), ());
+    let byte = parcel_of(rt, rt.alloc(), 7u8);
+    let letter = parcel_of(rt, rt.alloc(), 'p');
+    let long = parcel_of(rt, rt.alloc(), 8u128);
+    let wide = parcel_of(rt, rt.alloc(), [9u64; 40]);
     empty.open();
-    assert_eq!(rt; (byte.open(), long.open()), (7, 8));
-    assert_eq!(rt; wide.open(), [9; 40]);
-    Ok(())
+    same(rt, (byte.open(), letter.open(), long.open()), (7, 'p', 8));
+    same(rt, wide.open(), [9; 40]);
 }
 
 #[test]
-fn a_long_list_is_turned_and_dropped(rt: HostRuntime) -> Result<(), Fail> {
-    let mut parcels = Parcels::new();
-    for number in 0..50_000 {
-        parcels.push_front(wrapped(rt.alloc(), number).ok_or("memory")?);
-    }
-    let mut turned = parcels.reversed();
-    assert_eq!(rt; opened(&mut turned), Some(0));
-    assert_eq!(rt; opened(&mut turned), Some(1));
-    Ok(())
+fn a_long_list_is_turned_and_dropped(rt: HostRuntime) {
+    let rt = &rt;
+    let mut turned = parcels_to(rt, rt.alloc(), 50_000).reversed();
+    same(rt, opened(&mut turned), Some(0));
+    same(rt, opened(&mut turned), Some(1));
 }
 
 #[test]
-fn a_parcel_crosses_threads(rt: HostRuntime) -> Result<(), Fail> {
-    let parcel = wrapped(rt.alloc(), 5).ok_or("memory")?;
+fn a_parcel_crosses_threads(rt: HostRuntime) {
+    let rt = &rt;
+    let parcel = wrapped(rt, rt.alloc(), 5);
     let mut parcels = Parcels::new();
-    parcels.push_front(wrapped(rt.alloc(), 6).ok_or("memory")?);
-    let (one, other) = join(
-        &rt,
+    parcels.push_front(wrapped(rt, rt.alloc(), 6));
+    let found = join(
+        rt,
         move || parcel.open().spend(),
         move || opened(&mut parcels),
     );
-    assert_eq!(rt; (one, other), (5, Some(6)));
-    Ok(())
+    same(rt, found, (5, Some(6)));
 }

@@ -1,8 +1,8 @@
 use Rattle.std.proofs.Common.{◌≡◌, length, None}
 use Rattle.collect_tests.proofs.rows.values_kept.Given as goal
 
-abbrev pub invariant-loop-outcome : goal.invariant-loop-outcome
-invariant-loop-outcome l = record { end : l.kept.end ≡ None }
+abbrev pub invariant-loop-more : goal.invariant-loop-more
+invariant-loop-more l = record { end : l.kept.end ≡ None }
 
-abbrev pub decreases-loop-outcome : goal.decreases-loop-outcome
-decreases-loop-outcome l = length l.kept.outcomes
+abbrev pub decreases-loop-more : goal.decreases-loop-more
+decreases-loop-more l = length l.kept.outcomes

@@ -1,5 +1,5 @@
-use Rattle.std.proofs.Common.{◌≡◌}
+use Rattle.queue_tests.specs.Lent.{IsSameReceiver}
 use Rattle.queue_tests.proofs.tests.count_all.Given as goal
 
 abbrev pub invariant-loop : goal.invariant-loop
-invariant-loop g l = (l.receiver.queue ≡ l.initial.receiver.queue) × (l.receiver.senders ≡ l.initial.receiver.senders)
+invariant-loop g l = IsSameReceiver l.initial.receiver l.receiver
