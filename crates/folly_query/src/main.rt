@@ -9,7 +9,7 @@
 //!
 //! words   no command: Usage, and nothing is read or written
 //! run     source --read_source--> table --with_shards--> lines without words, shards --fan_run_named--> sink
-//!            | ReadFault, TooLarge, BadInput: the error line is written                Done | WriteFault
+//!            | ReadFault, TooLarge: nothing is written | BadInput: the error line is     Done | WriteFault
 //! gen     seed --generate--> table, answered the same way into memory --summary_text--> sink      Done | WriteFault
 //! any     Memory, where there was too little
 //!

@@ -6,8 +6,9 @@
 //!                          +-- what is behind its last line feed waits for the next chunk
 //! ```
 //!
-//! The bytes themselves aren't kept: beside the lines only one chunk and the line that it leaves open lie in memory. Behind a refusal the source
-//! is read on to its end all the same, since a fault of the source, or too many bytes, comes before it.
+//! The bytes themselves aren't kept: beside the lines there are one chunk, and a vector that has the line that is open and, while they are read,
+//! the lines that end in the chunk. Behind a refusal the source is read on to its end all the same, since a fault of the source, or too many
+//! bytes, comes before it.
 #![tactic(auto)]
 
 pub use end::ReadEnd;
