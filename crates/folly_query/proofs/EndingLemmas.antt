@@ -154,7 +154,7 @@ module _ (settings : Settings) (source source' sink sink' : Shown) (text : Bytes
       by : (found : Status) → RefusesAs bad sink sink' found → EndsBy settings source source' sink sink' report found
       by (status.BadInput other) told =
           (text, all, subst (λ b. Refuses text settings.shards b) (sym told.0) refuses, subst (λ b. IsWritten (error_text b) sink sink') (sym told.0) told.1)
-      by status.Memory told = inl told
+      by status.Memory told = inl (told, all.sound)
       by status.Done told = absurd told
       by status.Usage told = absurd told
       by status.ReadFault told = absurd told

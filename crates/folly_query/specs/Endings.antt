@@ -34,9 +34,9 @@ abbrev pub EndsBy : Settings → Shown → Shown → Shown → Shown → Report 
 EndsBy settings source source' sink sink' report status.Done =
     (text : Bytes) × ReadsAll source source' text × (input : Input) × Accepts text settings.shards input
     × Gains sink sink' (output input) × TellsAll (asked_by settings input.lines) report
--- nothing was written; or all was read, and the sink gained a front of what is to be written for it
+-- no read failed, and nothing was written; or all was read, and the sink gained a front of what is to be written for it
 EndsBy settings source source' sink sink' report status.Memory =
-    (sink' ≡ sink) ⊎ ((text : Bytes) × ReadsAll source source' text × (out : Bytes) × IsTextOf text settings.shards out × GainsFront sink sink' out)
+    ((sink' ≡ sink) × (source'.faults ≡ source.faults)) ⊎ ((text : Bytes) × ReadsAll source source' text × (out : Bytes) × IsTextOf text settings.shards out × GainsFront sink sink' out)
 EndsBy settings source source' sink sink' report status.Usage = ⊥
 -- all was read, it is refused, and the error line was written as far as the sink took it
 EndsBy settings source source' sink sink' report (status.BadInput bad) =

@@ -1,10 +1,10 @@
 -- What one more read makes of what was read so far, and what it is at the end.
-use Rattle.std.proofs.Common.{◌≡◌, ℕ, ◌≤◌, List, [], ◌++◌, length, Option, Some, None, sym, ap, ◌∙◌, subst, append-nil, ◌↔◌}
+use Rattle.std.proofs.Common.{◌≡◌, ℕ, ◌≤◌, List, [], ◌++◌, length, Option, Some, None, sym, ap, ◌∙◌, subst, append-nil, ◌↔◌, arith, length-append}
 use Rattle.std.specs.Option.{IfSome}
 use Rattle.std.specs.Io.KnownBytes.{Consumes, Keeps}
-use Rattle.std.proofs.KnownBytes.{Consumes-kept}
+use Rattle.std.proofs.KnownBytes.{Consumes-kept, Consumes-trans}
 use Rattle.fan_base.specs.Outside.{FaultsRose, Shown}
-use Rattle.input_reader.specs.Sources.{most_bytes, FailsBehind, ReadsAll, ReadsChunk}
+use Rattle.input_reader.specs.Sources.{most_bytes, FailsBehind, ReadsAll, ReadsChunk, ReadsSome}
 
 nothing_left : (xs ys zs text got : List ℕ) → xs ≡ text ++ ys → ys ≡ got ++ zs → got ≡ [] → ys ≡ [] → (xs ≡ text) × (Some zs ≡ Some [])
 nothing_left xs ys zs text got first then none end =
@@ -23,3 +23,10 @@ module _ (old mid new : Shown) (text : List ℕ) (consumed : Consumes old.bytes 
 
   pub fails_behind : Keeps mid.bytes new.bytes → FaultsRose mid.faults new.faults → FailsBehind old new text
   fails_behind kept rose = record { consumed = Consumes-kept old.bytes mid.bytes new.bytes text consumed kept; few = few; rose = subst (λ n. FaultsRose n new.faults) sound rose }
+
+  pub reads_some : (got : List ℕ) → ReadsChunk mid new got → ReadsSome old new (text ++ got)
+  reads_some got read = record {
+    consumed = Consumes-trans old.bytes mid.bytes new.bytes text got consumed read.moved;
+    sound = read.sound ∙ sound;
+    few = omega (arith, few, read.few, length-append text got);
+  }

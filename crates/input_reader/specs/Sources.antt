@@ -31,6 +31,12 @@ pub record ReadsTooMuch (old new : Shown) (text : List ℕ) : Type 0 where
   pub many : most_bytes < length text
   pub one_read : length text ≤ most_bytes + most_asked
 
+-- these bytes were read, at most one read too many of them, and nothing failed
+pub record ReadsSome (old new : Shown) (text : List ℕ) : Type 0 where
+  pub consumed : Consumes old.bytes new.bytes text
+  pub sound : new.faults ≡ old.faults
+  pub few : length text ≤ most_bytes + most_asked
+
 -- behind these bytes, which weren't too many, a read failed
 pub record FailsBehind (old new : Shown) (text : List ℕ) : Type 0 where
   pub consumed : Consumes old.bytes new.bytes text

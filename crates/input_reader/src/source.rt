@@ -3,7 +3,7 @@ ghost use Rattle.fan_base.specs.Outside.{FaultsRose, shown};
 ghost use Rattle.query_model.specs.declared.fault.BadInput.{BadInput};
 ghost use Rattle.query_model.specs.Reading.{Accepts, Refuses};
 ghost use Rattle.std.specs.Io.KnownBytes.{Keeps};
-ghost use Rattle.input_reader.specs.Sources.{FailsBehind, ReadsAll, ReadsChunk, ReadsTooMuch};
+ghost use Rattle.input_reader.specs.Sources.{FailsBehind, ReadsAll, ReadsChunk, ReadsSome, ReadsTooMuch};
 
 use crate::end::ReadEnd;
 use crate::text::TextSoFar;
@@ -33,6 +33,8 @@ pub fn read_source<S: Source>(
         × FailsBehind (shown (S.left source.old) (S.faults source.old)) (shown (S.left source.new) (S.faults source.new)) text) }
     ensures too_large { result ≡ Err ReadEnd.TooLarge → ((text : List ℕ)
         × ReadsTooMuch (shown (S.left source.old) (S.faults source.old)) (shown (S.left source.new) (S.faults source.new)) text) }
+    ensures memory { result ≡ Err ReadEnd.Memory → ((text : List ℕ)
+        × ReadsSome (shown (S.left source.old) (S.faults source.old)) (shown (S.left source.new) (S.faults source.new)) text) }
 {
     let mut chunk = zeros(alloc, CHUNK)?;
     let mut text = TextSoFar::new(alloc);

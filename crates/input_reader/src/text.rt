@@ -1,8 +1,8 @@
-ghost use Rattle.std.specs.Prelude.{◌≡◌, ◌≢◌, ◌+◌, ◌≤◌, ◌<◌, ◌^◌, ◌++◌, [], Err, IfOk, IfSome, get_or, length, ℕ};
+ghost use Rattle.std.specs.Prelude.{◌≡◌, ◌≢◌, ◌+◌, ◌≤◌, ◌<◌, ◌^◌, ◌++◌, [], Err, IfOk, IfSome, IfNone, drop, get_or, length, ℕ};
 ghost use Rattle.query_model.specs.declared.fault.BadInput.{BadInput};
 ghost use Rattle.query_model.specs.Pieces.{Bytes, line_feed};
 ghost use Rattle.query_model.specs.Reading.{Accepts, Refuses};
-ghost use Rattle.input_reader.specs.Texts.{EndsInFeed, IsReadAs, IsTextSoFar};
+ghost use Rattle.input_reader.specs.Texts.{EndsInFeed, HasNoFeed, IsReadAs, IsTextSoFar};
 
 use crate::end::ReadEnd;
 use fan_base::Memory;
@@ -125,7 +125,10 @@ fn read_closed(
             tail.extend_from_slice(rest)?;
             Ok(ReadLines::UpTo(more))
         }
-        Err(InputFault::Bad(bad)) => Ok(ReadLines::Refused(bad)),
+        Err(InputFault::Bad(bad)) => {
+            tail.clear();
+            Ok(ReadLines::Refused(bad))
+        }
         Err(InputFault::Memory) => Err(Memory),
     }
 }
@@ -152,7 +155,8 @@ fn read_last(
 
 /// The chunk up to its last line feed, and what comes behind it. None where it has no line feed.
 fn cut_last(chunk: &[u8]) -> Option<(&[u8], &[u8])>
-    ensures { IfSome result (λ parts. (chunk.now ≡ parts.0.now ++ parts.1.now) × EndsInFeed parts.0.now) }
+    ensures parts { IfSome result (λ parts. (chunk.now ≡ parts.0.now ++ parts.1.now) × EndsInFeed parts.0.now × HasNoFeed parts.1.now) }
+    ensures none { IfNone result (HasNoFeed chunk.now) }
 {
     let last = last_feed(chunk)?;
     Some((&chunk[..last + 1], &chunk[last + 1..]))
@@ -160,11 +164,15 @@ fn cut_last(chunk: &[u8]) -> Option<(&[u8], &[u8])>
 
 /// The place of the last line feed.
 fn last_feed(chunk: &[u8]) -> Option<usize>
-    ensures { IfSome result (λ place. (place < length chunk.now) × (get_or chunk.now place 0 ≡ line_feed)) }
+    ensures feed { IfSome result (λ place. (place < length chunk.now) × (get_or chunk.now place 0 ≡ line_feed)) }
+    ensures last { IfSome result (λ place. HasNoFeed (drop (place + 1) chunk.now)) }
+    ensures none { IfNone result (HasNoFeed chunk.now) }
 {
-    for place in (0..chunk.len()).rev() {
-        if chunk[place] == b'\n' {
-            return Some(place);
+    let mut end = chunk.len();
+    'bytes: while end > 0 {
+        end -= 1;
+        if chunk[end] == b'\n' {
+            return Some(end);
         }
     }
     None

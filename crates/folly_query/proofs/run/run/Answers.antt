@@ -4,6 +4,11 @@ use Rattle.folly_query.specs.Endings.{RefusesAs}
 use Rattle.folly_query.proofs.EndingLemmas.{refusal_comes, refused_ends, run_comes, run_ends, tells_pool}
 use Rattle.folly_query.proofs.run.run.Goals as goal
 
+pub answer-requires-clause-limits : goal.answer-requires-clause-limits
+answer-requires-clause-limits g c κs within =
+    let read = c.in-Ok.ensures.accepted in
+    c.accepted_is_within_limits.ensures read.0 c.args.settings.shards (record { lines = c.in-Ok.table }) read.2
+
 pub returns-in-Err-Bad-clause-ends : goal.returns-in-Err-Bad-clause-ends
 returns-in-Err-Bad-clause-ends g c =
     let source = shown (g.S.Source.left c.args.source.now) (g.S.Source.faults c.args.source.now) in

@@ -3,7 +3,7 @@ use Rattle.std.proofs.KnownBytes.{Consumes-nil, Consumes-trans}
 use Rattle.std.proofs.Math.Seq.{take-append_seam}
 use Rattle.fan_base.specs.Outside.{shown}
 use Rattle.input_reader.specs.Sources.{most_bytes, ReadsAll, ReadsChunk}
-use Rattle.input_reader.proofs.SourceLemmas.{reads_all, fails_behind}
+use Rattle.input_reader.proofs.SourceLemmas.{reads_all, reads_some, fails_behind}
 use Rattle.input_reader.proofs.TextLemmas.{if_ok}
 use Rattle.input_reader.proofs.source.read_source.Goals as goal
 
@@ -43,6 +43,16 @@ returns-then-n-eq0-clause-refused g c = λ bad is.
     let few : length r.text.0 ≤ most_bytes = omega (arith, r.text.2.len_is, c.len.ensures, c.reads-test.true) in
     let all : ReadsAll old new r.text.0 = reads_all old mid new r.text.0 r.text.1 r.sound few (take c.in-Some.n c.read_chunk.new.chunk) c.in-Some.ensures.some (ap (λ (n : ℕ). take n c.read_chunk.new.chunk) c.if-n-eq0.true) in
     (r.text.0, all, c.end.ensures.refused bad is r.text.0 r.text.2)
+
+pub returns-in_err-text-clause-memory : goal.returns-in_err-text-clause-memory
+returns-in_err-text-clause-memory g c = λ is.
+    let old = shown (g.S.Source.left c.args.source.now) (g.S.Source.faults c.args.source.now) in
+    let mid = shown (g.S.Source.left c.reads.source) (g.S.Source.faults c.reads.source) in
+    let new = shown (g.S.Source.left c.read_chunk.new.source) (g.S.Source.faults c.read_chunk.new.source) in
+    let r = c.reads.invariant in
+    let few : length r.text.0 ≤ most_bytes = omega (arith, r.text.2.len_is, c.len.ensures, c.reads-test.true) in
+    let got : List ℕ = take c.in-Some.n c.read_chunk.new.chunk in
+    (r.text.0 ++ got, reads_some old mid new r.text.0 r.text.1 r.sound few got c.in-Some.ensures.some)
 
 pub reads-preserved : goal.reads-preserved
 reads-preserved g c =
