@@ -1,171 +1,19 @@
 ghost use Rattle.std.specs.Prelude.{◌≡◌, ◌<◌};
 
+use crate::answers::{
+    Answer, Numbers, Outcome, asked, begun, consumer_left, counts, gave_up, given, landed, left,
+    left_told, met, new_home, passed, producer_left, same, told,
+};
 use core_word::{
-    Consumer, Home, Key, Landed, Left, LeftC, LeftP, Leftover, Met, Passed, Producer, Sight, State,
-    Tally, Unspent,
+    Consumer, Home, Key, Landed, Left, Leftover, Met, Producer, Sight, State, Tally, Unspent,
 };
 use fan_base::{Fault, Try};
 use std::alloc::Global;
-use std::fmt::Debug;
 use std::mem::ManuallyDrop;
 use std::ops::Range;
 use std::process::Abort;
 use std::thread;
 use std::thread::Threads;
-
-// Compares two values. A test compares by this, since each assertion that a body makes of its own makes that body dearer to prove.
-fn same<T: PartialEq + Debug + Copy, R: Abort>(rt: &R, found: T, expected: T) {
-    assert_eq!(rt; found, expected);
-}
-
-// An outcome as a value that may be copied.
-type Outcome = Result<u64, Fault>;
-
-fn told(outcome: Try<u64>) -> Outcome {
-    match outcome {
-        Try::Value(value) => Ok(value),
-        Try::Broken => Err(Fault::Broken),
-        Try::Memory => Err(Fault::Memory),
-        Try::Cancelled(number) => Err(Fault::Cancelled(number)),
-    }
-}
-
-// A core of numbers.
-type Numbers = Home<u64, u64, u64>;
-
-// What a setting call or a leave answers, as plain data.
-#[derive(Clone, Copy, Debug, PartialEq, Eq)]
-enum Answer {
-    Waiting,
-    /// The core's number, the outcome, the callback, and whether it may run inline.
-    Fire(u64, Outcome, u64, bool),
-    /// The callback, the proxy, and whether the callback has the allowance.
-    Forward(u64, u64, bool),
-    /// The first leave.
-    Stays,
-    /// The last leave: nothing is left over.
-    Nothing,
-    Outcome(Outcome),
-    Proxy(u64),
-}
-
-fn landed(landed: Landed<u64, u64>, t: &mut Tally) -> Answer {
-    match landed {
-        Landed::Waiting => Answer::Waiting,
-        Landed::Fire(fire) => {
-            let inline = fire.may_inline();
-            let (no, outcome, callback) = fire.unpack(t);
-            Answer::Fire(no, told(outcome), callback, inline)
-        }
-    }
-}
-
-fn passed(passed: Passed<u64, u64>, t: &mut Tally) -> Answer {
-    match passed {
-        Passed::Waiting => Answer::Waiting,
-        Passed::Forward(forward) => {
-            let inline = forward.allows();
-            let (callback, proxy) = forward.unpack(t);
-            Answer::Forward(callback, proxy, inline)
-        }
-    }
-}
-
-fn met(met: Met<u64, u64, u64>, t: &mut Tally) -> Answer {
-    match met {
-        Met::Waiting => Answer::Waiting,
-        Met::Fire(fire) => {
-            let inline = fire.may_inline();
-            let (no, outcome, callback) = fire.unpack(t);
-            Answer::Fire(no, told(outcome), callback, inline)
-        }
-        Met::Forward(forward) => {
-            let inline = forward.allows();
-            let (callback, proxy) = forward.unpack(t);
-            Answer::Forward(callback, proxy, inline)
-        }
-    }
-}
-
-fn left_told(leftover: Leftover<u64, u64>) -> Answer {
-    match leftover {
-        Leftover::Nothing => Answer::Nothing,
-        Leftover::Outcome(outcome) => Answer::Outcome(told(outcome)),
-        Leftover::Proxy(proxy) => Answer::Proxy(proxy),
-    }
-}
-
-fn left(left: Left<'_, u64, u64, u64>, t: &mut Tally) -> Answer {
-    match left {
-        Left::First(_) => Answer::Stays,
-        Left::Last(leftover, husk) => {
-            husk.end(t);
-            left_told(leftover)
-        }
-    }
-}
-
-fn producer_left(producer: LeftP<'_, u64, u64, u64>, t: &mut Tally) -> Answer {
-    left(producer.leave(), t)
-}
-
-fn consumer_left(consumer: LeftC<'_, u64, u64, u64>, t: &mut Tally) -> Answer {
-    left(consumer.leave(), t)
-}
-
-fn gave_up(consumer: Consumer<'_, u64, u64, u64>, t: &mut Tally) -> Answer {
-    left(consumer.give_up().leave(), t)
-}
-
-fn begun<'h, R: Abort>(
-    rt: &R,
-    home: &'h mut Numbers,
-    no: u64,
-    t: &mut Tally,
-) -> (Producer<'h, u64, u64, u64>, Consumer<'h, u64, u64, u64>) {
-    match home.key() {
-        Some(key) => key.start(no, t),
-        None => rt.panic("a home without its key"),
-    }
-}
-
-fn new_home<T, C, P, R: Abort>(rt: &R, alloc: Global) -> Home<T, C, P> {
-    match Home::new(alloc) {
-        Ok(home) => home,
-        Err(_) => rt.panic("memory"),
-    }
-}
-
-// Made, handed over, forwarded, freed and reopened.
-fn counts(t: &Tally) -> (u64, u64, u64, u64, u64) {
-    (t.made(), t.handed(), t.forwarded(), t.freed(), t.reopened())
-}
-
-fn asked<'h>(
-    consumer: Consumer<'h, u64, u64, u64>,
-    inline: bool,
-    t: &mut Tally,
-) -> (Answer, LeftC<'h, u64, u64, u64>) {
-    let (answer, consumer) = if inline {
-        consumer.set_callback_inline(7)
-    } else {
-        consumer.set_callback(7)
-    };
-    (met(answer, t), consumer)
-}
-
-fn given<'h>(
-    producer: Producer<'h, u64, u64, u64>,
-    is_proxy: bool,
-    t: &mut Tally,
-) -> (Answer, LeftP<'h, u64, u64, u64>) {
-    if is_proxy {
-        let (answer, producer) = producer.set_proxy(3);
-        return (passed(answer, t), producer);
-    }
-    let (answer, producer) = producer.set_result(Try::Value(5));
-    (landed(answer, t), producer)
-}
 
 // Callback, result, and the leaves of producer and consumer; and whether the home's key stays taken.
 fn callback_first<R: Abort>(rt: &R, alloc: Global, t: &mut Tally) -> ([Answer; 4], bool) {
