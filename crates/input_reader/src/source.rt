@@ -26,9 +26,11 @@ pub fn read_source<S: Source>(
     shards: u32,
 ) -> Result<LineTable, ReadEnd>
     ensures accepted { IfOk result (λ lines. (text : List ℕ)
-        × ReadsAll (shown (S.left source.old) (S.faults source.old)) (shown (S.left source.new) (S.faults source.new)) text × Accepts text shards (record { lines = lines })) }
+        × ReadsAll (shown (S.left source.old) (S.faults source.old)) (shown (S.left source.new) (S.faults source.new)) text
+        × Accepts text shards (record { lines = lines })) }
     ensures refused { (bad : BadInput) → result ≡ Err (ReadEnd.Bad bad) → ((text : List ℕ)
-        × ReadsAll (shown (S.left source.old) (S.faults source.old)) (shown (S.left source.new) (S.faults source.new)) text × Refuses text shards bad) }
+        × ReadsAll (shown (S.left source.old) (S.faults source.old)) (shown (S.left source.new) (S.faults source.new)) text
+        × Refuses text shards bad) }
     ensures fault { result ≡ Err ReadEnd.Fault → ((text : List ℕ)
         × FailsBehind (shown (S.left source.old) (S.faults source.old)) (shown (S.left source.new) (S.faults source.new)) text) }
     ensures too_large { result ≡ Err ReadEnd.TooLarge → ((text : List ℕ)
@@ -56,7 +58,8 @@ fn read_chunk<S: Source>(source: &mut S, chunk: &mut [u8]) -> Option<usize>
     requires { length chunk.old ≡ CHUNK }
     ensures within { IfSome result (λ n. n ≤ length chunk.new) }
     ensures size { length chunk.new ≡ length chunk.old }
-    ensures some { IfSome result (λ n. ReadsChunk (shown (S.left source.old) (S.faults source.old)) (shown (S.left source.new) (S.faults source.new)) (take n chunk.new)) }
+    ensures some { IfSome result (λ n.
+        ReadsChunk (shown (S.left source.old) (S.faults source.old)) (shown (S.left source.new) (S.faults source.new)) (take n chunk.new)) }
     ensures kept { IfNone result (Keeps (S.left source.old) (S.left source.new)) }
     ensures rose { IfNone result (FaultsRose (S.faults source.old) (S.faults source.new)) }
 {

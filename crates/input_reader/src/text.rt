@@ -69,8 +69,10 @@ impl TextSoFar {
     pub(crate) fn end(self, alloc: Global, shards: u32) -> Result<LineTable, ReadEnd>
         requires some { (text : Bytes) × IsTextSoFar shards text self }
         requires room { self.len < 2 ^ 32 }
-        ensures accepted { IfOk result (λ lines. (text : Bytes) → IsTextSoFar shards text self → Accepts text shards (record { lines = lines })) }
-        ensures refused { (bad : BadInput) → result ≡ Err (ReadEnd.Bad bad) → (text : Bytes) → IsTextSoFar shards text self → Refuses text shards bad }
+        ensures accepted { IfOk result (λ lines. (text : Bytes) → IsTextSoFar shards text self →
+            Accepts text shards (record { lines = lines })) }
+        ensures refused { (bad : BadInput) → result ≡ Err (ReadEnd.Bad bad) → (text : Bytes) → IsTextSoFar shards text self →
+            Refuses text shards bad }
         ensures no_fault { result ≢ Err ReadEnd.Fault }
         ensures not_too_large { result ≢ Err ReadEnd.TooLarge }
     {
@@ -95,7 +97,8 @@ fn lines_with(
     chunk: &[u8],
 ) -> Result<ReadLines, Memory>
     requires some { (text : Bytes) × IsReadAs shards text tail.old.items lines × (length text + length chunk.now < 2 ^ 32) }
-    ensures { IfOk result (λ more. (text : Bytes) → IsReadAs shards text tail.old.items lines → IsReadAs shards (text ++ chunk.now) tail.new.items more) }
+    ensures { IfOk result (λ more. (text : Bytes) → IsReadAs shards text tail.old.items lines →
+        IsReadAs shards (text ++ chunk.now) tail.new.items more) }
 {
     match lines {
         ReadLines::UpTo(reading) => read_closed(alloc, shards, reading, tail, chunk),
@@ -112,7 +115,8 @@ fn read_closed(
     chunk: &[u8],
 ) -> Result<ReadLines, Memory>
     requires room { reading.number + length tail.old.items + length chunk.now < 2 ^ 64 }
-    ensures { IfOk result (λ lines. (text : Bytes) → IsReadAs shards text tail.old.items (ReadLines.UpTo reading) → IsReadAs shards (text ++ chunk.now) tail.new.items lines) }
+    ensures { IfOk result (λ lines. (text : Bytes) → IsReadAs shards text tail.old.items (ReadLines.UpTo reading) →
+        IsReadAs shards (text ++ chunk.now) tail.new.items lines) }
 {
     let Some((closed, rest)) = cut_last(chunk) else {
         tail.extend_from_slice(chunk)?;
@@ -141,8 +145,10 @@ fn read_last(
     tail: &[u8],
 ) -> Result<LineTable, ReadEnd>
     requires room { reading.number + length tail.now < 2 ^ 64 }
-    ensures accepted { IfOk result (λ lines. (text : Bytes) → IsReadAs shards text tail.now (ReadLines.UpTo reading) → Accepts text shards (record { lines = lines })) }
-    ensures refused { (bad : BadInput) → result ≡ Err (ReadEnd.Bad bad) → (text : Bytes) → IsReadAs shards text tail.now (ReadLines.UpTo reading) → Refuses text shards bad }
+    ensures accepted { IfOk result (λ lines. (text : Bytes) → IsReadAs shards text tail.now (ReadLines.UpTo reading) →
+        Accepts text shards (record { lines = lines })) }
+    ensures refused { (bad : BadInput) → result ≡ Err (ReadEnd.Bad bad) → (text : Bytes) →
+        IsReadAs shards text tail.now (ReadLines.UpTo reading) → Refuses text shards bad }
     ensures no_fault { result ≢ Err ReadEnd.Fault }
     ensures not_too_large { result ≢ Err ReadEnd.TooLarge }
 {

@@ -26,7 +26,7 @@ pub record RanOneMore {W : Type 0} (runs : JobId → W → Mark → W → Type 0
   pub within : queue < length old.pool.queues
   pub turn : TookTurn old new (ran found queue task)
 
--- nothing changed, and each queue was found empty behind the look with which the call began
+-- no record and no pop came, the world stayed, and each queue was found empty behind the look with which the call began
 pub record FoundEmpty {W : Type 0} (old : EndSeen) (w : W) (new : EndSeen) (v : W) : Type 0 where
   pub list : new.records ≡ old.records
   pub popped : new.popped ≡ old.popped

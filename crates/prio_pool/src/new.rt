@@ -52,7 +52,8 @@ struct Rooms<A, B, C> {
 impl<A, B, C> Rooms<A, B, C> {
     fn new(alloc: Global, adders: u32, workers: u32, helpers: u32) -> Result<Rooms<A, B, C>, Memory>
         ensures empty { IfOk result (λ r. (r.adders.items ≡ []) × (r.workers.items ≡ []) × (r.helpers.items ≡ [])) }
-        ensures room { IfOk result (λ r. (vec_capacity r.adders ≡ adders) × (vec_capacity r.workers ≡ workers) × (vec_capacity r.helpers ≡ helpers)) }
+        ensures room { IfOk result (λ r. (vec_capacity r.adders ≡ adders) ×
+            (vec_capacity r.workers ≡ workers) × (vec_capacity r.helpers ≡ helpers)) }
     {
         let adders = Vec::with_capacity(alloc, adders as usize)?;
         let Ok(workers) = Vec::with_capacity(alloc, workers as usize) else {
@@ -185,8 +186,10 @@ fn assemble<J: Headed>(
     requires parkers { parkers_of parking.0 ≡ bits_from 0 size.workers }
     requires wakers { wakers_of parking.1.items ≡ bits_from 0 size.workers }
     requires empty { (rooms.adders.items ≡ []) × (rooms.workers.items ≡ []) × (rooms.helpers.items ≡ []) }
-    requires room { (vec_capacity rooms.adders ≡ size.adders) × (vec_capacity rooms.workers ≡ size.workers) × (vec_capacity rooms.helpers ≡ size.helpers) }
-    ensures { IsNewPool size.exec size.priorities size.adders size.workers size.helpers keeping.1.room result.pool result.owner result.keep result.adders.items result.workers.items result.helpers.items }
+    requires room { (vec_capacity rooms.adders ≡ size.adders) ×
+        (vec_capacity rooms.workers ≡ size.workers) × (vec_capacity rooms.helpers ≡ size.helpers) }
+    ensures { IsNewPool size.exec size.priorities size.adders size.workers size.helpers keeping.1.room
+        result.pool result.owner result.keep result.adders.items result.workers.items result.helpers.items }
 {
     let Inner {
         queues,
@@ -244,7 +247,8 @@ impl<J: Headed> Pool<J> {
         requires adders { (0 < adders) × (adders ≤ 64) }
         requires workers { (0 < workers) × (workers ≤ 64) }
         requires helpers { helpers ≤ 64 }
-        ensures { IfOk result (λ p. IsNewPool exec priorities adders workers helpers room p.pool p.owner p.keep p.adders.items p.workers.items p.helpers.items) }
+        ensures { IfOk result (λ p. IsNewPool exec priorities adders workers helpers room
+            p.pool p.owner p.keep p.adders.items p.workers.items p.helpers.items) }
     {
         let size = Size {
             exec,

@@ -49,9 +49,18 @@ impl<J: Headed> Model for Pool<J> {
 
     ghost Value = { PoolSeen };
 
-    ghost view = { λ p. record { id = record { queues = p.queues.items; passes = p.adders + p.workers + p.helpers; mark = p.mark.mark }; count = p.keep.value.count; exec = p.exec; adders = p.adders; workers = p.workers; helpers = p.helpers } };
+    ghost view = { λ p. record {
+      id = record { queues = p.queues.items; passes = p.adders + p.workers + p.helpers; mark = p.mark.mark };
+      count = p.keep.value.count;
+      exec = p.exec;
+      adders = p.adders;
+      workers = p.workers;
+      helpers = p.helpers;
+    } };
 
-    ghost invariant = { λ p. (0 < length p.queues.items) × (length p.queues.items ≤ 256) × (p.mark.adders ≡ p.adders) × (0 < p.adders) × (p.adders ≤ 64) × (p.workers ≤ 64) × (p.helpers ≤ 64) × (p.mark.count ≡ p.keep.value.count) × (wakers_of p.sleepers.wakers.items ≡ bits_from 0 p.workers) };
+    ghost invariant = { λ p. (0 < length p.queues.items) × (length p.queues.items ≤ 256) × (p.mark.adders ≡ p.adders) ×
+        (0 < p.adders) × (p.adders ≤ 64) × (p.workers ≤ 64) × (p.helpers ≤ 64) ×
+        (p.mark.count ≡ p.keep.value.count) × (wakers_of p.sleepers.wakers.items ≡ bits_from 0 p.workers) };
 }
 
 /// What a help did.
@@ -79,7 +88,8 @@ impl<J: Headed> Pool<J> {
         requires exec { (J.head job).exec ≡ self.now.exec }
         requires room { length (adds_of pass.old) < 4294967295 }
         ensures ticket { IfOk result (λ t. t ≡ record { adder = pass.old.number; index = length (adds_of pass.old) }) }
-        ensures pushed { IfOk result (λ t. pass.new ≡ and_pushed pass.old (queue_in self.now.id priority) (record { ticket = t; head = J.head job })) }
+        ensures pushed { IfOk result (λ t.
+            pass.new ≡ and_pushed pass.old (queue_in self.now.id priority) (record { ticket = t; head = J.head job })) }
         ensures added { OnOk result (adds_of pass.new ≡ adds_of pass.old ++ add_on (queue_in self.now.id priority) (J.head job) ∷ []) }
         ensures refused { IfErr result (λ r. (r ≡ GivenBack job) × (pass.new ≡ pass.old)) }
     {

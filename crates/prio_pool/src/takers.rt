@@ -100,7 +100,8 @@ impl<J: Headed> Takers<J> {
     pub fn put_to(self, queues: &Queues<J>, gathered: &mut Vec<Gathered<Placed<J>>>) -> Watch
         requires queues { self.pool.queues ≡ queues.now.items }
         requires gathered { map (λ g. g.queue) gathered.old.items ≡ queues.now.items }
-        ensures gathered { (records : List Record) → OneEndMore self.pool.passes queues.now.items gathered.old.items (end_seen self records) gathered.new.items }
+        ensures gathered { (records : List Record) →
+            OneEndMore self.pool.passes queues.now.items gathered.old.items (end_seen self records) gathered.new.items }
         ensures watch { (result.mark ≡ self.pool.mark) × (result.found ≡ self.found) }
     {
         let Takers {

@@ -6,7 +6,7 @@ use std::alloc::AllocError;
 /// How many decimal digits a number has at most.
 const MOST_DIGITS: usize = 20;
 
-/// Puts the decimal digits of a number behind a text. By std's `write!` a line of numbers takes twice the time.
+/// Puts the decimal digits of a number behind a text. It is done by hand since replies are mostly numbers, for which std's `write!` was slow.
 pub fn push_decimal(text: &mut Vec<u8>, number: u64) -> Result<(), AllocError>
     ensures { OnOk result (text.new.items ≡ text.old.items ++ decimal number) }
 {

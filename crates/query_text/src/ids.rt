@@ -61,7 +61,8 @@ impl Ids {
 
 /// Puts ids into a set.
 fn put_all(set: &mut BTreeSet<u32>, ids: &[u32]) -> Result<(), InputFault>
-    ensures ok { OnOk result ((id : ℕ) → contains nat_cmp set.new id ≡ (contains nat_cmp set.old id || list_any (λ known. known == id) ids.now)) }
+    ensures ok { OnOk result ((id : ℕ) →
+        contains nat_cmp set.new id ≡ (contains nat_cmp set.old id || list_any (λ known. known == id) ids.now)) }
     ensures err { IfErr result (λ fault. fault ≡ InputFault.Memory) }
 {
     for id in ids {

@@ -2,7 +2,7 @@
 //!
 //! - `read_input`, `read_lines`: an input, or its lines alone with their documents as numbers; or the first bad line with its number and
 //!   kind, and where an expression is at fault, the place (`BadInput`). A line ends with a line feed; empty lines count and say nothing.
-//! - `Reading`: the same of an input that comes bit by bit, whole lines at a time.
+//! - `Reading`: the same of an input that comes chunk by chunk, whole lines at a time.
 //! - `write_input`: the text of an input, which is accepted as that input.
 //! - `input_law`: bytes are accepted as one input or refused with one line and kind, never both.
 //! - `reply_line`, `error_line`: the line of a reply, and that of a bad input.

@@ -19,7 +19,7 @@ use query_model::limits::{MOST_QUERIES, MOST_TICKS, MOST_WORDS};
 use query_model::{Keyword, Line};
 use std::alloc::{AllocError, Global};
 
-/// For how many words a room is small.
+/// For how many words, by a guess from the bytes that are left of the line, a room is small.
 const FEW_WORDS: usize = 32;
 
 /// The line that a piece stands for behind the lines so far, or none where it is skipped.

@@ -55,9 +55,10 @@ impl Reading {
     /// A refusal is that of the first line with an unmet check, whatever comes behind it.
     pub fn read(self, alloc: Global, shards: u32, bytes: &[u8]) -> Result<Reading, InputFault>
         requires room { self.number + length bytes.now < 2 ^ 64 }
-        ensures more { IfOk result (λ more. (text : Bytes) → EndsLine text → HasReadText shards text self → HasReadText shards (text ++ bytes.now) more) }
-        ensures refused { (bad : BadInput) → result ≡ Err (InputFault.Bad bad) → (text rest : Bytes) → EndsLine text → HasReadText shards text self →
-            EndsLine bytes.now ⊎ (rest ≡ []) → Refuses (text ++ (bytes.now ++ rest)) shards bad }
+        ensures more { IfOk result (λ more. (text : Bytes) → EndsLine text → HasReadText shards text self →
+            HasReadText shards (text ++ bytes.now) more) }
+        ensures refused { (bad : BadInput) → result ≡ Err (InputFault.Bad bad) → (text rest : Bytes) →
+            EndsLine text → HasReadText shards text self → EndsLine bytes.now ⊎ (rest ≡ []) → Refuses (text ++ (bytes.now ++ rest)) shards bad }
         ensures number { IfOk result (λ more. more.number ≤ self.number + length bytes.now) }
     {
         one_piece_more();
@@ -93,8 +94,10 @@ fn read_piece(
     number: u64,
     piece: &[u8],
 ) -> Result<SoFar, InputFault>
-    ensures ok { IfOk result (λ more. (mark : Option Line) × LineBehind shards so_far piece.now (Ok mark) × (more ≡ so_far ++ option_to_list mark)) }
-    ensures refused { (bad : BadInput) → result ≡ Err (InputFault.Bad bad) → (bad.line ≡ number) × LineBehind shards so_far piece.now (Err bad.kind) }
+    ensures ok { IfOk result (λ more. (mark : Option Line) × LineBehind shards so_far piece.now (Ok mark) ×
+        (more ≡ so_far ++ option_to_list mark)) }
+    ensures refused { (bad : BadInput) → result ≡ Err (InputFault.Bad bad) →
+        (bad.line ≡ number) × LineBehind shards so_far piece.now (Err bad.kind) }
 {
     lines_by_facts();
     match line_of(alloc, shards, &so_far, piece) {

@@ -21,7 +21,8 @@ use std::alloc::{AllocError, Global};
 #[tactic(auto, unfolding(query_model::specs::Canonical::canonical_text))]
 pub fn write_input(alloc: Global, input: &Input) -> Result<Vec<u8>, Memory>
     ensures text { IfOk result (λ text. text.items ≡ canonical_text input.now) }
-    ensures accepted { (bytes : Bytes) (shards : ℕ) → Accepts bytes shards input.now → IfOk result (λ text. Accepts text.items shards input.now) }
+    ensures accepted { (bytes : Bytes) (shards : ℕ) → Accepts bytes shards input.now →
+        IfOk result (λ text. Accepts text.items shards input.now) }
 {
     canonical_text_is_accepted();
     canonical_tokens_are_accepted();

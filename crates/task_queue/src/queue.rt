@@ -130,7 +130,13 @@ impl<J: Headed> TaskQueue<J> {
     /// Begins to put the passes of the queue together, with an adder.
     pub fn gather(&self, adder: Adder<J>) -> Gathered<J>
         requires queue { adder.queue ≡ self.now }
-        ensures { result ≡ record { queue = self.now; passes = adder.passes; here = 1; added = share adder.number adder.pushed ∷ []; taken = [] } }
+        ensures { result ≡ record {
+          queue = self.now;
+          passes = adder.passes;
+          here = 1;
+          added = share adder.number adder.pushed ∷ [];
+          taken = [];
+        } }
     {
         let Adder {
             mut pass,

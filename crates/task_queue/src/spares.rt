@@ -10,7 +10,7 @@ use std::{array, mem};
 const BUNDLE: usize = 32;
 
 /// How many bundles of blocks wait for the adders at most. Those over are freed.
-const BUNDLES: usize = 2_048;
+const BUNDLES: usize = 256;
 
 /// A few empty blocks. Putting one in or taking one out touches no block's own memory, which another thread used last.
 #[derive(Drop)]
