@@ -132,10 +132,10 @@ used_up xs ys i j (inl past) = inr (drop_all j ys past)
 used_up xs ys i j (inr past) = inl (drop_all i xs past)
 
 -- a list from a place on, as a slice to the end gives it
-abbrev pub behind : ℕ → List ℕ → List ℕ
+abbrev pub behind : {A : Type 0} → ℕ → List A → List A
 behind i xs = take (length xs - i) (drop i xs)
 
-pub behind-is : (xs : List ℕ) (i : ℕ) → behind i xs ≡ drop i xs
+pub behind-is : {A : Type 0} (xs : List A) (i : ℕ) → behind i xs ≡ drop i xs
 behind-is xs i = let many = length-drop i xs in take_all (length xs - i) (drop i xs) (omega arith)
 
 -- the end of the loop, and what is left of one of the lists
