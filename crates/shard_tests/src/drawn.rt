@@ -2,14 +2,14 @@
 ghost use Rattle.std.specs.Prelude.{◌≤◌};
 ghost use Rattle.shard_index.specs.Standing.{StandForAll, StandForSome};
 
-use crate::documents::{expression, shards_of, words_of};
+use crate::documents::{expression, found, put, ranked, same, shards_of, word_of, words_of};
 use crate::plain::PlainShard;
-use fan_base::{Doc, Docs, Numbers, Scores, Word, Words};
+use fan_base::{Doc, Docs, Numbers, Word, Words};
 use query_expr::Expr;
-use query_model::{Ask, Hits, Reply};
+use query_model::Ask;
 use shard_index::{Counts, Shards};
 use std::alloc::Global;
-use std::test::Fail;
+use std::process::Abort;
 
 /// What is asked of documents: of the first n of them for every n below `end`.
 struct Questions {
@@ -39,27 +39,29 @@ const OF_DRAWN: Questions = Questions {
     end: 135,
 };
 
+// A word so many times.
+fn one_word<R: Abort>(rt: &R, alloc: Global, text: &[u8], times: u32) -> Words {
+    let mut words = Words::new(alloc);
+    for _ in 0..times {
+        put(rt, &mut words, word_of(rt, text));
+    }
+    words
+}
+
 /// 133 documents whose ids don't come in order, some with a word several times, one of 1,000 words and one of none.
-pub fn drawn_docs(alloc: Global) -> Result<Docs, Fail> {
+pub fn drawn_docs<R: Abort>(rt: &R, alloc: Global) -> Docs {
     let mut docs = Docs::new(alloc);
     for i in 0..131u32 {
-        let words = words_of(alloc, TEXTS[i as usize * 5 % 7])?;
-        docs.push(Doc {
-            id: (i * 37 + 11) % 131,
-            words,
-        })?;
+        let id = (i * 37 + 11) % 131;
+        let words = words_of(rt, alloc, TEXTS[i as usize * 5 % 7]);
+        put(rt, &mut docs, Doc { id, words });
     }
     // The greatest document, and an empty one.
-    let mut words = Words::new(alloc);
-    for _ in 0..1000 {
-        words.push(Word::new(b"d")?)?;
-    }
-    docs.push(Doc { id: 132, words })?;
-    docs.push(Doc {
-        id: 131,
-        words: Words::new(alloc),
-    })?;
-    Ok(docs)
+    let words = one_word(rt, alloc, b"d", 1000);
+    put(rt, &mut docs, Doc { id: 132, words });
+    let words = Words::new(alloc);
+    put(rt, &mut docs, Doc { id: 131, words });
+    docs
 }
 
 const FREQUENT: [&str; 7] = ["f", "f g", "f f", "g", "f g f", "f", "h"];
@@ -83,23 +85,26 @@ const OF_ASCENDING: Questions = Questions {
     end: 302,
 };
 
+// The text of one of 300 documents.
+fn ascending_text(i: u32) -> &'static str {
+    match i % 100 {
+        41 => "r",
+        53 => "r f r",
+        99 => "g r",
+        _ if i > 280 => "g",
+        _ => FREQUENT[i as usize % 7],
+    }
+}
+
 // 300 documents whose ids ascend. The word f stands in more than 16 times as many as r, but not in the last ones.
-fn ascending_docs(alloc: Global) -> Result<Docs, Fail> {
+fn ascending_docs<R: Abort>(rt: &R, alloc: Global) -> Docs {
     let mut docs = Docs::new(alloc);
     for i in 0..300u32 {
-        let text = match i % 100 {
-            41 => "r",
-            53 => "r f r",
-            99 => "g r",
-            _ if i > 280 => "g",
-            _ => FREQUENT[i as usize % 7],
-        };
-        docs.push(Doc {
-            id: i * 3 + 5,
-            words: words_of(alloc, text)?,
-        })?;
+        let id = i * 3 + 5;
+        let words = words_of(rt, alloc, ascending_text(i));
+        put(rt, &mut docs, Doc { id, words });
     }
-    Ok(docs)
+    docs
 }
 
 const OF_MANY_WORDS: Questions = Questions {
@@ -117,215 +122,221 @@ const OF_MANY_WORDS: Questions = Questions {
 };
 
 // One of ten thousand words.
-fn numbered_word(number: u32) -> Result<Word, Fail> {
+fn numbered_word<R: Abort>(rt: &R, number: u32) -> Word {
     let mut text = *b"w0000";
     let mut rest = number;
     for place in [4, 3, 2, 1] {
         text[place] = b"0123456789"[(rest % 10) as usize];
         rest /= 10;
     }
-    Ok(Word::new(&text)?)
+    word_of(rt, &text)
+}
+
+// 50 words that no other document has; every third has one word more.
+fn own_words<R: Abort>(rt: &R, alloc: Global, i: u32) -> Words
+    requires { i ≤ 100 }
+{
+    let mut words = Words::new(alloc);
+    for j in 0..50u32 {
+        put(rt, &mut words, numbered_word(rt, i * 50 + j));
+    }
+    if i % 3 == 0 {
+        put(rt, &mut words, word_of(rt, b"a"));
+    }
+    words
 }
 
 // 100 documents with 50 words each that no other has, so many that one shard sorts their places in two goes; every third has one word more.
-fn docs_of_many_words(alloc: Global) -> Result<Docs, Fail> {
+fn docs_of_many_words<R: Abort>(rt: &R, alloc: Global) -> Docs {
     let mut docs = Docs::new(alloc);
     for i in 0..100u32 {
-        let mut words = Words::new(alloc);
-        for j in 0..50u32 {
-            words.push(numbered_word(i * 50 + j)?)?;
-        }
-        if i % 3 == 0 {
-            words.push(Word::new(b"a")?)?;
-        }
-        docs.push(Doc {
-            id: (i * 37 + 11) % 101,
-            words,
-        })?;
+        let id = (i * 37 + 11) % 101;
+        let words = own_words(rt, alloc, i);
+        put(rt, &mut docs, Doc { id, words });
     }
-    Ok(docs)
+    docs
 }
 
-/// Whether the shards find this.
-fn finds(shards: &Shards, ask: &Ask, before: u32, wanted: &Hits) -> Result<bool, Fail>
-    requires { StandForSome shards.now }
-{
-    match shards.answer(ask, before)? {
-        Reply::Find(hits) => {
-            Ok(hits.total == wanted.total && hits.ids.as_slice() == wanted.ids.as_slice())
-        }
-        _ => Ok(false),
-    }
-}
+/// Where shards are compared with the plain shard: how many shards, what is asked, and of how many documents.
+type At<'t> = (usize, &'t str, u32);
 
-/// Whether this ranks first.
-fn ranks(shards: &Shards, ask: &Ask, before: u32, wanted: &Scores) -> Result<bool, Fail>
-    requires { StandForSome shards.now }
-{
-    match shards.answer(ask, before)? {
-        Reply::Top(scores) => Ok(scores.as_slice() == wanted.as_slice()),
-        _ => Ok(false),
-    }
-}
-
-/// The first n with the first n documents of which the shards don't find what the plain shard does.
-fn finds_differ(
+/// Compares what is found, and for how many documents of all shards the expression holds.
+fn check_find<R: Abort>(
+    rt: &R,
     shards: &Shards,
     plain: &PlainShard,
-    text: &str,
-    end: u32,
-) -> Result<Option<u32>, Fail>
+    e: &Expr,
+    ask: &Ask,
+    at: At<'_>,
+)
     requires { StandForAll shards.now plain.now.docs }
 {
-    let e = expression(plain.alloc, text)?;
-    let ask = Ask::Find(expression(plain.alloc, text)?);
-    for before in 0..end {
-        let wanted = plain.find(&e, before)?;
-        if !finds(shards, &ask, before, &wanted)?
-            || count_together(shards, plain, &e, before)? != wanted.total
-        {
-            return Ok(Some(before));
-        }
-    }
-    Ok(None)
+    let wanted = plain.find(e, at.2).expect(rt, "memory");
+    let hits = found(rt, shards, ask, at.2);
+    let total = count_together(rt, shards, plain, e, at.2);
+    same(
+        rt,
+        (at, hits.total, total, hits.ids.as_slice()),
+        (at, wanted.total, wanted.total, wanted.ids.as_slice()),
+    );
 }
 
-/// The same for what ranks first.
-fn tops_differ(
+/// Compares what is found among the first n documents, for every n below `end`.
+fn check_finds<R: Abort>(rt: &R, shards: &Shards, plain: &PlainShard, text: &str, end: u32)
+    requires { StandForAll shards.now plain.now.docs }
+{
+    let e = expression(rt, plain.alloc, text);
+    let ask = Ask::Find(expression(rt, plain.alloc, text));
+    let count = shards.as_slice().len();
+    for before in 0..end {
+        check_find(rt, shards, plain, &e, &ask, (count, text, before));
+    }
+}
+
+/// Compares what ranks first.
+fn check_top<R: Abort>(
+    rt: &R,
     shards: &Shards,
     plain: &PlainShard,
+    words: &Words,
     k: u32,
-    text: &str,
-    end: u32,
-) -> Result<Option<u32>, Fail>
+    ask: &Ask,
+    at: At<'_>,
+)
     requires { StandForSome shards.now }
 {
-    let words = words_of(plain.alloc, text)?;
-    let ask = Ask::Top(k, words_of(plain.alloc, text)?);
-    for before in 0..end {
-        let wanted = plain.top(&words, k, before)?;
-        if !ranks(shards, &ask, before, &wanted)? {
-            return Ok(Some(before));
-        }
-    }
-    Ok(None)
+    let wanted = plain.top(words, k, at.2).expect(rt, "memory");
+    let scores = ranked(rt, shards, ask, at.2);
+    same(rt, (at, scores.as_slice()), (at, wanted.as_slice()));
 }
 
-/// The same for what all shards count together.
-fn counts_differ(
-    shards: &Shards,
-    plain: &PlainShard,
-    text: &str,
-    end: u32,
-) -> Result<Option<u32>, Fail>
+/// The same for every n below `end`.
+fn check_tops<R: Abort>(rt: &R, shards: &Shards, plain: &PlainShard, k: u32, text: &str, end: u32)
+    requires { StandForSome shards.now }
+{
+    let words = words_of(rt, plain.alloc, text);
+    let ask = Ask::Top(k, words_of(rt, plain.alloc, text));
+    let count = shards.as_slice().len();
+    for before in 0..end {
+        check_top(rt, shards, plain, &words, k, &ask, (count, text, before));
+    }
+}
+
+/// Compares what all shards count together.
+fn check_count<R: Abort>(rt: &R, shards: &Shards, plain: &PlainShard, words: &Words, at: At<'_>)
     requires { StandForAll shards.now plain.now.docs }
 {
-    let words = words_of(plain.alloc, text)?;
+    let wanted = plain.counts(words, at.2).expect(rt, "memory");
+    let counts = counts_together(rt, shards, plain, words, at.2);
+    same(
+        rt,
+        (at, counts.any, counts.with.as_slice()),
+        (at, wanted.any, wanted.with.as_slice()),
+    );
+}
+
+/// The same for every n below `end`.
+fn check_counts<R: Abort>(rt: &R, shards: &Shards, plain: &PlainShard, text: &str, end: u32)
+    requires { StandForAll shards.now plain.now.docs }
+{
+    let words = words_of(rt, plain.alloc, text);
+    let count = shards.as_slice().len();
     for before in 0..end {
-        let wanted = plain.counts(&words, before)?;
-        let counts = counts_together(shards, plain, &words, before)?;
-        if counts.any != wanted.any || counts.with.as_slice() != wanted.with.as_slice() {
-            return Ok(Some(before));
-        }
+        check_count(rt, shards, plain, &words, (count, text, before));
     }
-    Ok(None)
 }
 
 /// For how many documents of all shards the expression holds.
-fn count_together(shards: &Shards, plain: &PlainShard, e: &Expr, before: u32) -> Result<u64, Fail>
+fn count_together<R: Abort>(
+    rt: &R,
+    shards: &Shards,
+    plain: &PlainShard,
+    e: &Expr,
+    before: u32,
+) -> u64
     requires { StandForAll shards.now plain.now.docs }
 {
     let mut total = 0u64;
     for shard in shards.as_slice() {
-        total = total.saturating_add(shard.count(e, before)?);
+        total = total.saturating_add(shard.count(e, before).expect(rt, "memory"));
     }
-    Ok(total)
+    total
+}
+
+fn add_each(totals: &mut [u64], more: &[u64]) {
+    for (total, more) in totals.iter_mut().zip(more) {
+        *total = total.saturating_add(*more);
+    }
 }
 
 /// What the shards of the plain shard's documents count, added up.
-fn counts_together(
+fn counts_together<R: Abort>(
+    rt: &R,
     shards: &Shards,
     plain: &PlainShard,
     words: &Words,
     before: u32,
-) -> Result<Counts, Fail>
+) -> Counts
     requires { StandForAll shards.now plain.now.docs }
 {
-    let mut with = vec![in plain.alloc; 0u64; words.len()]?;
+    let mut with = zeros(rt, plain.alloc, words.len());
     let mut any = 0u64;
     for shard in shards.as_slice() {
-        let counts = shard.counts(words, before)?;
-        for (total, more) in with.iter_mut().zip(counts.with.as_slice()) {
-            *total = total.saturating_add(*more);
-        }
+        let counts = shard.counts(words, before).expect(rt, "memory");
+        add_each(with.as_mut_slice(), counts.with.as_slice());
         any = any.saturating_add(counts.any);
     }
-    Ok(Counts {
+    Counts {
         with: Numbers::from_vec(with),
         any,
-    })
+    }
 }
 
-/// The first question, and the first n, where so many shards don't answer as the plain shard does.
-fn first_difference(
-    plain: &PlainShard,
-    count: u32,
-    asked: &Questions,
-) -> Result<Option<(&'static str, u32)>, Fail>
+fn zeros<R: Abort>(rt: &R, alloc: Global, count: usize) -> Vec<u64> {
+    vec![in alloc; 0u64; count].expect(rt, "memory")
+}
+
+/// Asks so many shards what the plain shard is asked.
+fn check_shards<R: Abort>(rt: &R, plain: &PlainShard, count: u32, asked: &Questions)
     requires some { 1 ≤ count }
     requires many { count ≤ 64 }
 {
-    let shards = shards_of(plain.alloc, &plain.docs, count)?;
+    let shards = shards_of(rt, plain.alloc, &plain.docs, count);
     for text in asked.finds {
-        if let Some(before) = finds_differ(&shards, plain, text, asked.end)? {
-            return Ok(Some((*text, before)));
-        }
+        check_finds(rt, &shards, plain, text, asked.end);
     }
     for (k, text) in asked.tops {
-        if let Some(before) = tops_differ(&shards, plain, *k, text, asked.end)? {
-            return Ok(Some((*text, before)));
-        }
+        check_tops(rt, &shards, plain, *k, text, asked.end);
     }
     for text in asked.counts {
-        if let Some(before) = counts_differ(&shards, plain, text, asked.end)? {
-            return Ok(Some((*text, before)));
-        }
+        check_counts(rt, &shards, plain, text, asked.end);
     }
-    Ok(None)
+}
+
+/// Asks 1, 3 and 64 shards of the documents, and a plain shard of them.
+fn check_docs<R: Abort>(rt: &R, alloc: Global, docs: Docs, asked: &Questions) {
+    let plain = PlainShard::new(rt, alloc, docs);
+    for count in [1, 3, 64] {
+        check_shards(rt, &plain, count, asked);
+    }
 }
 
 #[test]
-fn shards_answer_as_a_plain_shard_does(rt: HostRuntime) -> Result<(), Fail> {
-    let alloc = rt.alloc();
-    let docs = drawn_docs(alloc)?;
-    let plain = PlainShard::new(alloc, docs)?;
-    for count in [1, 3, 64] {
-        let differ = first_difference(&plain, count, &OF_DRAWN)?;
-        assert_eq!(rt; differ, None, "{count} shards");
-    }
-    Ok(())
+fn shards_answer_as_a_plain_shard_does(rt: HostRuntime) {
+    let rt = &rt;
+    check_docs(rt, rt.alloc(), drawn_docs(rt, rt.alloc()), &OF_DRAWN);
 }
 
 #[test]
-fn shards_of_ascending_ids_answer_as_a_plain_shard_does(rt: HostRuntime) -> Result<(), Fail> {
-    let alloc = rt.alloc();
-    let docs = ascending_docs(alloc)?;
-    let plain = PlainShard::new(alloc, docs)?;
-    for count in [1, 3, 64] {
-        let differ = first_difference(&plain, count, &OF_ASCENDING)?;
-        assert_eq!(rt; differ, None, "{count} shards");
-    }
-    Ok(())
+fn shards_of_ascending_ids_answer_as_a_plain_shard_does(rt: HostRuntime) {
+    let rt = &rt;
+    let docs = ascending_docs(rt, rt.alloc());
+    check_docs(rt, rt.alloc(), docs, &OF_ASCENDING);
 }
 
 #[test]
-fn a_shard_of_many_words_answers_as_a_plain_shard_does(rt: HostRuntime) -> Result<(), Fail> {
-    let alloc = rt.alloc();
-    let docs = docs_of_many_words(alloc)?;
-    let plain = PlainShard::new(alloc, docs)?;
-    for count in [1, 3, 64] {
-        let differ = first_difference(&plain, count, &OF_MANY_WORDS)?;
-        assert_eq!(rt; differ, None, "{count} shards");
-    }
-    Ok(())
+fn a_shard_of_many_words_answers_as_a_plain_shard_does(rt: HostRuntime) {
+    let rt = &rt;
+    let docs = docs_of_many_words(rt, rt.alloc());
+    check_docs(rt, rt.alloc(), docs, &OF_MANY_WORDS);
 }

@@ -1,12 +1,16 @@
 // Queries whose replies are known, answered part by part, with the marks of the parts.
-use crate::documents::{are_short, docs_of, expression, words_of};
-use fan_base::Memory;
+ghost use Rattle.std.specs.Prelude.{length};
+ghost use Rattle.query_parts.specs.Merging.{AreAsked};
+ghost use Rattle.query_parts.specs.Parts.{AreShards};
+
+use crate::documents::{check_sizes, docs_of, expression, put, same, words_of};
+use fan_base::{Docs, Numbers};
 use query_model::Ask;
-use query_model::limits::MOST_DOCUMENTS;
 use query_parts::{answer_by_parts, answer_part, build_shards};
 use query_text::reply_line;
+use shard_index::Shard;
 use std::alloc::Global;
-use std::test::Fail;
+use std::process::Abort;
 
 type Documents = &'static [(u32, &'static str)];
 
@@ -20,34 +24,57 @@ const CATALOGUE: Documents = &[
     (103, "quick dog training"),
 ];
 
-fn ask_of(alloc: Global, asked: &str, text: &str) -> Result<Ask, Fail> {
+fn ask_of<R: Abort>(rt: &R, alloc: Global, asked: &str, text: &str) -> Ask {
     match asked {
-        "find" => Ok(Ask::Find(expression(alloc, text)?)),
-        "count" => Ok(Ask::Count(expression(alloc, text)?)),
-        "exists" => Ok(Ask::Present(expression(alloc, text)?)),
-        "top 2" => Ok(Ask::Top(2, words_of(alloc, text)?)),
-        _ => Ok(Ask::Top(5, words_of(alloc, text)?)),
+        "find" => Ask::Find(expression(rt, alloc, text)),
+        "count" => Ask::Count(expression(rt, alloc, text)),
+        "exists" => Ask::Present(expression(rt, alloc, text)),
+        "top 2" => Ask::Top(2, words_of(rt, alloc, text)),
+        _ => Ask::Top(5, words_of(rt, alloc, text)),
     }
 }
 
-// The line of the reply over the first `before` of these documents, in four shards, and the marks of the parts.
-fn answered(
+// The documents in four shards.
+fn four_shards<R: Abort>(rt: &R, alloc: Global, docs: &Docs) -> Vec<Shard>
+    ensures { AreShards result.items docs.now }
+{
+    check_sizes(rt, docs.as_slice());
+    build_shards(alloc, docs, 4).expect(rt, "memory")
+}
+
+// Compares the marks of the parts.
+fn check_marks<R: Abort>(
+    rt: &R,
     alloc: Global,
-    table: &[(u32, &str)],
-    before: u32,
+    shards: &[Shard],
     ask: &Ask,
-) -> Result<(Vec<u8>, Vec<u64>), Fail> {
-    let docs = docs_of(alloc, table)?;
-    if docs.len() > MOST_DOCUMENTS || !are_short(docs.as_slice()) || docs.len() < before as usize {
-        return Err(Fail::from(Memory));
+    before: u32,
+    wanted: [u64; 4],
+)
+    requires { AreAsked shards.now before }
+{
+    let mut marks = Numbers::new(alloc);
+    for shard in shards {
+        let part = answer_part(shard, ask, before).expect(rt, "memory");
+        put(rt, &mut marks, part.mark());
     }
-    let shards = build_shards(alloc, &docs, 4)?;
-    let mut marks = Vec::new(alloc);
-    for shard in &shards {
-        marks.push(answer_part(shard, ask, before)?.mark())?;
-    }
-    let reply = answer_by_parts(alloc, shards.as_slice(), ask, before)?;
-    Ok((reply_line(alloc, 1, &reply)?, marks))
+    same(rt, marks.as_slice(), wanted.as_slice());
+}
+
+// Compares the line of the reply.
+fn check_reply<R: Abort>(
+    rt: &R,
+    alloc: Global,
+    shards: &[Shard],
+    ask: &Ask,
+    before: u32,
+    wanted: &str,
+)
+    requires { AreAsked shards.now before }
+{
+    let reply = answer_by_parts(alloc, shards, ask, before).expect(rt, "memory");
+    let line = reply_line(alloc, 1, &reply).expect(rt, "memory");
+    same(rt, line.as_slice(), wanted.as_bytes());
 }
 
 // Documents, what is asked of the first of them, the line of the reply, and the marks of the parts.
@@ -109,14 +136,29 @@ const ROWS: &[(Documents, u32, &str, &str, &str, [u64; 4])] = &[
     ),
 ];
 
+// Compares the line of the reply over the first `before` of these documents, in four shards, and the marks of the parts.
+fn check_row<R: Abort>(
+    rt: &R,
+    alloc: Global,
+    docs: &Docs,
+    before: u32,
+    ask: &Ask,
+    line: &str,
+    marks: [u64; 4],
+) {
+    assert!(rt; docs.len() >= before as usize);
+    let shards = four_shards(rt, alloc, docs);
+    check_marks(rt, alloc, shards.as_slice(), ask, before, marks);
+    check_reply(rt, alloc, shards.as_slice(), ask, before, line);
+}
+
 #[test]
-fn replies_and_marks_of_worked_documents(rt: HostRuntime) -> Result<(), Fail> {
+fn replies_and_marks_of_worked_documents(rt: HostRuntime) {
+    let rt = &rt;
     let alloc = rt.alloc();
     for (table, before, asked, text, line, marks) in ROWS {
-        let ask = ask_of(alloc, asked, text)?;
-        let (reply, told) = answered(alloc, table, *before, &ask)?;
-        assert_eq!(rt; reply.as_slice(), line.as_bytes(), "{asked} {text}");
-        assert_eq!(rt; told.as_slice(), marks.as_slice(), "{asked} {text}");
+        let docs = docs_of(rt, alloc, table);
+        let ask = ask_of(rt, alloc, asked, text);
+        check_row(rt, alloc, &docs, *before, &ask, line, *marks);
     }
-    Ok(())
 }

@@ -4,7 +4,7 @@ use Rattle.shard_index.specs.Standing.{StandsFor, how_many}
 use Rattle.shard_tests.proofs.drawn.counts_together.Goals as goal
 
 pub counts-requires : goal.counts-requires
-counts-requires c =
+counts-requires g c =
     let docs = c.args.plain.now.docs in
     let number = c.loop-shard.shard-index in
     let low = subst (λ n. number < n) c.as_slice-shard-items.ensures.many c.loop-shard-test.true in
