@@ -1,64 +1,56 @@
 ghost use Rattle.std.specs.Prelude.{◌≤◌, length};
 
-use super::compare::same;
+use super::compare::{append, push, same};
 use crate::slow::parse_slowly;
-use fan_base::{Doc, Word, WordFault, Words};
+use fan_base::{Doc, Word, Words};
 use query_expr::{Expr, ExprFault, Node, Token, holds, parse};
-use std::alloc::{AllocError, Global};
+use std::alloc::Global;
 use std::process::Abort;
-use std::test::Fail;
 
 // A token for each byte: a word of one byte, or a mark.
-fn token_of(byte: u8) -> Result<Token, WordFault> {
+fn token_of<R: Abort>(rt: &R, byte: u8) -> Token {
     match byte {
-        b'|' => Ok(Token::Bar),
-        b'!' => Ok(Token::Bang),
-        b'(' => Ok(Token::Left),
-        b')' => Ok(Token::Right),
-        _ => Ok(Token::Word(Word::new(&[byte])?)),
+        b'|' => Token::Bar,
+        b'!' => Token::Bang,
+        b'(' => Token::Left,
+        b')' => Token::Right,
+        _ => Token::Word(Word::new(&[byte]).expect(rt, "a word")),
     }
 }
 
-fn tokens_of(alloc: Global, text: &[u8]) -> Result<Vec<Token>, Fail> {
+fn tokens_of<R: Abort>(rt: &R, alloc: Global, text: &[u8]) -> Vec<Token> {
     let mut tokens = Vec::new(alloc);
     for byte in text {
-        tokens.push(token_of(*byte)?)?;
+        push(rt, &mut tokens, token_of(rt, *byte));
     }
-    Ok(tokens)
+    tokens
 }
 
 // The tree with each sign before what it joins: `!` for Not, `&` for Both, `|` for Either.
-fn show(e: &Expr, out: &mut Vec<u8>) -> Result<(), AllocError> {
+fn show<R: Abort>(rt: &R, e: &Expr, out: &mut Vec<u8>) {
     match e.node() {
-        Node::Word(word) => out.extend_from_slice(word.as_bytes()),
+        Node::Word(word) => append(rt, out, word.as_bytes()),
         Node::Not(e) => {
-            out.push(b'!')?;
-            show(e, out)
+            push(rt, out, b'!');
+            show(rt, e, out);
         }
         Node::Both(a, b) => {
-            out.push(b'&')?;
-            show(a, out)?;
-            show(b, out)
+            push(rt, out, b'&');
+            show(rt, a, out);
+            show(rt, b, out);
         }
         Node::Either(a, b) => {
-            out.push(b'|')?;
-            show(a, out)?;
-            show(b, out)
+            push(rt, out, b'|');
+            show(rt, a, out);
+            show(rt, b, out);
         }
     }
 }
 
-fn shown(alloc: Global, e: &Expr) -> Result<Vec<u8>, AllocError> {
+fn shown<R: Abort>(rt: &R, alloc: Global, e: &Expr) -> Vec<u8> {
     let mut out = Vec::new(alloc);
-    show(e, &mut out)?;
-    Ok(out)
-}
-
-// One word, behind so many of a mark.
-fn marks_before_a_word(alloc: Global, mark: Token, count: usize) -> Result<Vec<Token>, Fail> {
-    let mut tokens = vec![in alloc; mark; count]?;
-    tokens.push(token_of(b'a')?)?;
-    Ok(tokens)
+    show(rt, e, &mut out);
+    out
 }
 
 // What is parsed, without what is said of it.
@@ -66,17 +58,39 @@ fn parsed(alloc: Global, tokens: &[Token]) -> Result<Expr, ExprFault> {
     parse(alloc, tokens)
 }
 
-// The tree of a list of tokens has to be shown so.
-fn check_tree<R: Abort>(rt: &R, alloc: Global, text: &[u8], tree: &[u8]) -> Result<(), Fail> {
-    let tokens = tokens_of(alloc, text)?;
-    let e = parsed(alloc, &tokens)?;
-    let found = shown(alloc, &e)?;
-    same(rt, found.as_slice(), tree);
-    Ok(())
-}
-
 fn fault_of(alloc: Global, tokens: &[Token]) -> Option<ExprFault> {
     parsed(alloc, tokens).err()
+}
+
+fn tree_of<R: Abort>(rt: &R, alloc: Global, text: &[u8]) -> Expr {
+    let tokens = tokens_of(rt, alloc, text);
+    parsed(alloc, tokens.as_slice()).expect(rt, "an expression")
+}
+
+// The tree of a list of tokens has to be shown so.
+fn check_tree<R: Abort>(rt: &R, alloc: Global, text: &[u8], tree: &[u8]) {
+    let e = tree_of(rt, alloc, text);
+    let found = shown(rt, alloc, &e);
+    same(rt, found.as_slice(), tree);
+}
+
+fn check_fault<R: Abort>(rt: &R, alloc: Global, text: &[u8], fault: Option<ExprFault>) {
+    let tokens = tokens_of(rt, alloc, text);
+    same(rt, fault_of(alloc, tokens.as_slice()), fault);
+}
+
+// A token so many times, and one behind them.
+fn check_repeated<R: Abort>(
+    rt: &R,
+    alloc: Global,
+    token: u8,
+    count: usize,
+    last: u8,
+    fault: Option<ExprFault>,
+) {
+    let mut text = vec![in alloc; token; count].expect(rt, "memory");
+    push(rt, &mut text, last);
+    check_fault(rt, alloc, text.as_slice(), fault);
 }
 
 // Lists of tokens, each with its tree.
@@ -98,11 +112,11 @@ const TREES: &[(&[u8], &[u8])] = &[
 ];
 
 #[test]
-fn trees_by_precedence(rt: HostRuntime) -> Result<(), Fail> {
+fn trees_by_precedence(rt: HostRuntime) {
+    let rt = &rt;
     for (text, tree) in TREES {
-        check_tree(&rt, rt.alloc(), text, tree)?;
+        check_tree(rt, rt.alloc(), text, tree);
     }
-    Ok(())
 }
 
 // Lists of tokens, each with its fault.
@@ -123,29 +137,28 @@ const FAULTS: &[(&[u8], ExprFault)] = &[
 ];
 
 #[test]
-fn faults_at_their_places(rt: HostRuntime) -> Result<(), Fail> {
+fn faults_at_their_places(rt: HostRuntime) {
+    let rt = &rt;
     for (text, fault) in FAULTS {
-        let tokens = tokens_of(rt.alloc(), text)?;
-        same(&rt, fault_of(rt.alloc(), &tokens), Some(*fault));
+        check_fault(rt, rt.alloc(), text, Some(*fault));
     }
-    Ok(())
 }
 
+// A token so many times, the one behind them, and the fault, if there is one.
+const REPEATED: &[(u8, usize, u8, Option<ExprFault>)] = &[
+    (b'!', 64, b'a', None),
+    (b'!', 65, b'a', Some(ExprFault::TooDeep(64))),
+    (b'(', 65, b'a', Some(ExprFault::TooDeep(64))),
+    (b'a', 1_023, b'a', None),
+    (b'a', 1_024, b')', Some(ExprFault::TooLong)),
+];
+
 #[test]
-fn limits_of_depth_and_length(rt: HostRuntime) -> Result<(), Fail> {
-    for (mark, count, fault) in [
-        (Token::Bang, 64, None),
-        (Token::Bang, 65, Some(ExprFault::TooDeep(64))),
-        (Token::Left, 65, Some(ExprFault::TooDeep(64))),
-    ] {
-        let tokens = marks_before_a_word(rt.alloc(), mark, count)?;
-        same(&rt, fault_of(rt.alloc(), &tokens), fault);
+fn limits_of_depth_and_length(rt: HostRuntime) {
+    let rt = &rt;
+    for (token, count, last, fault) in REPEATED {
+        check_repeated(rt, rt.alloc(), *token, *count, *last, *fault);
     }
-    let mut words = vec![in rt.alloc(); token_of(b'a')?; 1_024]?;
-    same(&rt, fault_of(rt.alloc(), &words), None);
-    words.push(Token::Right)?;
-    same(&rt, fault_of(rt.alloc(), &words), Some(ExprFault::TooLong));
-    Ok(())
 }
 
 // Lists of tokens, and whether they hold over the words a and c.
@@ -158,75 +171,87 @@ const TRUTHS: &[(&[u8], bool)] = &[
     (b"a!b", true),
 ];
 
-fn a_and_c(alloc: Global) -> Result<Doc, Fail> {
+fn a_and_c<R: Abort>(rt: &R, alloc: Global) -> Doc {
     let mut words = Words::new(alloc);
-    words.push(Word::new(b"a")?)?;
-    words.push(Word::new(b"c")?)?;
-    Ok(Doc { id: 1, words })
+    for text in [b"a", b"c"] {
+        let word = Word::new(text).expect(rt, "a word");
+        words.push(word).expect(rt, "memory");
+    }
+    Doc { id: 1, words }
 }
 
-fn holds_over(alloc: Global, text: &[u8], doc: &Doc) -> Result<bool, Fail> {
-    let tokens = tokens_of(alloc, text)?;
-    let e = parsed(alloc, &tokens)?;
-    Ok(holds(&e, doc))
+fn check_truth<R: Abort>(rt: &R, alloc: Global, text: &[u8], doc: &Doc, truth: bool) {
+    let e = tree_of(rt, alloc, text);
+    same(rt, holds(&e, doc), truth);
 }
 
 #[test]
-fn truth_over_the_words_of_a_document(rt: HostRuntime) -> Result<(), Fail> {
-    let doc = a_and_c(rt.alloc())?;
+fn truth_over_the_words_of_a_document(rt: HostRuntime) {
+    let rt = &rt;
+    let doc = a_and_c(rt, rt.alloc());
     for (text, truth) in TRUTHS {
-        same(&rt, holds_over(rt.alloc(), text, &doc)?, *truth);
+        check_truth(rt, rt.alloc(), text, &doc, *truth);
     }
-    Ok(())
 }
 
 // The list of tokens with this number among those of a length: its digits to the base 5.
-fn numbered_list(alloc: Global, length: usize, number: usize) -> Result<Vec<Token>, Fail> {
+fn numbered_list<R: Abort>(rt: &R, alloc: Global, length: usize, number: usize) -> Vec<Token> {
     let mut rest = number;
     let mut tokens = Vec::new(alloc);
     for _ in 0..length {
-        tokens.push(token_of(b"a|!()"[rest % 5])?)?;
+        push(rt, &mut tokens, token_of(rt, b"a|!()"[rest % 5]));
         rest /= 5;
     }
-    Ok(tokens)
+    tokens
 }
 
-// The tree as it is shown, or the fault.
-fn outcome(
+// What was found as the tree is shown, empty where there is none, and the fault.
+fn outcome<R: Abort>(
+    rt: &R,
     alloc: Global,
     found: Result<Expr, ExprFault>,
-) -> Result<Result<Vec<u8>, ExprFault>, AllocError> {
+) -> (Vec<u8>, Option<ExprFault>) {
     match found {
-        Ok(e) => Ok(Ok(shown(alloc, &e)?)),
-        Err(fault) => Ok(Err(fault)),
+        Ok(e) => (shown(rt, alloc, &e), None),
+        Err(fault) => (Vec::new(alloc), Some(fault)),
     }
 }
 
+// What was found by tokens, what the plain program finds by them.
 fn check_outcomes<R: Abort>(
     rt: &R,
+    alloc: Global,
     tokens: &[Token],
-    quick: Result<Vec<u8>, ExprFault>,
-    slow: Result<Vec<u8>, ExprFault>,
+    quick: Result<Expr, ExprFault>,
+    slow: Result<Expr, ExprFault>,
 ) {
-    assert_eq!(rt; quick, slow, "at {tokens:?}");
+    let (quick, quick_fault) = outcome(rt, alloc, quick);
+    let (slow, slow_fault) = outcome(rt, alloc, slow);
+    same(
+        rt,
+        (tokens, quick.as_slice(), quick_fault),
+        (tokens, slow.as_slice(), slow_fault),
+    );
 }
 
-fn compare<R: Abort>(rt: &R, alloc: Global, tokens: &[Token], word: Word) -> Result<(), Fail> {
+fn compare<R: Abort>(rt: &R, alloc: Global, tokens: &[Token], word: Word) {
     assert!(rt; tokens.len() <= 64);
-    let slow = outcome(alloc, parse_slowly(alloc, tokens, word))?;
-    let quick = outcome(alloc, parsed(alloc, tokens))?;
-    check_outcomes(rt, tokens, quick, slow);
-    Ok(())
+    let slow = parse_slowly(alloc, tokens, word);
+    check_outcomes(rt, alloc, tokens, parsed(alloc, tokens), slow);
+}
+
+fn compare_numbered<R: Abort>(rt: &R, alloc: Global, length: usize, number: usize) {
+    let tokens = numbered_list(rt, alloc, length, number);
+    let word = Word::new(b"z").expect(rt, "a word");
+    compare(rt, alloc, tokens.as_slice(), word);
 }
 
 #[test]
-fn short_lists_by_the_plain_program(rt: HostRuntime) -> Result<(), Fail> {
-    let word = Word::new(b"z")?;
+fn short_lists_by_the_plain_program(rt: HostRuntime) {
+    let rt = &rt;
     for (length, lists) in [(0, 1), (1, 5), (2, 25), (3, 125), (4, 625), (5, 3_125)] {
         for number in 0..lists {
-            let tokens = numbered_list(rt.alloc(), length, number)?;
-            compare(&rt, rt.alloc(), &tokens, word)?;
+            compare_numbered(rt, rt.alloc(), length, number);
         }
     }
-    Ok(())
 }

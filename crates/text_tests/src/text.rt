@@ -1,51 +1,51 @@
 ghost use Rattle.std.specs.Prelude.{◌≤◌};
 
-use super::compare::{same, same_text};
-use fan_base::{Ids, Memory, Scores, Word};
+use super::compare::{append, same, same_text};
+use fan_base::{List, Word};
 use query_text::{
-    BadInput, BadKind, Hits, InputFault, Limit, Line, Prio, Reply, error_line, read_input,
+    BadInput, BadKind, Hits, Input, InputFault, Limit, Line, Prio, Reply, error_line, read_input,
     reply_line, write_input,
 };
-use std::alloc::{AllocError, Global};
+use std::alloc::Global;
 use std::process::Abort;
-use std::test::Fail;
+
+/// What is read over so many shards, without what is said of it.
+fn read(alloc: Global, text: &[u8], shards: u32) -> Result<Input, InputFault>
+    requires at_least_one { 1 ≤ shards }
+    requires at_most_64 { shards ≤ 64 }
+{
+    read_input(alloc, text, shards)
+}
 
 /// The error line of a text, or nothing where it is accepted.
-fn error_of(alloc: Global, text: &[u8]) -> Result<Vec<u8>, Memory> {
-    match read_input(alloc, text, 4) {
-        Ok(_) => Ok(Vec::new(alloc)),
-        Err(InputFault::Bad(bad)) => error_line(alloc, &bad),
-        Err(InputFault::Memory) => Err(Memory),
+fn error_of<R: Abort>(rt: &R, alloc: Global, text: &[u8]) -> Vec<u8> {
+    match read(alloc, text, 4) {
+        Ok(_) => Vec::new(alloc),
+        Err(InputFault::Bad(bad)) => error_line(alloc, &bad).expect(rt, "memory"),
+        Err(InputFault::Memory) => rt.panic("memory"),
     }
 }
 
 /// The error line of a text has to be this one, or nothing.
-fn check_error<R: Abort>(rt: &R, alloc: Global, text: &[u8], wanted: &str) -> Result<(), Fail> {
-    let found = error_of(alloc, text)?;
+fn check_error<R: Abort>(rt: &R, alloc: Global, text: &[u8], wanted: &str) {
+    let found = error_of(rt, alloc, text);
     same_text(rt, found.as_slice(), wanted);
-    Ok(())
 }
 
 /// The same of a text with another line behind it.
-fn check_error_behind<R: Abort>(
-    rt: &R,
-    alloc: Global,
-    text: &[u8],
-    line: &[u8],
-    wanted: &str,
-) -> Result<(), Fail> {
-    let mut more = text.to_vec(alloc)?;
-    more.extend_from_slice(line)?;
-    check_error(rt, alloc, more.as_slice(), wanted)
+fn check_error_behind<R: Abort>(rt: &R, alloc: Global, text: &[u8], line: &[u8], wanted: &str) {
+    let more = repeated(rt, alloc, text, line, 1);
+    check_error(rt, alloc, more.as_slice(), wanted);
 }
 
 /// The text `head` and then so many times `piece`.
-fn repeated(alloc: Global, head: &[u8], piece: &[u8], times: usize) -> Result<Vec<u8>, AllocError> {
-    let mut text = head.to_vec(alloc)?;
+fn repeated<R: Abort>(rt: &R, alloc: Global, head: &[u8], piece: &[u8], times: usize) -> Vec<u8> {
+    let mut text = Vec::new(alloc);
+    append(rt, &mut text, head);
     for _ in 0..times {
-        text.extend_from_slice(piece)?;
+        append(rt, &mut text, piece);
     }
-    Ok(text)
+    text
 }
 
 // Single lines, each with its fault.
@@ -105,17 +105,21 @@ const FAULTY_LINES: &[(&[u8], &str)] = &[
 ];
 
 // The error line of a first line.
-fn first_error(alloc: Global, text: &str) -> Result<String, AllocError> {
-    format!(in alloc; "error line 1: {text}\n")
+fn first_error<R: Abort>(rt: &R, alloc: Global, text: &str) -> String {
+    format!(in alloc; "error line 1: {text}\n").expect(rt, "memory")
+}
+
+fn check_first<R: Abort>(rt: &R, alloc: Global, line: &[u8], text: &str) {
+    let wanted = first_error(rt, alloc, text);
+    check_error(rt, alloc, line, wanted.as_str());
 }
 
 #[test]
-fn each_line_has_its_fault(rt: HostRuntime) -> Result<(), Fail> {
+fn each_line_has_its_fault(rt: HostRuntime) {
+    let rt = &rt;
     for (line, text) in FAULTY_LINES {
-        let wanted = first_error(rt.alloc(), text)?;
-        check_error(&rt, rt.alloc(), line, wanted.as_str())?;
+        check_first(rt, rt.alloc(), line, text);
     }
-    Ok(())
 }
 
 // Lines of a head and so many of a piece, each with its fault, if it has one.
@@ -139,14 +143,26 @@ const LONG_LINES: &[(&[u8], &[u8], usize, &str)] = &[
     (b"find ", b"(", 64, "error line 1: bad expression\n"),
 ];
 
+fn check_long<R: Abort>(
+    rt: &R,
+    alloc: Global,
+    head: &[u8],
+    piece: &[u8],
+    times: usize,
+    wanted: &str,
+) {
+    let line = repeated(rt, alloc, head, piece, times);
+    check_error(rt, alloc, line.as_slice(), wanted);
+}
+
 #[test]
-fn limits_of_a_line(rt: HostRuntime) -> Result<(), Fail> {
+fn limits_of_a_line(rt: HostRuntime) {
+    let rt = &rt;
     for (head, piece, times, text) in LONG_LINES {
-        let line = repeated(rt.alloc(), head, piece, *times)?;
-        check_error(&rt, rt.alloc(), line.as_slice(), text)?;
+        check_long(rt, rt.alloc(), head, piece, *times, text);
     }
-    let deep = repeated(rt.alloc(), b"find ", b"!", 64)?;
-    check_error_behind(&rt, rt.alloc(), deep.as_slice(), b"a", "")
+    let deep = repeated(rt, rt.alloc(), b"find ", b"!", 64);
+    check_error_behind(rt, rt.alloc(), deep.as_slice(), b"a", "");
 }
 
 // Files, each with its first fault, if it has one.
@@ -176,11 +192,11 @@ const FILES: &[(&[u8], &str)] = &[
 ];
 
 #[test]
-fn first_fault_of_a_file(rt: HostRuntime) -> Result<(), Fail> {
+fn first_fault_of_a_file(rt: HostRuntime) {
+    let rt = &rt;
     for (text, wanted) in FILES {
-        check_error(&rt, rt.alloc(), text, wanted)?;
+        check_error(rt, rt.alloc(), text, wanted);
     }
-    Ok(())
 }
 
 // The id of the document in a line, how many words it has, and the first one.
@@ -199,17 +215,23 @@ fn prio_of(line: Option<&Line>) -> Option<Prio> {
     }
 }
 
+fn accepted<R: Abort>(rt: &R, alloc: Global, text: &[u8]) -> Input {
+    match read(alloc, text, 64) {
+        Ok(input) => input,
+        Err(_) => rt.panic("the text is refused"),
+    }
+}
+
 #[test]
-fn capitals_carriage_returns_and_comments(rt: HostRuntime) -> Result<(), Fail> {
+fn capitals_carriage_returns_and_comments(rt: HostRuntime) {
+    let rt = &rt;
     let text = b"DOC  1 Red\r\n\r\n# note\r\nHI find RED";
-    let Ok(input) = read_input(rt.alloc(), text, 64) else {
-        rt.panic("the text is refused");
-    };
-    same(&rt, input.lines.len(), 2);
-    let red = Word::new(b"red")?;
-    same(&rt, document(input.lines.get(0)), Some((1, 1, red)));
-    same(&rt, prio_of(input.lines.get(1)), Some(Prio::Hi));
-    Ok(())
+    let input = accepted(rt, rt.alloc(), text);
+    let red = Word::new(b"red").expect(rt, "a word");
+    let first = document(input.lines.get(0));
+    let second = prio_of(input.lines.get(1));
+    let expected = (2, Some((1, 1, red)), Some(Prio::Hi));
+    same(rt, (input.lines.len(), first, second), expected);
 }
 
 // The fault of a text over so many shards.
@@ -217,22 +239,27 @@ fn fault_over(alloc: Global, text: &[u8], shards: u32) -> Option<InputFault>
     requires at_least_one { 1 ≤ shards }
     requires at_most_64 { shards ≤ 64 }
 {
-    read_input(alloc, text, shards).err()
+    read(alloc, text, shards).err()
+}
+
+// So many queries, over 64 shards and over 63.
+fn check_queries<R: Abort>(rt: &R, alloc: Global, queries: usize, faults: [Option<InputFault>; 2]) {
+    let text = repeated(rt, alloc, b"", b"count a\n", queries);
+    let more = fault_over(alloc, text.as_slice(), 64);
+    let fewer = fault_over(alloc, text.as_slice(), 63);
+    same(rt, [more, fewer], faults);
 }
 
 #[test]
-fn queries_times_shards(rt: HostRuntime) -> Result<(), Fail> {
-    let mut text = repeated(rt.alloc(), b"", b"count a\n", 4_096)?;
-    same(&rt, fault_over(rt.alloc(), text.as_slice(), 64), None);
-    text.extend_from_slice(b"count a\n")?;
+fn queries_times_shards(rt: HostRuntime) {
+    let rt = &rt;
     let bad = BadInput {
         line: 4_097,
         kind: BadKind::Limit(Limit::Tasks),
     };
-    let found = fault_over(rt.alloc(), text.as_slice(), 64);
-    same(&rt, found, Some(InputFault::Bad(bad)));
-    same(&rt, fault_over(rt.alloc(), text.as_slice(), 63), None);
-    Ok(())
+    check_queries(rt, rt.alloc(), 4_096, [None, None]);
+    let faults = [Some(InputFault::Bad(bad)), None];
+    check_queries(rt, rt.alloc(), 4_097, faults);
 }
 
 // Lines behind as many queries as there may be, each with its fault.
@@ -242,23 +269,32 @@ const BEHIND_QUERIES: &[(&[u8], &str)] = &[
     (b"count )\n", "error line 50001: bad expression\n"),
 ];
 
-#[test]
-fn as_many_queries_as_there_may_be(rt: HostRuntime) -> Result<(), Fail> {
-    let text = repeated(rt.alloc(), b"", b"count a\n", 50_000)?;
-    for (line, wanted) in BEHIND_QUERIES {
-        check_error_behind(&rt, rt.alloc(), text.as_slice(), line, wanted)?;
+// Lines behind a text, each with its fault.
+fn check_behind<R: Abort>(rt: &R, alloc: Global, text: &[u8], lines: &[(&[u8], &str)]) {
+    for (line, wanted) in lines {
+        check_error_behind(rt, alloc, text, line, wanted);
     }
-    Ok(())
+}
+
+#[test]
+fn as_many_queries_as_there_may_be(rt: HostRuntime) {
+    let rt = &rt;
+    let text = repeated(rt, rt.alloc(), b"", b"count a\n", 50_000);
+    check_behind(rt, rt.alloc(), text.as_slice(), BEHIND_QUERIES);
+}
+
+fn document_line<R: Abort>(rt: &R, alloc: Global, id: u32) -> String {
+    format!(in alloc; "doc {id}\n").expect(rt, "memory")
 }
 
 // Documents with the ids below this one.
-fn documents(alloc: Global, count: u32) -> Result<Vec<u8>, Fail> {
+fn documents<R: Abort>(rt: &R, alloc: Global, count: u32) -> Vec<u8> {
     let mut text = Vec::new(alloc);
     for id in 0..count {
-        let line = format!(in alloc; "doc {id}\n")?;
-        text.extend_from_slice(line.as_bytes())?;
+        let line = document_line(rt, alloc, id);
+        append(rt, &mut text, line.as_bytes());
     }
-    Ok(text)
+    text
 }
 
 // Lines behind as many documents as there may be, each with its fault.
@@ -269,12 +305,10 @@ const BEHIND_DOCUMENTS: &[(&[u8], &str)] = &[
 ];
 
 #[test]
-fn as_many_documents_as_there_may_be(rt: HostRuntime) -> Result<(), Fail> {
-    let text = documents(rt.alloc(), 200_000)?;
-    for (line, wanted) in BEHIND_DOCUMENTS {
-        check_error_behind(&rt, rt.alloc(), text.as_slice(), line, wanted)?;
-    }
-    Ok(())
+fn as_many_documents_as_there_may_be(rt: HostRuntime) {
+    let rt = &rt;
+    let text = documents(rt, rt.alloc(), 200_000);
+    check_behind(rt, rt.alloc(), text.as_slice(), BEHIND_DOCUMENTS);
 }
 
 // Texts, each with its canonical one.
@@ -294,65 +328,54 @@ const TEXTS: &[(&[u8], &str)] = &[
 ];
 
 // The canonical text of a text, or nothing where it is refused.
-fn canonical(alloc: Global, text: &[u8]) -> Result<Vec<u8>, Memory> {
-    match read_input(alloc, text, 4) {
-        Ok(input) => write_input(alloc, &input),
-        Err(_) => Ok(Vec::new(alloc)),
+fn canonical<R: Abort>(rt: &R, alloc: Global, text: &[u8]) -> Vec<u8> {
+    match read(alloc, text, 4) {
+        Ok(input) => write_input(alloc, &input).expect(rt, "memory"),
+        Err(_) => Vec::new(alloc),
     }
+}
+
+fn check_canonical<R: Abort>(rt: &R, alloc: Global, text: &[u8], wanted: &str) {
+    let written = canonical(rt, alloc, text);
+    same_text(rt, written.as_slice(), wanted);
 }
 
 #[test]
-fn canonical_texts(rt: HostRuntime) -> Result<(), Fail> {
+fn canonical_texts(rt: HostRuntime) {
+    let rt = &rt;
     for (text, wanted) in TEXTS {
-        let written = canonical(rt.alloc(), text)?;
-        same_text(&rt, written.as_slice(), wanted);
+        check_canonical(rt, rt.alloc(), text, wanted);
     }
-    Ok(())
 }
 
 // The line of a reply.
-fn check_line<R: Abort>(
-    rt: &R,
-    alloc: Global,
-    number: u64,
-    reply: Reply,
-    wanted: &str,
-) -> Result<(), Fail> {
-    let line = reply_line(alloc, number, &reply)?;
+fn check_line<R: Abort>(rt: &R, alloc: Global, number: u64, reply: Reply, wanted: &str) {
+    let line = reply_line(alloc, number, &reply).expect(rt, "memory");
     same_text(rt, line.as_slice(), wanted);
-    Ok(())
 }
 
-// These ids are all that was found.
-fn found(alloc: Global, ids: &[u32]) -> Result<Reply, Fail> {
-    let mut list = Ids::new(alloc);
-    for id in ids {
-        list.push(*id)?;
+fn list_of<X: Copy, R: Abort>(rt: &R, alloc: Global, items: &[X]) -> List<X> {
+    match items.to_vec(alloc) {
+        Ok(items) => List::from_vec(items),
+        Err(_) => rt.panic("memory"),
     }
-    Ok(Reply::Find(Hits {
-        ids: list,
-        total: ids.len() as u64,
-    }))
-}
-
-fn ranked(alloc: Global, scores: &[(u32, u64)]) -> Result<Reply, Fail> {
-    let mut list = Scores::new(alloc);
-    for score in scores {
-        list.push(*score)?;
-    }
-    Ok(Reply::Top(list))
 }
 
 // What was found, with the number and the line of its reply.
 const FOUND: &[(u64, &[u32], &str)] = &[(1, &[4, 7], "1 find 2: 4 7\n"), (2, &[], "2 find 0:\n")];
 
+// These ids are all that was found.
 #[test]
-fn lines_of_what_was_found(rt: HostRuntime) -> Result<(), Fail> {
+fn lines_of_what_was_found(rt: HostRuntime) {
+    let rt = &rt;
     let alloc = rt.alloc();
     for (number, ids, wanted) in FOUND {
-        check_line(&rt, alloc, *number, found(alloc, ids)?, wanted)?;
+        let found = Reply::Find(Hits {
+            ids: list_of(rt, alloc, ids),
+            total: ids.len() as u64,
+        });
+        check_line(rt, alloc, *number, found, wanted);
     }
-    Ok(())
 }
 
 // What was ranked.
@@ -362,20 +385,22 @@ const RANKED: &[(u64, &[(u32, u64)], &str)] = &[
 ];
 
 #[test]
-fn lines_of_what_was_ranked(rt: HostRuntime) -> Result<(), Fail> {
+fn lines_of_what_was_ranked(rt: HostRuntime) {
+    let rt = &rt;
     let alloc = rt.alloc();
     for (number, scores, wanted) in RANKED {
-        check_line(&rt, alloc, *number, ranked(alloc, scores)?, wanted)?;
+        let ranked = Reply::Top(list_of(rt, alloc, scores));
+        check_line(rt, alloc, *number, ranked, wanted);
     }
-    Ok(())
 }
 
 #[test]
-fn lines_of_replies(rt: HostRuntime) -> Result<(), Fail> {
+fn lines_of_replies(rt: HostRuntime) {
+    let rt = &rt;
     let alloc = rt.alloc();
     let most = Reply::Count(18_446_744_073_709_551_615);
-    check_line(&rt, alloc, 3, most, "3 count 18446744073709551615\n")?;
-    check_line(&rt, alloc, 4, Reply::Present(true), "4 exists yes\n")?;
-    check_line(&rt, alloc, 5, Reply::Present(false), "5 exists no\n")?;
-    check_line(&rt, alloc, 50_000, Reply::Cancelled, "50000 cancelled\n")
+    check_line(rt, alloc, 3, most, "3 count 18446744073709551615\n");
+    check_line(rt, alloc, 4, Reply::Present(true), "4 exists yes\n");
+    check_line(rt, alloc, 5, Reply::Present(false), "5 exists no\n");
+    check_line(rt, alloc, 50_000, Reply::Cancelled, "50000 cancelled\n");
 }

@@ -2,30 +2,20 @@ use super::compare::{same, same_of};
 use query_words::{Command, Generation, Settings, read_command};
 use std::alloc::Global;
 use std::process::Abort;
-use std::test::Fail;
 
 // A line of words, parted by single spaces: two of them hold an empty word.
-fn words_of(alloc: Global, line: &str) -> Result<Vec<String>, Fail> {
+fn words_of<R: Abort>(rt: &R, alloc: Global, line: &str) -> Vec<String> {
     let mut words = Vec::new(alloc);
     for word in line.split(' ') {
-        words.push(String::from_str(alloc, word)?)?;
+        let word = String::from_str(alloc, word).expect(rt, "memory");
+        words.push(word).expect(rt, "memory");
     }
-    Ok(words)
+    words
 }
 
-fn read(alloc: Global, line: &str) -> Result<Option<Command>, Fail> {
-    let words = words_of(alloc, line)?;
-    Ok(read_command(words.as_slice()))
-}
-
-fn check<R: Abort>(
-    rt: &R,
-    alloc: Global,
-    line: &str,
-    command: Option<Command>,
-) -> Result<(), Fail> {
-    same_of(rt, line, read(alloc, line)?, command);
-    Ok(())
+fn check<R: Abort>(rt: &R, alloc: Global, line: &str, command: Option<Command>) {
+    let words = words_of(rt, alloc, line);
+    same_of(rt, line, read_command(words.as_slice()), command);
 }
 
 // Workers, bases and shards.
@@ -193,29 +183,29 @@ fn generation(numbers: (u64, u32, u32)) -> Generation {
 }
 
 #[test]
-fn runs_are_read(rt: HostRuntime) -> Result<(), Fail> {
+fn runs_are_read(rt: HostRuntime) {
+    let rt = &rt;
     for (line, numbers, stop_at) in RUNS {
         let command = Command::Run(settings(*numbers, *stop_at));
-        check(&rt, rt.alloc(), line, Some(command))?;
+        check(rt, rt.alloc(), line, Some(command));
     }
-    Ok(())
 }
 
 #[test]
-fn generations_are_read(rt: HostRuntime) -> Result<(), Fail> {
+fn generations_are_read(rt: HostRuntime) {
+    let rt = &rt;
     for (line, made, numbers, stop_at) in GENERATIONS {
         let command = Command::Generate(generation(*made), settings(*numbers, *stop_at));
-        check(&rt, rt.alloc(), line, Some(command))?;
+        check(rt, rt.alloc(), line, Some(command));
     }
-    Ok(())
 }
 
 #[test]
-fn other_words_are_refused(rt: HostRuntime) -> Result<(), Fail> {
+fn other_words_are_refused(rt: HostRuntime) {
+    let rt = &rt;
     for line in REFUSED {
-        check(&rt, rt.alloc(), line, None)?;
+        check(rt, rt.alloc(), line, None);
     }
-    Ok(())
 }
 
 #[test]
