@@ -1,16 +1,17 @@
 // A thread that posts a note and waits until the base has run it, again and again: neither side sleeps through a message.
-ghost use Rattle.std.specs.Prelude.{◌≡◌, []};
-ghost use Rattle.base_tests.specs.Posts.{AllOn};
+ghost use Rattle.std.specs.Prelude.{◌≡◌, Some, None};
+ghost use Rattle.event_base.specs.Laws.{KeepsBase};
+ghost use Rattle.base_tests.specs.Posts.{AllOn, AllOnIn, HasLeftEnd};
 
 use super::note::*;
-use event_base::{Agenda, EventBase, LoopJob, Poster, Why, calls_in_a_row};
+use event_base::{Agenda, LoopJob, Poster, Why, calls_in_a_row};
 use fan_base::{Mark, Parcel};
 use notify_queue::{Receiver, Sender, SenderEnd, Stamped, queue};
 use std::alloc::Global;
 use std::hint;
 use std::process::Abort;
 use std::sync::Wait;
-use std::thread::{Threads, join};
+use std::thread::{Threads, join_mut};
 
 const NOTES: u64 = 20_000;
 
@@ -54,39 +55,87 @@ fn wait_a_little(id: u64) {
 // After a pause, posts so many notes, each once the one before has run.
 fn post_and_wait<R: Abort + Wait>(
     rt: &R,
-    mut poster: Poster<Note>,
-    mut answers: Receiver<u64>,
+    poster: &mut Poster<Note>,
+    answers: &mut Receiver<u64>,
     pause: u64,
     notes: u64,
-) -> (SenderEnd<Note>, Receiver<u64>)
-    requires { poster.sent ≡ [] }
-    ensures end { (result.0.queue ≡ poster.queue) × (result.0.number ≡ poster.number) }
-    ensures posts { AllOn (λ note. note.0.exec) EXEC result.0 }
+)
+    requires { AllOn (λ note. note.0.exec) EXEC poster.old }
+    ensures same { (poster.new.queue ≡ poster.old.queue) × (poster.new.number ≡ poster.old.number) }
+    ensures posts { AllOn (λ note. note.0.exec) EXEC poster.new }
 {
     for _ in 0..pause {
         hint::spin_loop();
     }
     for id in 0..notes {
         wait_a_little(id);
-        post(rt, &mut poster, id);
-        same(rt, next(rt, &mut answers), id);
+        post(rt, poster, id);
+        same(rt, next(rt, answers), id);
     }
-    (poster.end(rt), answers)
 }
 
-fn run_until_closed<R: Abort + Wait>(
-    rt: &R,
-    mut base: EventBase<Note>,
-    mut world: Answers,
-) -> (EventBase<Note>, Answers, Why)
-    ensures agenda { result.0.agenda.exec ≡ base.agenda.exec }
-    ensures queue { (result.0.queue.queue ≡ base.queue.queue) × (result.0.queue.senders ≡ base.queue.senders) }
+// What a thread is lent: a sender, and its end once it has ended. Their types are parameters, so that it may cross threads where they may.
+struct Slot<S, E> {
+    sender: Option<S>,
+    end: Option<E>,
+}
+
+fn new_slot<S, E>(sender: S) -> Slot<S, E>
+    ensures { (result.sender ≡ Some sender) × (result.end ≡ None) }
 {
-    let end = whole_loop(rt, &mut base, &mut world);
-    (base, world, end.why)
+    Slot {
+        sender: Some(sender),
+        end: None,
+    }
 }
 
-// In a parcel a sender or a receiver can go into a closure, and can be left where it is.
+impl<S, E> Slot<S, E> {
+    // Keeps the end.
+    fn put_end(&mut self, end: E)
+        requires { self.old.end ≡ None }
+        ensures { self.new.end ≡ Some end }
+    {
+        match self.end.replace(end) {
+            None => {}
+            Some(_) => unreachable!(),
+        }
+    }
+
+    // The end, once it is there.
+    fn end<R: Abort>(self, rt: &R) -> E
+        ensures { self.end ≡ Some result }
+    {
+        let Slot { sender, end } = self;
+        match (sender, end) {
+            (None, Some(end)) => end,
+            (Some(_sender), _) => rt.panic("a sender that has not ended"),
+            (None, None) => rt.panic("an end"),
+        }
+    }
+}
+
+type Posting = Slot<Poster<Note>, SenderEnd<Note>>;
+
+// Posts so many notes, and ends.
+fn post_and_end<R: Abort + Wait>(
+    rt: &R,
+    posting: &mut Posting,
+    answers: &mut Receiver<u64>,
+    pause: u64,
+    notes: u64,
+)
+    requires end { posting.old.end ≡ None }
+    requires posts { AllOnIn (λ note. note.0.exec) EXEC posting.old.sender }
+    ensures { HasLeftEnd (λ note. note.0.exec) EXEC posting.old.sender posting.new.end }
+{
+    let Some(mut poster) = posting.sender.take() else {
+        return;
+    };
+    post_and_wait(rt, &mut poster, answers, pause, notes);
+    posting.put_end(poster.end(rt));
+}
+
+// In a parcel a receiver or a base can be left where it is.
 pub(crate) fn wrapped<X, R: Abort>(rt: &R, alloc: Global, value: X) -> Parcel<X>
     ensures { result ≡ value }
 {
@@ -110,28 +159,26 @@ fn post_beside_the_base<R: Abort + Threads + Wait + Sync>(
     pause: u64,
     notes: u64,
 ) {
-    let (base, poster) = one_poster(rt, alloc);
-    let (answers, sender) = one_sender(rt, alloc);
-    let poster = wrapped(rt, alloc, poster);
-    let answers = wrapped(rt, alloc, answers);
-    let base = wrapped(rt, alloc, base);
-    let world = wrapped(rt, alloc, Answers { sender });
-    let (other, ran) = join(
+    let (mut base, poster) = one_poster(rt, alloc);
+    let (mut answers, sender) = one_sender(rt, alloc);
+    let mut world = Answers { sender };
+    let mut posting: Posting = new_slot(poster);
+    let (_, why) = join_mut(
         rt,
-        move ||
-            requires { poster.sent ≡ [] }
-            ensures end { (result.0.queue ≡ poster.queue) × (result.0.number ≡ poster.number) }
-            ensures posts { AllOn (λ note. note.0.exec) EXEC result.0 }
-        { post_and_wait(rt, poster.open(), answers.open(), pause, notes) },
-        move || run_until_closed(rt, base.open(), world.open()),
+        &mut ||
+            requires end { posting.end ≡ None }
+            requires posts { AllOnIn (λ note. note.0.exec) EXEC posting.sender }
+            ensures { HasLeftEnd (λ note. note.0.exec) EXEC posting.entry.sender posting.exit.end }
+        { post_and_end(rt, &mut posting, &mut answers, pause, notes) },
+        &mut ||
+            ensures { KeepsBase 0 base.entry base.exit }
+        { whole_loop(rt, &mut base, &mut world).why },
     );
-    let (end, answers) = other;
-    let (base, world, why) = ran;
     same(rt, why, Why::Closed);
     let Answers { sender } = world;
     let _end = sender.end(rt);
     let _answers = wrapped(rt, alloc, answers);
-    close_empty(rt, alloc, base, end, (notes, notes, 0));
+    close_empty(rt, alloc, base, posting.end(rt), (notes, notes, 0));
 }
 
 #[test]
