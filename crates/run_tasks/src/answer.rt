@@ -4,6 +4,7 @@ ghost use Rattle.run_tasks.specs.Heads.{count_at};
 use fan_base::Memory;
 use fan_parts::{NumberedAsk, Part, RunName, RunShards};
 use query_parts::{answer_part, marks_are_counts};
+use std::alloc::Global;
 
 /// A part, and how many documents it tells of.
 pub struct Answered<N: RunName> {
@@ -13,6 +14,7 @@ pub struct Answered<N: RunName> {
 
 /// What a shard gives for a query.
 pub fn answer_shard<N: RunName>(
+    alloc: Global,
     shards: &RunShards<'_, N>,
     ask: &NumberedAsk<'_, N>,
     shard: u32,
@@ -26,7 +28,7 @@ pub fn answer_shard<N: RunName>(
     let content = answer_part(&shards.all()[shard as usize], ask.ask(), ask.before())?;
     let count = content.mark();
     Ok(Answered {
-        part: Part::new(number, shard, content),
+        part: Part::new(alloc, number, shard, content)?,
         count,
     })
 }

@@ -40,7 +40,8 @@ impl<'c, 't, 'i: 't, N: RunName> Job<TaskWorld<'c, 't, 'i, N>> for ShardTask<'t,
             shard,
             exec: _,
         } = self;
-        let (outcome, mark) = match answer_shard(&world.shards, &ask, shard) {
+        let alloc = *world.posters.allocator();
+        let (outcome, mark) = match answer_shard(alloc, &world.shards, &ask, shard) {
             Ok(Answered { part, count }) => (Try::Value(part), Mark::Done(count)),
             Err(Memory) => {
                 world.refused = true;
