@@ -10,7 +10,7 @@ ghost use Rattle.pool_model.specs.Tickets.{Ascend, tickets_of};
 use crate::looks::{Looks, pop};
 use crate::passes::{Adder, Gathered, Maker, Taker};
 use crate::rule::{Line, Pass, Queued};
-use crate::spares::{Bundle, Spares};
+use crate::spares::{AdderRow, Spares};
 use crate::steps::{Count, Gather, MakeAdder, MakeTaker, Push, PutAdder, PutTaker};
 use fan_base::{Memory, Refused};
 use job_trait::Headed;
@@ -64,7 +64,7 @@ impl<J: Headed> TaskQueue<J> {
     {
         Adder {
             pass: self.line.another::<MakeAdder>(&mut maker.pass),
-            spares: Bundle::new(),
+            spares: AdderRow::new(),
         }
     }
 
@@ -77,7 +77,7 @@ impl<J: Headed> TaskQueue<J> {
     {
         Taker {
             pass: self.line.another::<MakeTaker>(&mut maker.pass),
-            spares: Bundle::new(),
+            spares: None,
         }
     }
 

@@ -6,22 +6,25 @@ use std::alloc::Global;
 use std::sync::Wait;
 use std::{array, mem};
 
-/// How many blocks a taker gives back at a time: one step on what all share for so many tasks.
-const BUNDLE: usize = 32;
+/// How many blocks a row has: one step on what all share for so many tasks.
+const ROW: usize = 32;
 
-/// How many bundles of blocks wait for the adders at most. Those over are freed.
-const BUNDLES: usize = 256;
+/// How many rows wait at most, full ones for the adders and as many empty ones for the takers. Those over are freed, with their blocks.
+const ROWS: usize = 2_048;
 
 /// A few empty blocks. Putting one in or taking one out touches no block's own memory, which another thread used last.
 #[derive(Drop)]
-pub(crate) struct Bundle<X> {
-    blocks: [Option<Block<X>>; BUNDLE],
+pub(crate) struct Row<X> {
+    blocks: [Option<Block<X>>; ROW],
     count: usize,
 }
 
-impl<X> Bundle<X> {
-    pub(crate) fn new() -> Bundle<X> {
-        Bundle {
+/// The row that a pass has, if it has one.
+pub(crate) type OwnRow<X> = Option<Box<Row<X>>>;
+
+impl<X> Row<X> {
+    fn new() -> Row<X> {
+        Row {
             blocks: array::from_fn(|_| None),
             count: 0,
         }
@@ -56,56 +59,104 @@ fn put_at<T>(places: &mut [Option<T>], at: usize, item: T) -> Option<T> {
     }
 }
 
-/// Bundles of blocks that takers gave back.
+/// Rows of blocks that takers gave back, and empty rows for the takers. An adder makes an empty row for each so many blocks that it makes,
+/// so there are about as many as the tasks that wait, and the takers, ask for.
 pub(crate) struct Spares<X> {
-    bundles: ArrayQueue<Bundle<X>>,
+    full: ArrayQueue<Box<Row<X>>>,
+    empty: ArrayQueue<Box<Row<X>>>,
     alloc: Global,
+}
+
+/// What an adder has of its own: a row, and how many blocks it has asked for since it last made a row for the takers, modulo 32. At 0 it makes
+/// the next one.
+#[derive(Drop)]
+pub(crate) struct AdderRow<X> {
+    row: OwnRow<X>,
+    made: usize,
+}
+
+impl<X> AdderRow<X> {
+    pub(crate) fn new() -> AdderRow<X> {
+        AdderRow { row: None, made: 0 }
+    }
 }
 
 impl<X> Spares<X> {
     pub(crate) fn new(alloc: Global) -> Result<Spares<X>, Memory> {
-        let bundles = ArrayQueue::new(alloc, BUNDLES)?;
-        Ok(Spares { bundles, alloc })
+        let full = ArrayQueue::new(alloc, ROWS)?;
+        let empty = ArrayQueue::new(alloc, ROWS)?;
+        Ok(Spares { full, empty, alloc })
     }
 
     /// A block for an adder's next task: one of its own, or of those that takers gave back, or a new one.
-    pub(crate) fn next<R: Wait>(&self, rt: &R, own: &mut Bundle<X>) -> Option<Block<X>> {
-        match own.pop() {
+    pub(crate) fn next<R: Wait>(&self, rt: &R, own: &mut AdderRow<X>) -> Option<Block<X>> {
+        match pop_own(&mut own.row) {
             Some(block) => Some(block),
             None => self.refill(rt, own),
         }
     }
 
-    // A call of its own, since a bundle is large to move, and most tasks need none.
-    fn refill<R: Wait>(&self, rt: &R, own: &mut Bundle<X>) -> Option<Block<X>> {
-        if let Some(bundle) = self.bundles.pop(rt) {
-            *own = bundle;
-            if let Some(block) = own.pop() {
+    // A call of its own, since most tasks need none.
+    fn refill<R: Wait>(&self, rt: &R, own: &mut AdderRow<X>) -> Option<Block<X>> {
+        if let Some(full) = self.full.pop(rt) {
+            if let Some(used_up) = own.row.replace(full) {
+                let _freed = self.empty.push(rt, used_up);
+            }
+            if let Some(block) = pop_own(&mut own.row) {
                 return Some(block);
             }
         }
+        self.lend_row(rt, own);
         Block::new(self.alloc).ok()
     }
 
-    /// A taker keeps the block of the task that it took, and gives back what it keeps once that is a bundle.
-    pub(crate) fn keep<R: Wait>(&self, rt: &R, own: &mut Bundle<X>, block: Block<X>) {
-        if let Some(block) = own.push(block) {
+    // Makes a row for the takers where one is due. It may go without, where there is no memory.
+    fn lend_row<R: Wait>(&self, rt: &R, own: &mut AdderRow<X>) {
+        if own.made == 0
+            && let Ok(row) = Box::new(self.alloc, Row::new())
+        {
+            let _freed = self.empty.push(rt, row);
+        }
+        own.made = own.made.wrapping_add(1) % ROW;
+    }
+
+    /// A taker keeps the block of the task that it took, and gives back its row once that is full. Where it has no row the block is freed.
+    pub(crate) fn keep<R: Wait>(&self, rt: &R, own: &mut OwnRow<X>, block: Block<X>) {
+        if let Some(block) = push_own(own, block) {
             self.give_back(rt, own);
-            let _none = own.push(block);
+            let _freed = push_own(own, block);
         }
     }
 
-    // A call of its own, as `refill` is. Bundles over are freed.
-    fn give_back<R: Wait>(&self, rt: &R, own: &mut Bundle<X>) {
-        let bundle = mem::replace(own, Bundle::new());
-        let _freed = self.bundles.push(rt, bundle);
+    // A call of its own, as `refill` is. Rows over are freed.
+    fn give_back<R: Wait>(&self, rt: &R, own: &mut OwnRow<X>) {
+        if let Some(full) = mem::replace(own, self.empty.pop(rt)) {
+            let _freed = self.full.push(rt, full);
+        }
+    }
+}
+
+// Takes a block from a row, if there is one that has some.
+fn pop_own<X>(own: &mut OwnRow<X>) -> Option<Block<X>> {
+    match own {
+        Some(row) => row.pop(),
+        None => None,
+    }
+}
+
+// Puts a block into a row, and gives it back where there is no row or no room in it.
+fn push_own<X>(own: &mut OwnRow<X>, block: Block<X>) -> Option<Block<X>> {
+    match own {
+        Some(row) => row.push(block),
+        None => Some(block),
     }
 }
 
 impl<X> Drop for Spares<X> {
     fn drop(self) {
         let Spares {
-            bundles: _,
+            full: _,
+            empty: _,
             alloc: _,
         } = self;
     }

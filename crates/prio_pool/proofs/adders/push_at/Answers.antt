@@ -15,19 +15,13 @@ pub push-requires : goal.push-requires
 push-requires g c =
     let m = c.requires.may in
     let a : AdderSeen = c.index_mut.result.now in
-    let is : a ≡ m.adder = c.index_mut.ensures.value ∙ get_or_from_slice_get c.args.adders.now.items c.args.number m.adder a m.at in (
-      omega arith,
-      (
-        ap (λ (x : AdderSeen). x.queue) is ∙ m.of_queue,
-        (
-          m.own ∙ ap (λ (x : AdderSeen). x.number) (sym is),
-          (
-            subst (λ (x : AdderSeen). All (λ (e : Entry). e.ticket.index < c.args.task.ticket.index) x.pushed) (sym is) m.above,
-            subst (λ (x : AdderSeen). length x.pushed < 4294967296) (sym is) m.room,
-          ),
-        ),
-      ),
-    )
+    let is : a ≡ m.adder = c.index_mut.ensures.value ∙ get_or_from_slice_get c.args.adders.now.items c.args.number m.adder a m.at in
+    record {
+      queue = ap (λ (x : AdderSeen). x.queue) is ∙ m.of_queue;
+      number = m.own ∙ ap (λ (x : AdderSeen). x.number) (sym is);
+      ascends = subst (λ (x : AdderSeen). All (λ (e : Entry). e.ticket.index < c.args.task.ticket.index) x.pushed) (sym is) m.above;
+      room = subst (λ (x : AdderSeen). length x.pushed < 4294967296) (sym is) m.room;
+    }
 
 pub returns-clause-ok : goal.returns-clause-ok
 returns-clause-ok g c =

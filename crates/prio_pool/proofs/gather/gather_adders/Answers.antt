@@ -56,7 +56,7 @@ gather-requires g c =
     let q : SegId Global = c.index.result.now in
     let count : c.len-number.result ≡ length c.loop-adder.gathered.items = omega (arith, c.len-number.ensures) in
     let at = subst (λ n. q ≡ get_or qs n q) count c.index.ensures in
-    (omega arith, next_queue qs c.args.adders.items c.loop-adder.adders.items c.pop.new.self.items c.in-Some.adder c.loop-adder.gathered.items q c.requires.queues i.all c.in-Some.ensures.items at)
+    record { queue = next_queue qs c.args.adders.items c.loop-adder.adders.items c.pop.new.self.items c.in-Some.adder c.loop-adder.gathered.items q c.requires.queues i.all c.in-Some.ensures.items at }
 
 pub loop-adder-preserved : goal.loop-adder-preserved
 loop-adder-preserved g c =

@@ -7,7 +7,7 @@ use Rattle.prio_pool.proofs.gather.put_adder_at.Goals as goal
 pub put_adder-requires : goal.put_adder-requires
 put_adder-requires g c =
     let queue = found_queue c.args.gathered.now.items c.args.number c.args.queue.now c.requires.at c.index_mut.result.now c.index_mut.ensures.value in
-    (omega arith, (queue, c.requires.queue))
+    record { queue = (queue, c.requires.queue) }
 
 pub returns : goal.returns
 returns g c =

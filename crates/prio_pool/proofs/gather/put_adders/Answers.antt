@@ -36,17 +36,15 @@ put_adder_at-requires g c =
     let left : n ≡ length more = omega (arith, c.len-number.ensures) in
     let whole : more ++ x ∷ i.done ≡ c.args.adders.items = sym (append_assoc more (x ∷ []) i.done) ∙ (ap (λ (l : List AdderSeen). l ++ i.done) (sym c.in-Some.ensures.items) ∙ i.all) in
     let seen : map (λ (y : AdderSeen). y.queue) (more ++ x ∷ i.done) ≡ qs = ap (map (λ (y : AdderSeen). y.queue)) whole ∙ c.requires.queues in
-    let here : slice_get qs (length more) ≡ Some x.queue = subst (λ (l : List (SegId Global)). slice_get l (length more) ≡ Some x.queue) seen (middle (λ (y : AdderSeen). y.queue) more x i.done) in (
-      omega arith,
-      (
-        record {
-          one = h.one;
-          at = ap (λ (l : List GatheredSeen). slice_get l n) now ∙ (still_there and_adder n old i.done ∙ h.at);
-          of_queue = h.of_queue;
-        },
-        same_queue qs (length more) x.queue q here (subst (λ (k : ℕ). q ≡ get_or qs k q) left c.index.ensures),
-      ),
-    )
+    let here : slice_get qs (length more) ≡ Some x.queue = subst (λ (l : List (SegId Global)). slice_get l (length more) ≡ Some x.queue) seen (middle (λ (y : AdderSeen). y.queue) more x i.done) in
+    record {
+      at = record {
+        one = h.one;
+        at = ap (λ (l : List GatheredSeen). slice_get l n) now ∙ (still_there and_adder n old i.done ∙ h.at);
+        of_queue = h.of_queue;
+      };
+      queue = same_queue qs (length more) x.queue q here (subst (λ (k : ℕ). q ≡ get_or qs k q) left c.index.ensures);
+    }
 
 pub loop-adder-preserved : goal.loop-adder-preserved
 loop-adder-preserved g c =

@@ -7,7 +7,7 @@ use Rattle.prio_pool.proofs.gather.put_taker_at.Goals as goal
 pub put_taker-requires : goal.put_taker-requires
 put_taker-requires g c =
     let queue = found_queue c.args.gathered.now.items c.args.number c.args.queue.now c.requires.at c.index_mut.result.now c.index_mut.ensures.value in
-    (omega arith, (queue, c.requires.queue))
+    record { queue = (queue, c.requires.queue) }
 
 pub returns : goal.returns
 returns g c =

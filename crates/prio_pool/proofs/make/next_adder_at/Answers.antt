@@ -1,4 +1,4 @@
-use Rattle.std.proofs.Common.{◌≡◌, ℕ, ◌+◌, ◌-◌, ◌<◌, [], ◌∙◌, set, ap, sym, subst, arith}
+use Rattle.std.proofs.Common.{◌≡◌, ℕ, ◌+◌, ◌-◌, ◌<◌, [], ◌∙◌, set, ap, sym, subst}
 use Rattle.std.specs.declared.alloc.Global.{Global}
 use Rattle.crossbeam_queue.specs.SegTies.{SegId}
 use Rattle.task_queue.specs.Seen.{MakerSeen, AdderSeen}
@@ -19,7 +19,7 @@ next_adder-requires g c =
     let is = maker_at c.args.counts c.args.queue.now c.args.makers.now.items c.args.number c.index_mut.result.now c.requires.maker c.index_mut.ensures.value in
     let left : 0 < c.index_mut.result.now.left = subst (λ (n : ℕ). 0 < n) (sym (ap (λ (m : MakerSeen). m.left) is)) c.requires.some in
     let few : c.index_mut.result.now.adders < 64 = subst (λ (n : ℕ). n < 64) (sym (ap (λ (m : MakerSeen). m.adders) is)) c.requires.few in
-    (omega arith, (ap (λ (m : MakerSeen). m.queue) is, (left, few)))
+    record { queue = ap (λ (m : MakerSeen). m.queue) is; left = left; few = few }
 
 pub returns-clause-makers : goal.returns-clause-makers
 returns-clause-makers g c =

@@ -1,4 +1,4 @@
-use Rattle.std.proofs.Common.{◌≡◌, ℕ, ◌+◌, ◌-◌, ◌<◌, [], ◌∙◌, set, ap, sym, subst, arith}
+use Rattle.std.proofs.Common.{◌≡◌, ℕ, ◌+◌, ◌-◌, ◌<◌, [], ◌∙◌, set, ap, sym, subst}
 use Rattle.std.specs.declared.alloc.Global.{Global}
 use Rattle.crossbeam_queue.specs.SegTies.{SegId}
 use Rattle.task_queue.specs.Seen.{MakerSeen, TakerSeen}
@@ -17,7 +17,7 @@ pass c q m t is made = made ∙ (λ i. record { queue = q; passes = (is i).passe
 pub next_taker-requires : goal.next_taker-requires
 next_taker-requires g c =
     let is = maker_at c.args.counts c.args.queue.now c.args.makers.now.items c.args.number c.index_mut.result.now c.requires.maker c.index_mut.ensures.value in
-    (omega arith, (ap (λ (m : MakerSeen). m.queue) is, subst (λ (n : ℕ). 0 < n) (sym (ap (λ (m : MakerSeen). m.left) is)) c.requires.some))
+    record { queue = ap (λ (m : MakerSeen). m.queue) is; left = subst (λ (n : ℕ). 0 < n) (sym (ap (λ (m : MakerSeen). m.left) is)) c.requires.some }
 
 pub returns-clause-makers : goal.returns-clause-makers
 returns-clause-makers g c =

@@ -16,7 +16,10 @@ next_taker_at-requires g c =
     let q : SegId Global = c.index.result.now in
     let within : k < length qs = omega (arith, c.loop-number-test.true, c.len-number-end.ensures) in
     let at : slice_get qs k ≡ Some q = slice_get-get_or qs k q within ∙ ap (λ (x : SegId Global). Some x) (sym c.index.ensures) in
-    (omega arith, (subst (λ (l : List MakerSeen). slice_get l k ≡ Some (maker c.args.counts q)) (sym c.loop-number.invariant.makers) (mixed_at (maker (one_taker c.args.counts)) (maker c.args.counts) qs k q at), c.requires.some))
+    record {
+      maker = subst (λ (l : List MakerSeen). slice_get l k ≡ Some (maker c.args.counts q)) (sym c.loop-number.invariant.makers) (mixed_at (maker (one_taker c.args.counts)) (maker c.args.counts) qs k q at);
+      some = c.requires.some;
+    }
 
 pub loop-number-preserved : goal.loop-number-preserved
 loop-number-preserved g c =

@@ -19,4 +19,4 @@ index_mut-requires g c = omega (arith, slice_get_within c.args.takers.now.items 
 pub take-requires : goal.take-requires
 take-requires g c =
     let is = c.index_mut.ensures.value ∙ get_or_from_slice_get c.args.takers.now.items c.args.number c.requires.taker c.index_mut.result.now c.requires.at in
-    (omega arith, ap (λ (t : TakerSeen). t.queue) is ∙ c.requires.of_queue)
+    record { queue = ap (λ (t : TakerSeen). t.queue) is ∙ c.requires.of_queue }

@@ -21,14 +21,13 @@ push_at-requires g c =
     let a = c.self.inside in
     let p : PassSeen = adders_seen a in
     let is : p ≡ c.args.self.now = c.self.view_is in
-    let count_is = adds_count a.count p c.self.invariant.adds in (
-      omega arith,
-      may_push a.adders.items p a.passes a.count c.args.number c.args.queue.now c.args.task.ticket refl refl c.self.invariant.each c.self.invariant.adds
+    let count_is = adds_count a.count p c.self.invariant.adds in record {
+      may = may_push a.adders.items p a.passes a.count c.args.number c.args.queue.now c.args.task.ticket refl refl c.self.invariant.each c.self.invariant.adds
           (subst (λ (n : ℕ). c.args.number < n) (length-map a.adders.items (λ (x : AdderSeen). x.queue)) (subst (λ (x : PassSeen). c.args.number < length x.pool.queues) (sym is) c.requires.within))
           (subst (λ (x : PassSeen). slice_index_or x.pool.queues c.args.number c.args.queue.now ≡ c.args.queue.now) (sym is) c.requires.queue)
           (own g p c.args.self.now a.count c.args.task.ticket is c.self.invariant.adds c.requires.ticket)
-          (subst (λ (n : ℕ). n < 4294967295) (sym count_is) (subst (λ (x : PassSeen). length (adds_of x) < 4294967295) (sym is) c.requires.room)),
-    )
+          (subst (λ (n : ℕ). n < 4294967295) (sym count_is) (subst (λ (x : PassSeen). length (adds_of x) < 4294967295) (sym is) c.requires.room));
+    }
 
 pub invariant_of-self : goal.invariant_of-self
 invariant_of-self g c =

@@ -11,11 +11,8 @@ use Rattle.prio_pool.proofs.takers.Takers.try_queue.Goals as goal
 
 pub take_at-requires : goal.take_at-requires
 take_at-requires g c =
-    let items = c.self.inside.takers.items in (
-      omega arith,
-      has_taker items c.args.number c.args.queue.now (omega (arith, c.self.invariant.taken.few, length-map items (λ (x : TakerSeen). x.popped)))
-          (subst (λ (t : TakersSeen). slice_get t.pool.queues c.args.number ≡ Some c.args.queue.now) (sym c.self.view_is) c.requires.queue),
-    )
+    let items = c.self.inside.takers.items in has_taker items c.args.number c.args.queue.now (omega (arith, c.self.invariant.taken.few, length-map items (λ (x : TakerSeen). x.popped)))
+    (subst (λ (t : TakersSeen). slice_get t.pool.queues c.args.number ≡ Some c.args.queue.now) (sym c.self.view_is) c.requires.queue)
 
 pub invariant_of-self : goal.invariant_of-self
 invariant_of-self g c =
