@@ -29,6 +29,8 @@
 //! * the pool was stopped exactly where it is asked (`stopped`), and behind a stop, whether memory was refused or not, as many
 //!   tasks are told as accepted as were added, each record is of one of these, no two of one, and the others were handed back
 //!   (`account`, which doesn't say that these then ran);
+//! * behind a join, in the same way, each task that was added has one record among those of what the pool ran, and nothing was
+//!   handed back (`ran`);
 //! * what the front ran of late tasks are the first of them, in order, where its world notes no refusal (`late`); a refusal
 //!   that it noted before stays noted (`refused`);
 //! * behind a stop, where no memory was refused, the replies of all cancelled queries were posted (`posted`); without one
