@@ -1,7 +1,7 @@
 -- Scores by places: those of a word summed with those before, and what they come to.
-use Rattle.std.proofs.Common.{◌≡◌, ℕ, zero, suc, ◌+◌, ◌-◌, ◌*◌, ◌<◌, ◌≤◌, ◌^◌, List, [], ◌∷◌, ◌++◌, length, Bool, true, false, ◌||◌, cond, ltb, get_or, replicate, refl, sym, ap, ◌∙◌, subst, arith, take, drop, map, filter, zip, inl, inr, append_assoc, drop-cons, zero-add}
+use Rattle.std.proofs.Common.{◌≡◌, ℕ, zero, suc, ◌+◌, ◌-◌, ◌*◌, ◌<◌, ◌≤◌, ◌^◌, List, [], ◌∷◌, ◌++◌, length, Bool, true, false, ◌||◌, cond, ltb, get_or, replicate, refl, sym, ap, ◌∙◌, subst, arith, take, drop, map, filter, zip, append_assoc, drop-cons, zero-add}
 use Rattle.std.specs.List.{All, AllByRecursion}
-use Rattle.std.proofs.lemmas.Bool.{cases_lt, le-ltb, lt-ltb, or_parts}
+use Rattle.std.proofs.lemmas.Bool.{le-ltb, lt-ltb, or_parts}
 use Rattle.std.proofs.lemmas.List.{drop_all, take_all}
 use Rattle.std.proofs.Common.{length-drop}
 use Rattle.fan_base.specs.declared.doc.Doc.{Doc}
@@ -209,7 +209,7 @@ times-fit scored places times weight j h within =
     (subst (λ (ss : List (ℕ × ℕ)). AllByRecursion (λ s. s.1 < 2 ^ 64) ss) (sym (told-scored weight h.word places times h.docs h.stand))
     (scored-fit (2 ^ 64) 0 (has_word h.word) (λ d. times_in d h.word * weight) h.docs (weighed-fit (2 ^ 64) weight h.word h.score h.docs h.room)))
 
--- a step of the loop: what is summed so far, and the sums of what is left
+-- what is summed so far, and the sums of what is left
 
 from_here : (xs : List (ℕ × ℕ)) (i : ℕ) → i < length xs → drop i xs ≡ get_or xs i (0, 0) ∷ drop (i + 1) xs
 from_here xs i within = drop-cons xs i (0, 0) within ∙ ap (λ n. get_or xs i (0, 0) ∷ drop n xs) (let e : suc i ≡ i + 1 = omega arith in e)
@@ -223,15 +223,11 @@ weighed-here weight (p ∷ ps) (t ∷ ts) (suc j) many within =
     weighed-here weight ps ts j (omega (arith, many)) (omega (arith, within))
     ∙ ap (λ n. (get_or ps j 0, get_or ts j 0 * weight) ∷ weighed weight (drop n (p ∷ ps)) (drop n (t ∷ ts))) (let e : suc (j + 1) ≡ suc j + 1 = omega arith in e)
 
-step : (xs ys kept kept' whole one left : List (ℕ × ℕ)) → kept ++ summed xs ys ≡ whole → summed xs ys ≡ one ++ left → kept' ≡ kept ++ one → kept' ++ left ≡ whole
-step xs ys kept kept' whole one left so_far here more =
-    ap (λ zs. zs ++ left) more ∙ (append_assoc kept one left ∙ (ap (λ zs. kept ++ zs) (sym here) ∙ so_far))
-
 all-behind : (n : ℕ) (xs ys : List (ℕ × ℕ)) → AllByRecursion (λ s. s.1 < n) (xs ++ ys) → AllByRecursion (λ s. s.1 < n) ys
 all-behind n [] ys h = h
 all-behind n (x ∷ xs) ys h = all-behind n xs ys h.1
 
-module _ (xs : List (ℕ × ℕ)) (ps ts : List ℕ) (weight : ℕ) (kept kept' whole : List (ℕ × ℕ)) (i j : ℕ) (many : length ts ≡ length ps) (within : j < length ps)
+module _ (xs : List (ℕ × ℕ)) (ps ts : List ℕ) (weight : ℕ) (kept whole : List (ℕ × ℕ)) (i j : ℕ) (many : length ts ≡ length ps) (within : j < length ps)
     (so_far : kept ++ summed (drop i xs) (weighed weight (drop j ps) (drop j ts)) ≡ whole) where
   abbrev pub first : ℕ × ℕ
   first = get_or xs i (0, 0)
@@ -252,26 +248,6 @@ module _ (xs : List (ℕ × ℕ)) (ps ts : List ℕ) (weight : ℕ) (kept kept' 
   sum-fits n fit some same =
       (subst (λ (ss : List (ℕ × ℕ)). AllByRecursion (λ s. s.1 < n) ss) (sum-here some same)
       (all-behind n kept (summed (drop i xs) (weighed weight (drop j ps) (drop j ts))) (subst (λ (ss : List (ℕ × ℕ)). AllByRecursion (λ s. s.1 < n) ss) (sym so_far) fit))).0
-
-  pub step-lower : i < length xs → first.0 < get_or ps j 0 → kept' ≡ kept ++ first ∷ [] → kept' ++ summed (drop (i + 1) xs) (weighed weight (drop j ps) (drop j ts)) ≡ whole
-  step-lower some low more = step (drop i xs) (weighed weight (drop j ps) (drop j ts)) kept kept' whole (first ∷ []) (summed (drop (i + 1) xs) (weighed weight (drop j ps) (drop j ts))) so_far
-      (both some ∙ (summed-first first second (drop (i + 1) xs) behind low
-      ∙ ap (λ zs. first ∷ summed (drop (i + 1) xs) zs) (sym (weighed-here weight ps ts j many within)))) more
-
-  pub step-same : i < length xs → first.0 ≡ get_or ps j 0 → kept' ≡ kept ++ (get_or ps j 0, first.1 + get_or ts j 0 * weight) ∷ [] → kept' ++ summed (drop (i + 1) xs) (weighed weight (drop (j + 1) ps) (drop (j + 1) ts)) ≡ whole
-  step-same some same more = step (drop i xs) (weighed weight (drop j ps) (drop j ts)) kept kept' whole ((get_or ps j 0, first.1 + get_or ts j 0 * weight) ∷ []) (summed (drop (i + 1) xs) behind) so_far
-      (sum-here some same) more
-
-  alone : (i < length xs → get_or ps j 0 < first.0) → summed (drop i xs) (second ∷ behind) ≡ second ∷ summed (drop i xs) behind
-  alone high = elim (cases_lt i (length xs)) [
-    | inl some ↦ ap (λ zs. summed zs (second ∷ behind)) (from_here xs i some) ∙ (summed-second first second (drop (i + 1) xs) behind (high some)
-        ∙ ap (λ zs. second ∷ summed zs behind) (sym (from_here xs i some)))
-    | inr past ↦ ap (λ zs. summed zs (second ∷ behind)) (drop_all i xs past) ∙ ap (λ zs. second ∷ summed zs behind) (sym (drop_all i xs past))
-  ]
-
-  pub step-alone : (i < length xs → get_or ps j 0 < first.0) → kept' ≡ kept ++ (get_or ps j 0, get_or ts j 0 * weight) ∷ [] → kept' ++ summed (drop i xs) (weighed weight (drop (j + 1) ps) (drop (j + 1) ts)) ≡ whole
-  step-alone high more = step (drop i xs) (weighed weight (drop j ps) (drop j ts)) kept kept' whole (second ∷ []) (summed (drop i xs) behind) so_far
-      (ap (λ zs. summed (drop i xs) zs) (weighed-here weight ps ts j many within) ∙ alone high) more
 
 -- the end of the loop, and what is left of the first list
 pub summed-end : (xs : List (ℕ × ℕ)) (ps ts : List ℕ) (weight : ℕ) (kept more whole : List (ℕ × ℕ)) (i j : ℕ) → length ps ≤ j

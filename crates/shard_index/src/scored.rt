@@ -1,4 +1,4 @@
-ghost use Rattle.std.specs.Prelude.{◌≡◌, ◌+◌, ◌*◌, ◌<◌, ◌≤◌, ◌||◌, ℕ, All, Bool, List, IfOk, false, get_or, length, map, take, true};
+ghost use Rattle.std.specs.Prelude.{◌≡◌, ◌+◌, ◌*◌, ◌^◌, ◌<◌, ◌||◌, ℕ, All, Bool, List, IfOk, get_or, length, map, nat_lt, take, if◌then◌else◌};
 ghost use Rattle.fan_base.specs.declared.doc.Doc.{Doc};
 ghost use Rattle.fan_base.specs.declared.word.Word.{Word};
 ghost use Rattle.query_model.specs.Answers.{ranked, times_in};
@@ -10,7 +10,7 @@ use fan_base::Scores;
 use std::alloc::{AllocError, Global};
 
 /// The scores of documents by their places, with one word more: the places where it stands, beside each how often, and its weight. All
-/// places ascend.
+/// places ascend. How far each list is gone is counted without a branch: which of two places is lower can't be foreseen.
 pub fn with_places(
     alloc: Global,
     scored: &[(u32, u64)],
@@ -25,43 +25,34 @@ pub fn with_places(
     let mut more = Vec::with_capacity(alloc, scored.len().saturating_add(places.len()))?;
     let mut i = 0;
     let mut j = 0;
+    'both: while i < scored.len() && j < places.len() {
+        let (place, total) = scored[i];
+        let other = places[j];
+        let added = u64::from(times[j]) * weight;
+        more.push_reserved((place.min(other), at_lower(place, total, other, added)));
+        i += usize::from(place <= other);
+        j += usize::from(other <= place);
+    }
     'places: while j < places.len() {
-        let place = places[j];
-        if is_below(scored, i, place) {
-            more.push(scored[i])?;
-            i += 1;
-        } else {
-            let added = u64::from(times[j]) * weight;
-            if is_at(scored, i, place) {
-                more.push((place, scored[i].1 + added))?;
-                i += 1;
-            } else {
-                more.push((place, added))?;
-            }
-            j += 1;
-        }
+        more.push_reserved((places[j], u64::from(times[j]) * weight));
+        j += 1;
     }
     more.extend_from_slice(&scored[i..])?;
     Ok(more)
 }
 
-/// Whether a place stands at an index, and is below another.
-fn is_below(scored: &[(u32, u64)], i: usize, place: u32) -> bool
-    ensures within { result ≡ true → i < length scored.now }
-    ensures below { result ≡ true → (get_or scored.now i (0, 0)).0 < place }
-    ensures other { result ≡ false → i < length scored.now → place ≤ (get_or scored.now i (0, 0)).0 }
+/// The number at the lower of two places, or the sum of both where the places are one.
+fn at_lower(place: u32, total: u64, other: u32, added: u64) -> u64
+    requires { place ≡ other → total + added < 2 ^ 64 }
+    ensures { result ≡ (if nat_lt place other then total else if nat_lt other place then added else total + added) }
 {
-    i < scored.len() && scored[i].0 < place
-}
-
-/// Whether a place stands at an index, where none below it does.
-fn is_at(scored: &[(u32, u64)], i: usize, place: u32) -> bool
-    requires { i < length scored.now → place ≤ (get_or scored.now i (0, 0)).0 }
-    ensures within { result ≡ true → i < length scored.now }
-    ensures same { result ≡ true → (get_or scored.now i (0, 0)).0 ≡ place }
-    ensures other { result ≡ false → i < length scored.now → place < (get_or scored.now i (0, 0)).0 }
-{
-    i < scored.len() && scored[i].0 == place
+    if place == other {
+        total + added
+    } else if place < other {
+        total
+    } else {
+        added
+    }
 }
 
 /// The first `k` of these scores, those above 0 alone, in the order of ranks, each with the id of its place.

@@ -1,29 +1,26 @@
 use Rattle.std.proofs.Common.{ℕ, ◌*◌, ◌^◌, ap, arith}
-use Rattle.shard_index.proofs.ScoredLemmas.{step-lower, sum-fits, summed, summed-end, summed-is, sums-fit, times-fit, weighed}
+use Rattle.shard_index.proofs.ScoredLemmas.{sum-fits, summed, summed-end, summed-is, sums-fit, times-fit, weighed}
 use Rattle.shard_index.proofs.scored.with_places.Goals as goal
 
 pub returns : goal.returns
 returns c = λ test score word docs before stand.
     summed-is c.args.weight word c.args.scored.now c.extend_from_slice.new.self.items c.args.places.now c.args.times.now test score docs
     (summed-end c.args.scored.now c.args.places.now c.args.times.now c.args.weight c.places.more.items c.extend_from_slice.new.self.items (summed c.args.scored.now (weighed c.args.weight c.args.places.now c.args.times.now))
-    c.places.i c.places.j c.places-test.false c.places.invariant.so_far c.in_ok-extend_from_slice.ensures.items) before stand
-
-pub places-preserved-then-is_below : goal.places-preserved-then-is_below
-places-preserved-then-is_below c = record {
-  within_scored = omega (arith, c.is_below.ensures.within c.if-is_below.true);
-  within_places = c.places.invariant.within_places;
-  so_far = step-lower c.args.scored.now c.args.places.now c.args.times.now c.args.weight c.places.more.items c.push.new.self.items (summed c.args.scored.now (weighed c.args.weight c.args.places.now c.args.times.now))
-      c.places.i c.places.j c.requires.stand.many c.places-test.true c.places.invariant.so_far (c.is_below.ensures.within c.if-is_below.true) (c.is_below.ensures.below c.if-is_below.true) c.in_ok-push.ensures.items;
-}
+    c.both.i c.places.j c.places-test.false c.places.invariant.so_far c.in_ok-extend_from_slice.ensures.items) before stand
 
 pub overflow_mul-added : goal.overflow_mul-added
 overflow_mul-added c =
-    let fits = times-fit c.args.scored.now c.args.places.now c.args.times.now c.args.weight c.places.j c.requires c.places-test.true in
+    let fits = times-fit c.args.scored.now c.args.places.now c.args.times.now c.args.weight c.both.j c.requires c.if-j-places.true in
     omega (arith, fits, ap (λ (n : ℕ). n * c.args.weight) c.from.ensures)
 
-pub overflow_add-scored : goal.overflow_add-scored
-overflow_add-scored c =
-    let fits = sum-fits c.args.scored.now c.args.places.now c.args.times.now c.args.weight c.places.more.items c.places.more.items (summed c.args.scored.now (weighed c.args.weight c.args.places.now c.args.times.now))
-    c.places.i c.places.j c.requires.stand.many c.places-test.true c.places.invariant.so_far (2 ^ 64) (sums-fit c.args.scored.now c.args.places.now c.args.times.now c.args.weight c.requires)
-    (c.is_at.ensures.within c.if-is_at.true) (c.is_at.ensures.same c.if-is_at.true) in
+pub at_lower-requires : goal.at_lower-requires
+at_lower-requires c = λ same.
+    let fits = sum-fits c.args.scored.now c.args.places.now c.args.times.now c.args.weight c.both.more.items (summed c.args.scored.now (weighed c.args.weight c.args.places.now c.args.times.now))
+    c.both.i c.both.j c.requires.stand.many c.if-j-places.true c.both.invariant.so_far (2 ^ 64) (sums-fit c.args.scored.now c.args.places.now c.args.times.now c.args.weight c.requires)
+    c.both-test.true same in
     omega (arith, fits, ap (λ (n : ℕ). n * c.args.weight) c.from.ensures)
+
+pub overflow_mul-from : goal.overflow_mul-from
+overflow_mul-from c =
+    let fits = times-fit c.args.scored.now c.args.places.now c.args.times.now c.args.weight c.places.j c.requires c.places-test.true in
+    omega (arith, fits, ap (λ (n : ℕ). n * c.args.weight) c.from-in-places.ensures)
