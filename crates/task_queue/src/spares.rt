@@ -6,7 +6,7 @@ use std::alloc::Global;
 use std::sync::Wait;
 use std::{array, mem};
 
-/// How many blocks a row has: one step on what all share for so many tasks.
+/// How many blocks a row has. For so many tasks an adder and a taker make a step or two each on what all share.
 const ROW: usize = 32;
 
 /// How many rows wait at most, full ones for the adders and as many empty ones for the takers. Those over are freed, with their blocks.
@@ -59,16 +59,15 @@ fn put_at<T>(places: &mut [Option<T>], at: usize, item: T) -> Option<T> {
     }
 }
 
-/// Rows of blocks that takers gave back, and empty rows for the takers. An adder makes an empty row for each so many blocks that it makes,
-/// so there are about as many as the tasks that wait, and the takers, ask for.
+/// Rows of blocks that takers gave back, and empty rows for the takers. An adder makes an empty row with the first of each so many blocks
+/// that it makes, so there are about as many as the tasks that wait, the adders and the takers ask for.
 pub(crate) struct Spares<X> {
     full: ArrayQueue<Box<Row<X>>>,
     empty: ArrayQueue<Box<Row<X>>>,
     alloc: Global,
 }
 
-/// What an adder has of its own: a row, and how many blocks it has asked for since it last made a row for the takers, modulo 32. At 0 it makes
-/// the next one.
+/// What an adder has of its own: a row, and how many blocks it has made, modulo 32.
 #[derive(Drop)]
 pub(crate) struct AdderRow<X> {
     row: OwnRow<X>,
@@ -106,12 +105,13 @@ impl<X> Spares<X> {
                 return Some(block);
             }
         }
-        self.lend_row(rt, own);
-        Block::new(self.alloc).ok()
+        let block = Block::new(self.alloc).ok()?;
+        self.make_row(rt, own);
+        Some(block)
     }
 
-    // Makes a row for the takers where one is due. It may go without, where there is no memory.
-    fn lend_row<R: Wait>(&self, rt: &R, own: &mut AdderRow<X>) {
+    // Makes a row for the takers with the first of so many blocks. It may go without, where there is no memory.
+    fn make_row<R: Wait>(&self, rt: &R, own: &mut AdderRow<X>) {
         if own.made == 0
             && let Ok(row) = Box::new(self.alloc, Row::new())
         {
