@@ -1,6 +1,7 @@
 -- The fold of the table over every lawful schedule.
-use Rattle.std.proofs.Common.{◌≡◌, ℕ, zero, suc, ◌≤◌, ◌⊎◌, inl, inr, ⊎_elim, List, [], ◌∷◌, ◌++◌, take, drop, refl, sym, ap, ◌∙◌, subst, Option, Some, None, arith}
+use Rattle.std.proofs.Common.{◌≡◌, ℕ, zero, suc, ◌⊎◌, inl, inr, ⊎_elim, List, [], ◌∷◌, ◌++◌, take, drop, refl, sym, ap, ◌∙◌, subst, Option, Some, None}
 use Rattle.std.specs.Prelude.{Bool, true, false, slice_get, ◌↔◌}
+use Rattle.std.proofs.lemmas.List.{take-take}
 use Rattle.core_state.specs.declared.table.State.{State}
 use Rattle.core_state.specs.declared.table.State.TheVariants.{Start, OnlyResult, OnlyCallback, Proxy, Done, Empty, OnlyCallbackAllowInline}
 use Rattle.core_state.specs.declared.table.Act.{Act}
@@ -30,12 +31,6 @@ pub take_with : {A : Type 0} (xs : List A) (n : ℕ) (x : A) → slice_get xs n 
 take_with [] n x e = cc
 take_with (y ∷ ys) zero x e = let same : y ≡ x = cc in ap (λ z. z ∷ []) same
 take_with (y ∷ ys) (suc n) x e = ap (λ zs. y ∷ zs) (take_with ys n x e)
-
-take_shorter : {A : Type 0} (n m : ℕ) (xs : List A) → n ≤ m → take n (take m xs) ≡ take n xs
-take_shorter zero m xs le = refl
-take_shorter (suc n) zero xs le = absurd (omega arith)
-take_shorter (suc n) (suc m) [] le = refl
-take_shorter (suc n) (suc m) (x ∷ xs) le = ap (λ ys. x ∷ ys) (take_shorter n m xs (omega arith))
 
 some_injective : {x y : State} → Some x ≡ Some y → x ≡ y
 some_injective e = cc
@@ -244,6 +239,6 @@ module _ {R K C : Type 0} where
   pub stays : (acts : List (CoreAct R K C)) → IsLawful acts → StaysFinal acts
   stays acts lawful n m state is_end le found =
       let before : state_of (take n acts) ≡ state = some_injective (sym (folds (take n acts) (lawful_before acts n lawful)) ∙ found) in
-      let part : state_of (take n (take m acts)) ≡ state = ap state_of (take_shorter n m acts le) ∙ before in
+      let part : state_of (take n (take m acts)) ≡ state = ap state_of (take-take n m acts le) ∙ before in
       let same : state_of (take m acts) ≡ state_of (take n (take m acts)) = final_state (take m acts) n (subst IsFinal (sym part) (ends_final state is_end)) in
       folds (take m acts) (lawful_before acts m lawful) ∙ ap Some (same ∙ part)

@@ -18,7 +18,8 @@ use Rattle.notify_queue.specs.Delivery.{Delivers, IsKnown, IsWhole, Takes, Shows
 use Rattle.notify_queue.specs.History.{Event, put, taken, puts, takes}
 use Rattle.notify_queue.specs.Stamps.{stamped_of, messages_of}
 use Rattle.notify_queue.proofs.Counts.{length-few}
-use Rattle.notify_queue.proofs.Lists.{some_is, none_some, All-one, All-front, All-back, all_set, all_more, length_set}
+use Rattle.queue_packets.proofs.Views.{some_is, none_some, all_set, all_more}
+use Rattle.notify_queue.proofs.Lists.{All-one, All-front, All-back, length_set}
 use Rattle.notify_queue.proofs.Histories.{puts-append, takes-append, messages_of-append, messages_of-same, messages_of-other, in_order_front, puts-taken, takes-taken, lawful_put, lawful_takes}
 
 -- of a sender that is yet to be made there are no messages

@@ -18,7 +18,8 @@ use Rattle.notify_queue.specs.declared.marks.Marking.{Marking}
 use Rattle.notify_queue.specs.declared.marks.Role.TheVariants.{Sends, Fills, Ended}
 use Rattle.notify_queue.specs.Marks.{Marked, IsMarked, IsShown, IsSlotAt, Stage, is_waiting, is_filling, is_ended, is_read, mark_at, place, look_at, KnowsAll, HasShown, HasMarked, HasLooked, FoundMark, HasRead, Looked, reading, marks_sending, marks_filling, marks_ended}
 use Rattle.notify_queue.specs.Passes.{PassOf}
-use Rattle.notify_queue.proofs.Lists.{some_is, all_set, all_more, length_set}
+use Rattle.queue_packets.proofs.Views.{some_is, all_set, all_more}
+use Rattle.notify_queue.proofs.Lists.{length_set}
 
 -- the word of one sender changes, and what its stage and its puts are
 words_set : (stage stage' : ℕ → Stage) (puts puts' : ℕ → ℕ) (i n word : ℕ) (words : List ℕ) → length words ≡ place n

@@ -14,13 +14,10 @@ use Rattle.pool_model.specs.Seen.{PoolId, PassSeen, Returned, task_of}
 use Rattle.pool_model.specs.Passes.{adds_of, tasks_of, adds_total, passes_with, AreAllPasses}
 use Rattle.pool_model.specs.Accounts.{AllRun, AllRunOrReturned, IsAddOf, is_ticket, tasks_with, records_with, returned_with, RanOnce, RanOrReturnedOnce}
 use Rattle.pool_model.specs.Orders.{IsSameInAnyOrder}
+use Rattle.pool_model.proofs.Lists.{sum_by-ones}
 
 abbrev one_if : Bool → ℕ
 one_if b = cond b 1 0
-
-sum_one : (tasks : List Task) → sum_by (λ (_ : Task). 1) tasks ≡ length tasks
-sum_one [] = refl
-sum_one (t ∷ ts) = omega (arith, sum_one ts, sum_by-cons (λ (_ : Task). 1) t ts)
 
 sum_numbered : (h : Task → ℕ) (adder k : ℕ) (x : Add) (xs : List Add)
     → sum_by h (numbered adder k (x ∷ xs)) ≡ h (record { ticket = record { adder = adder; index = k }; queue = x.queue; head = x.head }) + sum_by h (numbered adder (k + 1) xs)
@@ -102,13 +99,13 @@ some_pass h (p ∷ ps) some = dite (ℕ_discrete (sum_by h (numbered p.number 0 
     (λ e. let r = some_pass h ps (omega (arith, some, e)) in (suc r.0, r.1, r.2, r.3))
     (λ n. (0, p, refl, omega (arith, n)))
 
-length-numbered : (adder k : ℕ) (adds : List Add) → length (numbered adder k adds) ≡ length adds
+pub length-numbered : (adder k : ℕ) (adds : List Add) → length (numbered adder k adds) ≡ length adds
 length-numbered adder k [] = refl
 length-numbered adder k (x ∷ xs) = ap suc (length-numbered adder (k + 1) xs)
 
 total_is : (passes : List PassSeen) → passes_weight (λ _. 1) passes ≡ adds_total passes
 total_is [] = refl
-total_is (p ∷ ps) = omega (arith, total_is ps, sum_one (numbered p.number 0 (adds_of p)), length-numbered p.number 0 (adds_of p), sum_by-cons (λ (q : PassSeen). length (adds_of q)) p ps)
+total_is (p ∷ ps) = omega (arith, total_is ps, sum_by-ones (numbered p.number 0 (adds_of p)), length-numbered p.number 0 (adds_of p), sum_by-cons (λ (q : PassSeen). length (adds_of q)) p ps)
 
 ticket_is : ℕ → ℕ → Ticket → ℕ
 ticket_is a i t = one_if (is_ticket a i t)
@@ -188,7 +185,7 @@ all_adds passes tasks numbers same =
           let a = some_add p.1.number 0 (adds_of p.1) task p.3 in
           record { place = p.0; pass = p.1; at = p.2; number = a.1; add = ap (slice_get (adds_of p.1)) (a.2 ∙ omega arith) ∙ a.3 };
       once = λ k pass i at within. tasks_with-sum pass.number i tasks ∙ (weight (ticket_weight pass.number i) ∙ (one_pass i passes k pass at (once k pass at) ∙ own_index pass.number i 0 (adds_of pass) (omega arith) (omega (arith, within))));
-      many = sym (sum_one tasks) ∙ (weight (λ _. 1) ∙ total_is passes);
+      many = sym (sum_by-ones tasks) ∙ (weight (λ _. 1) ∙ total_is passes);
     }
 
 nth_run : (tasks : List Task) (records : List Record) → AreRunsOf tasks records → (k : ℕ) (r : Record) → slice_get records k ≡ Some r → (task : Task) × (slice_get tasks k ≡ Some task) × IsRunOf task r
@@ -203,6 +200,13 @@ length-runs [] [] all = refl
 length-runs [] (r ∷ rs) all = absurd all
 length-runs (t ∷ ts) [] all = absurd all
 length-runs (t ∷ ts) (r ∷ rs) all = ap suc (length-runs ts rs all.1)
+
+-- the records of two lists of tasks together
+pub runs-append : (ts us : List Task) (rs ss : List Record) → AreRunsOf ts rs → AreRunsOf us ss → AreRunsOf (ts ++ us) (rs ++ ss)
+runs-append [] us [] ss one other = other
+runs-append [] us (r ∷ rs) ss one other = absurd one
+runs-append (t ∷ ts) us [] ss one other = absurd one
+runs-append (t ∷ ts) us (r ∷ rs) ss one other = (one.0, runs-append ts us rs ss one.1 other)
 
 same_count : (a i : ℕ) (tasks : List Task) (records : List Record) → AreRunsOf tasks records → tasks_with a i tasks ≡ records_with a i records
 same_count a i [] [] runs = refl

@@ -2,7 +2,7 @@
 use Rattle.std.proofs.Common.{◌≡◌, ◌≢◌, ℕ, zero, suc, ◌+◌, ◌<◌, ◌≤◌, cond, eqb, Bool, List, [], ◌∷◌, ◌++◌, length, take, Option, Some, refl, sym, ap, ◌∙◌, subst, arith, eq-eqb, ne_eqb}
 use Rattle.std.specs.Prelude.{slice_get, slice_index_or, unwrap_or}
 use Rattle.std.specs.List.{All}
-use Rattle.std.proofs.lemmas.List.{map-append}
+use Rattle.std.proofs.lemmas.List.{map-append, take-take}
 use Rattle.std.proofs.lemmas.List.Sums.{sum_by-cons}
 use Rattle.std.proofs.lemmas.List.Elements.{All-head, All-tail}
 use mathlib.Core.List.{IsPrefix}
@@ -16,12 +16,6 @@ use Rattle.pool_model.specs.Passes.{passes_with, AreAllPasses, AreNumbered}
 use Rattle.pool_model.specs.Tickets.{IsBefore, Ascend, tickets_of}
 use Rattle.pool_model.proofs.Tickets.{ascend-front}
 use Rattle.pool_model.proofs.Histories.{accepts-append, outs_ascend}
-
-take_take : (n m : ℕ) (h : List Event) → n ≤ m → take n (take m h) ≡ take n h
-take_take zero m h le = refl
-take_take (suc n) zero h le = absurd (omega arith)
-take_take (suc n) (suc m) [] le = refl
-take_take (suc n) (suc m) (e ∷ h) le = ap (λ (l : List Event). e ∷ l) (take_take n m h (omega arith))
 
 take_short : (n m : ℕ) (h : List Event) → m ≤ n → take n (take m h) ≡ take m h
 take_short n zero h le = none n
@@ -46,7 +40,7 @@ lawful_begin h lawful m =
     record {
       ascend = ascend-front (tickets_of (accepts (take m h))) (tickets_of (accepts r.0)) (subst Ascend is lawful.ascend);
       in_order = λ n. dite (dec_le n m)
-          (λ le. subst (λ (l : List Event). IsPrefix (outs l) (accepts l)) (sym (take_take n m h le)) (lawful.in_order n))
+          (λ le. subst (λ (l : List Event). IsPrefix (outs l) (accepts l)) (sym (take-take n m h le)) (lawful.in_order n))
           (λ gt. subst (λ (l : List Event). IsPrefix (outs l) (accepts l)) (sym (take_short n m h (omega (arith, gt)))) (lawful.in_order m));
     }
 

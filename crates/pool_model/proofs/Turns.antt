@@ -10,13 +10,13 @@ use Rattle.pool_model.specs.declared.task.Entry.{Entry}
 use Rattle.pool_model.specs.Tasks.{Task}
 use Rattle.pool_model.specs.Steps.{Step, looked, found_empty, took, tasks_taken, empty_from_the_top, Turn, ran, idle, stopped, steps_of, GoesOn, IsLast, Worked, IsSinceTheLastTake, MayTake, TakesFromTheHighest}
 
-taken-append : (xs ys : List Step) → tasks_taken (xs ++ ys) ≡ tasks_taken xs ++ tasks_taken ys
+pub taken-append : (xs ys : List Step) → tasks_taken (xs ++ ys) ≡ tasks_taken xs ++ tasks_taken ys
 taken-append [] ys = refl
 taken-append (looked found ∷ xs) ys = taken-append xs ys
 taken-append (found_empty queue ∷ xs) ys = taken-append xs ys
 taken-append (took queue e ∷ xs) ys = ap (λ (l : List Task). record { ticket = e.ticket; queue = queue; head = e.head } ∷ l) (taken-append xs ys)
 
-none_taken : (queues count : ℕ) → tasks_taken (empty_from_the_top queues count) ≡ []
+pub none_taken : (queues count : ℕ) → tasks_taken (empty_from_the_top queues count) ≡ []
 none_taken queues zero = refl
 none_taken queues (suc count) = taken-append (empty_from_the_top queues count) (found_empty (queues - suc count) ∷ []) ∙ ap (λ (l : List Task). l ++ []) (none_taken queues count)
 

@@ -13,8 +13,8 @@ use Rattle.pool_runs.specs.declared.placed.Placed.{Placed}
 use Rattle.pool_runs.specs.Returning.{back_of}
 use Rattle.pool_runs.specs.Running.{Drained, DrainedSoFar, RanOnce, task_in}
 use Rattle.job_trait.proofs.Histories.{leads_more}
-use Rattle.pool_runs.proofs.Lists.{one_over}
-use Rattle.pool_runs.proofs.Lists.{runs-append}
+use Rattle.pool_model.proofs.Accounts.{runs-append}
+use Rattle.pool_model.proofs.Lists.{one_over}
 
 module _ {J W : Type 0} (head : J → Head) (runs : JobId → W → Mark → W → Type 0) where
   pub drained_none : (tasks : List (Returned J)) (records : List Record) (w : W) → records ≡ [] → DrainedSoFar head runs tasks tasks records w w

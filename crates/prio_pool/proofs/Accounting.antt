@@ -24,7 +24,7 @@ use Rattle.pool_runs.specs.declared.placed.Placed.{Placed}
 use Rattle.prio_pool.specs.Adders.{entry_of}
 use Rattle.prio_pool.specs.Gathering.{gathered_at, gathered_from, AllSettled, IsWhole}
 use Rattle.pool_runs.specs.Returning.{back_of, back_from}
-use Rattle.pool_runs.proofs.Lists.{runs-append}
+use Rattle.pool_model.proofs.Accounts.{runs-append}
 
 all_of_map : {X Y : Type 0} (f : X → Y) (P : Y → Type 0) (xs : List X) → All P (map f xs) → All (λ x. P (f x)) xs
 all_of_map f P [] all = All-nil (λ (x : _). P (f x))

@@ -3,10 +3,11 @@ use Rattle.std.proofs.Common.{◌≡◌, ◌≢◌, ℕ, zero, suc, ◌+◌, ◌
 use Rattle.std.specs.Prelude.{slice_get, slice_index_or, unwrap_or}
 use Rattle.std.specs.List.{All, filter, sum_by, range_with_len}
 use Rattle.std.specs.declared.alloc.Global.{Global}
-use Rattle.std.proofs.lemmas.List.{map-append, length-map}
-use Rattle.std.proofs.lemmas.List.Elements.{filter-append, All-append, All-cons, All-head, All-tail, All-nil, All-weaker}
+use Rattle.std.proofs.lemmas.List.{map-append, length-map, length-set}
+use Rattle.std.proofs.lemmas.List.Elements.{filter-append, All-append, All-cons, All-head, All-tail, All-nil, All-set, All-weaker}
 use Rattle.std.proofs.lemmas.List.FromFn.{map-range_with_len_more, length-map-range_with_len}
 use Rattle.std.proofs.lemmas.List.Sums.{sum_by-append, sum_by-cons, sum_by_push}
+use Rattle.std.proofs.lemmas.Option.{slice_get_within}
 use Rattle.crossbeam_queue.specs.SegTies.{SegId}
 use Rattle.pool_model.specs.declared.task.Ticket.{Ticket}
 use Rattle.pool_model.specs.declared.task.Entry.{Entry}
@@ -16,6 +17,7 @@ use Rattle.pool_model.specs.Tasks.{Task, Add, add_of, in_queue, upwards, numbere
 use Rattle.pool_model.proofs.Lists.{All-front}
 use Rattle.task_queue.specs.Seen.{AdderSeen}
 use Rattle.prio_pool.specs.Adders.{AreAdds, MayPush, PushedAt}
+use Rattle.prio_pool.proofs.Lists.{all_get, entry_more, map_same}
 
 abbrev pub task_at : ℕ → Entry → Task
 task_at q e = record { ticket = e.ticket; queue = q; head = e.head }
@@ -166,34 +168,11 @@ adds_more count p k e within are ticket =
       adds = adds;
     }
 
--- what contracts see of the passes of each queue, where one pushed more
-pub queues_same : (old : List AdderSeen) (k : ℕ) (a b : AdderSeen) → slice_get old k ≡ Some a → b.queue ≡ a.queue → map (λ (p : AdderSeen). p.queue) (set old k b) ≡ map (λ (p : AdderSeen). p.queue) old
-queues_same [] k a b at same = cc
-queues_same (x ∷ xs) zero a b at same =
-    let is : x ≡ a = ap (λ (o : Option AdderSeen). unwrap_or o x) at in
-    let e : b.queue ≡ x.queue = same ∙ sym (ap (λ (p : AdderSeen). p.queue) is) in
-    (λ i. e i ∷ map (λ (p : AdderSeen). p.queue) xs)
-queues_same (x ∷ xs) (suc k) a b at same = ap (λ (l : List (SegId Global)). x.queue ∷ l) (queues_same xs k a b at same)
-
-pub pushed_set : (old : List AdderSeen) (k : ℕ) (a b : AdderSeen) (e : Entry) → slice_get old k ≡ Some a → b.pushed ≡ a.pushed ++ e ∷ []
-    → map (λ (p : AdderSeen). p.pushed) (set old k b) ≡ set (map (λ (p : AdderSeen). p.pushed) old) k (at_queue (map (λ (p : AdderSeen). p.pushed) old) k ++ e ∷ [])
-pushed_set [] k a b e at same = cc
-pushed_set (x ∷ xs) zero a b e at same =
-    let is : x ≡ a = ap (λ (o : Option AdderSeen). unwrap_or o x) at in
-    let pushed : b.pushed ≡ x.pushed ++ e ∷ [] = same ∙ ap (λ (p : AdderSeen). p.pushed ++ e ∷ []) (sym is) in
-    (λ i. pushed i ∷ map (λ (p : AdderSeen). p.pushed) xs)
-pushed_set (x ∷ xs) (suc k) a b e at same = ap (λ (l : List (List Entry)). x.pushed ∷ l) (pushed_set xs k a b e at same)
-
+-- the pass of this queue may push the next task
 pub at_get : {X : Type 0} (xs : List X) (k : ℕ) → k < length xs → (x : X) × (slice_get xs k ≡ Some x)
 at_get [] k within = absurd (omega (arith, within))
 at_get (x ∷ xs) zero within = (x, refl)
 at_get (x ∷ xs) (suc k) within = at_get xs k (omega (arith, within))
-
--- the pass of this queue may push the next task
-all_get : {X : Type 0} (P : X → Type 0) (xs : List X) (k : ℕ) (x : X) → All P xs → slice_get xs k ≡ Some x → P x
-all_get P [] k x all at = cc
-all_get P (y ∷ ys) zero x all at = subst P (ap (λ (o : Option _). unwrap_or o y) at) (All-head P y ys all)
-all_get P (y ∷ ys) (suc k) x all at = all_get P ys k x (All-tail P y ys all) at
 
 -- what one queue's pass pushed is among all that was pushed
 all_in : (P : Task → Type 0) (first : ℕ) (items : List AdderSeen) (k : ℕ) (a : AdderSeen) → slice_get items k ≡ Some a → All P (upwards first (map (λ (p : AdderSeen). p.pushed) items)) → All P (in_queue (first + k) a.pushed)
@@ -251,11 +230,6 @@ may_push items p passes count k queue ticket pushed queues each are within of is
     queue_at (x ∷ xs) zero a q at is = sym (ap (λ (p : AdderSeen). p.queue) (ap (λ (o : Option AdderSeen). unwrap_or o x) at)) ∙ is
     queue_at (x ∷ xs) (suc k) a q at is = queue_at xs k a q at is
 
-set_all : {X : Type 0} (P : X → Type 0) (xs : List X) (k : ℕ) (y : X) → All P xs → P y → All P (set xs k y)
-set_all P [] k y all p = all
-set_all P (x ∷ xs) zero y all p = All-cons P y xs p (All-tail P x xs all)
-set_all P (x ∷ xs) (suc k) y all p = All-cons P x (set xs k y) (All-head P x xs all) (set_all P xs k y (All-tail P x xs all) p)
-
 -- the passes of each queue, where one pushed more
 pub record Now (p : PassSeen) (count passes k : ℕ) (e : Entry) (items new : List AdderSeen) : Type 0 where
   pub queues : map (λ (a : AdderSeen). a.queue) new ≡ map (λ (a : AdderSeen). a.queue) items
@@ -264,27 +238,17 @@ pub record Now (p : PassSeen) (count passes k : ℕ) (e : Entry) (items new : Li
   pub as_many : length new ≡ length items
   pub more : MoreAdds count p (record p { pushed = set p.pushed k (at_queue p.pushed k ++ e ∷ []) }) record { queue = k; head = e.head }
 
-pub length-set : {X : Type 0} (xs : List X) (k : ℕ) (y : X) → length (set xs k y) ≡ length xs
-length-set [] k y = refl
-length-set (x ∷ xs) zero y = refl
-length-set (x ∷ xs) (suc k) y = ap suc (length-set xs k y)
-
-within_get : {X : Type 0} (xs : List X) (k : ℕ) (x : X) → slice_get xs k ≡ Some x → k < length xs
-within_get [] k x at = cc
-within_get (y ∷ ys) zero x at = omega arith
-within_get (y ∷ ys) (suc k) x at = let h = within_get ys k x at in omega (arith, h)
-
 pub now_is : (p : PassSeen) (count passes k : ℕ) (e : Entry) (items new : List AdderSeen) → p.pushed ≡ map (λ (a : AdderSeen). a.pushed) items → All (λ a. (a.passes ≡ passes) × (a.number ≡ p.number)) items
     → PushedAt items k e new → AreAdds count p → e.ticket ≡ record { adder = p.number; index = count } → Now p count passes k e items new
 now_is p count passes k e items new pushed each did are ticket =
     let a = did.adder in
     let b : AdderSeen = record a { pushed = a.pushed ++ e ∷ [] } in
     let own = all_get (λ (x : AdderSeen). (x.passes ≡ passes) × (x.number ≡ p.number)) items k a each did.at in
-    let within : k < length p.pushed = omega (arith, within_get items k a did.at, ap length pushed, length-map items (λ (x : AdderSeen). x.pushed)) in
+    let within : k < length p.pushed = omega (arith, slice_get_within items k a did.at, ap length pushed, length-map items (λ (x : AdderSeen). x.pushed)) in
     record {
-      queues = ap (map (λ (x : AdderSeen). x.queue)) did.new_is ∙ queues_same items k a b did.at refl;
-      pushed = ap (map (λ (x : AdderSeen). x.pushed)) did.new_is ∙ pushed_set items k a b e did.at refl;
-      each = subst (All (λ (x : AdderSeen). (x.passes ≡ passes) × (x.number ≡ p.number))) (sym did.new_is) (set_all (λ (x : AdderSeen). (x.passes ≡ passes) × (x.number ≡ p.number)) items k b each own);
+      queues = ap (map (λ (x : AdderSeen). x.queue)) did.new_is ∙ map_same (λ (x : AdderSeen). x.queue) items k a b did.at refl;
+      pushed = ap (map (λ (x : AdderSeen). x.pushed)) did.new_is ∙ entry_more (λ (x : AdderSeen). x.pushed) items k a b e did.at refl;
+      each = subst (All (λ (x : AdderSeen). (x.passes ≡ passes) × (x.number ≡ p.number))) (sym did.new_is) (All-set (λ (x : AdderSeen). (x.passes ≡ passes) × (x.number ≡ p.number)) items k b own each);
       as_many = ap length did.new_is ∙ length-set items k b;
       more = adds_more count p k e within are ticket;
     }

@@ -1,5 +1,5 @@
 -- What a pool that has ended says to its caller.
-use Rattle.std.proofs.Common.{◌≡◌, ℕ, suc, ◌+◌, List, [], ◌∷◌, ◌++◌, length, length-append, map, Option, Some, refl, sym, ap, ◌∙◌, subst, arith}
+use Rattle.std.proofs.Common.{◌≡◌, ℕ, ◌+◌, List, [], ◌∷◌, ◌++◌, length, length-append, map, Option, Some, refl, sym, ap, ◌∙◌, subst, arith}
 use Rattle.std.specs.List.{All, flat_map, sum_by}
 use Rattle.std.specs.declared.alloc.Global.{Global}
 use Rattle.std.proofs.lemmas.Grind.{flat_map-append}
@@ -21,7 +21,7 @@ use Rattle.pool_model.specs.Passes.{adds_of, adds_total, tasks_of}
 use Rattle.pool_model.specs.Records.{Record, AreRunsOf}
 use Rattle.pool_model.specs.Seen.{PoolId, PassSeen, EndSeen, Returned, at_queue, steps_by, task_of}
 use Rattle.pool_model.specs.Steps.{tasks_taken}
-use Rattle.pool_model.specs.Tasks.{Task, Add, downwards, numbered}
+use Rattle.pool_model.specs.Tasks.{Task, downwards, numbered}
 use Rattle.pool_runs.specs.declared.placed.Placed.{Placed}
 use Rattle.task_queue.specs.Seen.{GatheredSeen}
 use Rattle.prio_pool.specs.Ended.{CameTo, CameBack}
@@ -30,13 +30,8 @@ use Rattle.pool_runs.specs.Returning.{back_from}
 use Rattle.pool_runs.specs.Running.{Drained}
 use Rattle.prio_pool.proofs.Accounting.{all_accounted, as_many_rests, ends_ran, entries_in, histories_of, tasks_back}
 use Rattle.prio_pool.proofs.Orders.{same-length}
-use Rattle.pool_runs.proofs.Lists.{runs-append}
-use Rattle.prio_pool.proofs.Recording.{length-runs}
+use Rattle.pool_model.proofs.Accounts.{length-numbered, length-runs, runs-append}
 use Rattle.task_queue.specs.declared.rule.Queued.{Queued}
-
-length-numbered : (adder first : ℕ) (adds : List Add) → length (numbered adder first adds) ≡ length adds
-length-numbered adder first [] = refl
-length-numbered adder first (x ∷ xs) = ap suc (length-numbered adder (first + 1) xs)
 
 -- there are as many tasks as adds
 as_many_tasks : (passes : List PassSeen) → length (tasks_of passes) ≡ adds_total passes

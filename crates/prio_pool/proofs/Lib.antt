@@ -1,4 +1,5 @@
 pub mod Orders
+pub mod Lists
 pub mod Adding
 pub mod Taking
 pub mod Recording

@@ -35,7 +35,7 @@ pub adder_count : (c : Counts) (qs : List (SegId Global)) → length (new_adders
 adder_count c [] = refl
 adder_count c (q ∷ qs) = ap suc (adder_count c qs)
 
-nothing_up : (first : ℕ) (qs : List (SegId Global)) → upwards first (nothing_on qs) ≡ []
+pub nothing_up : (first : ℕ) (qs : List (SegId Global)) → upwards first (nothing_on qs) ≡ []
 nothing_up first [] = refl
 nothing_up first (q ∷ qs) = nothing_up (first + 1) qs
 

@@ -5,7 +5,7 @@ use Rattle.std.specs.List.{All, filter, sum_by, flat_map}
 use Rattle.std.specs.declared.alloc.Global.{Global}
 use Rattle.std.proofs.lemmas.Grind.{flat_map-append}
 use Rattle.std.proofs.lemmas.Bool.{eq-eqb, ne_eqb}
-use Rattle.std.proofs.lemmas.List.{length-map, map-append}
+use Rattle.std.proofs.lemmas.List.{length-map, length-set, map-append}
 use Rattle.std.proofs.lemmas.List.Elements.{filter-append, All-head, All-tail, All-nil, All-push}
 use Rattle.std.proofs.lemmas.List.Sums.{sum_by_push}
 use mathlib.Core.Logic.{dite}
@@ -22,21 +22,10 @@ use Rattle.pool_model.specs.Tickets.{Ascend, tickets_of}
 use Rattle.prio_pool.specs.Passes.{TookNothing, end_seen}
 use Rattle.prio_pool.specs.Takers.{TakersSeen, HasTaken, RanTaken, and_popped}
 use Rattle.prio_pool.specs.Turned.{WorkedSoFar}
-use Rattle.pool_runs.proofs.Lists.{runs-append}
+use Rattle.pool_model.proofs.Accounts.{length-runs, runs-append}
+use Rattle.pool_model.proofs.Turns.{none_taken, taken-append}
 use Rattle.prio_pool.proofs.Orders.{same-length}
-use Rattle.prio_pool.proofs.Adding.{upwards_more, more_sum, length-set, task_at}
-
-pub length-runs : (ts : List Task) (rs : List Record) → AreRunsOf ts rs → length ts ≡ length rs
-length-runs [] [] all = refl
-length-runs [] (r ∷ rs) all = absurd all
-length-runs (t ∷ ts) [] all = absurd all
-length-runs (t ∷ ts) (r ∷ rs) all = ap suc (length-runs ts rs all.1)
-
-taken-append : (xs ys : List Step) → tasks_taken (xs ++ ys) ≡ tasks_taken xs ++ tasks_taken ys
-taken-append [] ys = refl
-taken-append (looked found ∷ xs) ys = taken-append xs ys
-taken-append (found_empty queue ∷ xs) ys = taken-append xs ys
-taken-append (took queue e ∷ xs) ys = ap (λ (l : List Task). record { ticket = e.ticket; queue = queue; head = e.head } ∷ l) (taken-append xs ys)
+use Rattle.prio_pool.proofs.Adding.{upwards_more, more_sum, task_at}
 
 pub steps_more : (looks : List LookSeen) (l : LookSeen) → steps_in (looks ++ l ∷ []) ≡ steps_in looks ++ l.step ∷ []
 steps_more looks l = map-append (λ (x : LookSeen). x.step) looks (l ∷ [])
@@ -126,10 +115,6 @@ pub records_short : (t : TakersSeen) (records : List Record) → HasTaken t → 
 records_short t records has ran_taken =
     let most = upwards_short 0 t.popped has.short in
     omega (arith, most, has.few, length-runs (tasks_taken (steps_in t.looks)) records ran_taken.runs, same-length (tasks_taken (steps_in t.looks)) (upwards 0 t.popped) has.all)
-
-none_taken : (queues count : ℕ) → tasks_taken (empty_from_the_top queues count) ≡ []
-none_taken queues zero = refl
-none_taken queues (suc count) = taken-append (empty_from_the_top queues count) (found_empty (queues - suc count) ∷ []) ∙ ap (λ (l : List Task). l ++ []) (none_taken queues count)
 
 -- what a turn took
 tasks_of_run : (queues : ℕ) (found : Option Ending) (queue : ℕ) (e : Entry) → tasks_taken (steps_of queues (ran found queue e)) ≡ record { ticket = e.ticket; queue = queue; head = e.head } ∷ []

@@ -3,7 +3,9 @@ use Rattle.std.proofs.Common.{◌≡◌, ℕ, zero, suc, ◌<◌, ◌≤◌, ◌
 use Rattle.std.specs.Prelude.{slice_get, unwrap_or}
 use Rattle.std.specs.List.{All}
 use Rattle.std.specs.declared.alloc.Global.{Global}
-use Rattle.std.proofs.lemmas.List.Elements.{All-cons, All-head, All-tail}
+use Rattle.std.proofs.lemmas.List.{length-set}
+use Rattle.std.proofs.lemmas.Option.{slice_get_within}
+use Rattle.std.proofs.lemmas.List.Elements.{All-cons, All-head, All-set, All-tail}
 use Rattle.crossbeam_queue.specs.SegTies.{SegId}
 use Rattle.job_trait.specs.declared.job.Head.{Head}
 use Rattle.pool_model.specs.declared.task.Entry.{Entry}
@@ -15,6 +17,7 @@ use Rattle.task_queue.specs.Seen.{TakerSeen}
 use Rattle.task_queue.specs.Settled.{TakeTold}
 use Rattle.pool_runs.specs.declared.placed.Placed.{Placed}
 use Rattle.prio_pool.specs.Takers.{HasTaker, PoppedAt, TookAt}
+use Rattle.prio_pool.proofs.Lists.{all_get, entry_more, map_same}
 
 some_is : {X : Type 0} (x y : X) → Some x ≡ Some y → x ≡ y
 some_is x y e = ap (λ (o : Option _). unwrap_or o x) e
@@ -30,48 +33,13 @@ took head old k t u (Some task) at told up short = record {
 }
 took head old k t u None at told up short = ap (set old k) told ∙ set_same old k t at
 
-within_get : {X : Type 0} (xs : List X) (k : ℕ) (x : X) → slice_get xs k ≡ Some x → k < length xs
-within_get [] k x at = cc
-within_get (y ∷ ys) zero x at = omega arith
-within_get (y ∷ ys) (suc k) x at = let h = within_get ys k x at in omega (arith, h)
-
 taker_at : (items : List TakerSeen) (k : ℕ) (queue : SegId Global) → slice_get (map (λ (p : TakerSeen). p.queue) items) k ≡ Some queue → (t : TakerSeen) × (slice_get items k ≡ Some t) × (t.queue ≡ queue)
 taker_at [] k queue at = cc
 taker_at (x ∷ xs) zero queue at = (x, refl, some_is x.queue queue at)
 taker_at (x ∷ xs) (suc k) queue at = taker_at xs k queue at
 
 pub has_taker : (items : List TakerSeen) (k : ℕ) (queue : SegId Global) → length items ≤ 256 → slice_get (map (λ (p : TakerSeen). p.queue) items) k ≡ Some queue → HasTaker items k queue
-has_taker items k queue few at = let h = taker_at items k queue at in let within = within_get items k h.0 h.1 in record { taker = h.0; at = h.1; of_queue = h.2; few = omega (arith, few, within) }
-
-set_all : {X : Type 0} (P : X → Type 0) (xs : List X) (k : ℕ) (y : X) → All P xs → P y → All P (set xs k y)
-set_all P [] k y all p = all
-set_all P (x ∷ xs) zero y all p = All-cons P y xs p (All-tail P x xs all)
-set_all P (x ∷ xs) (suc k) y all p = All-cons P x (set xs k y) (All-head P x xs all) (set_all P xs k y (All-tail P x xs all) p)
-
-all_get : {X : Type 0} (P : X → Type 0) (xs : List X) (k : ℕ) (x : X) → All P xs → slice_get xs k ≡ Some x → P x
-all_get P [] k x all at = cc
-all_get P (y ∷ ys) zero x all at = subst P (ap (λ (o : Option _). unwrap_or o y) at) (All-head P y ys all)
-all_get P (y ∷ ys) (suc k) x all at = all_get P ys k x (All-tail P y ys all) at
-
-length-set : {X : Type 0} (xs : List X) (k : ℕ) (y : X) → length (set xs k y) ≡ length xs
-length-set [] k y = refl
-length-set (x ∷ xs) zero y = refl
-length-set (x ∷ xs) (suc k) y = ap suc (length-set xs k y)
-
-queues_same : (old : List TakerSeen) (k : ℕ) (a b : TakerSeen) → slice_get old k ≡ Some a → b.queue ≡ a.queue → map (λ (p : TakerSeen). p.queue) (set old k b) ≡ map (λ (p : TakerSeen). p.queue) old
-queues_same [] k a b at same = cc
-queues_same (x ∷ xs) zero a b at same =
-    let e : b.queue ≡ x.queue = same ∙ sym (ap (λ (p : TakerSeen). p.queue) (ap (λ (o : Option TakerSeen). unwrap_or o x) at)) in
-    (λ i. e i ∷ map (λ (p : TakerSeen). p.queue) xs)
-queues_same (x ∷ xs) (suc k) a b at same = ap (λ (l : List (SegId Global)). x.queue ∷ l) (queues_same xs k a b at same)
-
-popped_set : (old : List TakerSeen) (k : ℕ) (a b : TakerSeen) (e : Entry) → slice_get old k ≡ Some a → b.popped ≡ a.popped ++ e ∷ []
-    → map (λ (p : TakerSeen). p.popped) (set old k b) ≡ set (map (λ (p : TakerSeen). p.popped) old) k (at_queue (map (λ (p : TakerSeen). p.popped) old) k ++ e ∷ [])
-popped_set [] k a b e at same = cc
-popped_set (x ∷ xs) zero a b e at same =
-    let popped : b.popped ≡ x.popped ++ e ∷ [] = same ∙ ap (λ (p : TakerSeen). p.popped ++ e ∷ []) (sym (ap (λ (o : Option TakerSeen). unwrap_or o x) at)) in
-    (λ i. popped i ∷ map (λ (p : TakerSeen). p.popped) xs)
-popped_set (x ∷ xs) (suc k) a b e at same = ap (λ (l : List (List Entry)). x.popped ∷ l) (popped_set xs k a b e at same)
+has_taker items k queue few at = let h = taker_at items k queue at in let within = slice_get_within items k h.0 h.1 in record { taker = h.0; at = h.1; of_queue = h.2; few = omega (arith, few, within) }
 
 map_all : (P : List Entry → Type 0) (xs : List TakerSeen) (k : ℕ) (b : TakerSeen) → All P (map (λ (p : TakerSeen). p.popped) xs) → P b.popped → All P (map (λ (p : TakerSeen). p.popped) (set xs k b))
 map_all P [] k b all p = all
@@ -96,11 +64,11 @@ now_is passes number k e items new each up short did =
     let b : TakerSeen = record a { popped = a.popped ++ e ∷ [] } in
     let own = all_get (λ (x : TakerSeen). (x.passes ≡ passes) × (x.number ≡ number)) items k a each did.at in
     record {
-      queues = ap (map (λ (x : TakerSeen). x.queue)) did.new_is ∙ queues_same items k a b did.at refl;
-      popped = ap (map (λ (x : TakerSeen). x.popped)) did.new_is ∙ popped_set items k a b e did.at refl;
-      each = subst (All (λ (x : TakerSeen). (x.passes ≡ passes) × (x.number ≡ number))) (sym did.new_is) (set_all (λ (x : TakerSeen). (x.passes ≡ passes) × (x.number ≡ number)) items k b each own);
+      queues = ap (map (λ (x : TakerSeen). x.queue)) did.new_is ∙ map_same (λ (x : TakerSeen). x.queue) items k a b did.at refl;
+      popped = ap (map (λ (x : TakerSeen). x.popped)) did.new_is ∙ entry_more (λ (x : TakerSeen). x.popped) items k a b e did.at refl;
+      each = subst (All (λ (x : TakerSeen). (x.passes ≡ passes) × (x.number ≡ number))) (sym did.new_is) (All-set (λ (x : TakerSeen). (x.passes ≡ passes) × (x.number ≡ number)) items k b own each);
       as_many = ap length did.new_is ∙ length-set items k b;
-      within = within_get items k a did.at;
+      within = slice_get_within items k a did.at;
       ascend = subst (λ (l : List TakerSeen). All (λ entries. Ascend (tickets_of entries)) (map (λ (p : TakerSeen). p.popped) l)) (sym did.new_is) (map_all (λ entries. Ascend (tickets_of entries)) items k b up did.ascend);
       short = subst (λ (l : List TakerSeen). All (λ (entries : List Entry). length entries ≤ 2 ^ 38) (map (λ (p : TakerSeen). p.popped) l)) (sym did.new_is) (map_all (λ (entries : List Entry). length entries ≤ 2 ^ 38) items k b short did.short);
     }

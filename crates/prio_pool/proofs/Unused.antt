@@ -1,19 +1,14 @@
 -- The passes of a new pool are of it, and its adders' have added nothing.
-use Rattle.std.proofs.Common.{◌≡◌, ℕ, zero, suc, ◌+◌, ◌<◌, List, [], ◌∷◌, length, map, refl, ap, ◌∙◌, arith}
+use Rattle.std.proofs.Common.{◌≡◌, ℕ, zero, suc, ◌+◌, ◌<◌, List, [], length, map, refl, ap, ◌∙◌, arith}
 use Rattle.std.specs.Prelude.{slice_index_or}
 use Rattle.std.specs.List.{All, range_with_len}
-use Rattle.std.specs.declared.alloc.Global.{Global}
 use Rattle.std.proofs.lemmas.List.Elements.{All-cons, All-nil}
-use Rattle.crossbeam_queue.specs.SegTies.{SegId}
 use Rattle.pool_model.specs.Passes.{AreNumbered, adds_of, add_with}
 use Rattle.pool_model.specs.Seen.{PoolId, PassSeen, WorkerSeen, EndSeen}
-use Rattle.pool_model.specs.Tasks.{Task, upwards}
-use Rattle.prio_pool.specs.Made.{new_pass, new_passes, new_workers, new_end, new_ends, nothing_on}
+use Rattle.pool_model.specs.Tasks.{Task}
+use Rattle.prio_pool.specs.Made.{new_pass, new_passes, new_workers, new_end, new_ends}
 use Rattle.prio_pool.proofs.Listing.{count_passes}
-
-nothing_up : (first : ℕ) (qs : List (SegId Global)) → upwards first (nothing_on qs) ≡ []
-nothing_up first [] = refl
-nothing_up first (q ∷ qs) = nothing_up (first + 1) qs
+use Rattle.prio_pool.proofs.Making.{nothing_up}
 
 added_none : (pool : PoolId) (number : ℕ) → adds_of (new_pass pool number) ≡ []
 added_none pool number = ap (λ (l : List Task). map (add_with l) (range_with_len 0 (length l))) (nothing_up 0 pool.queues)

@@ -9,6 +9,7 @@ use Rattle.std.proofs.lemmas.List.{get_or-set_other, get_or-set_same, get_or_app
 use Rattle.std.proofs.lemmas.List.Elements.{filter-append}
 use Rattle.std.proofs.lemmas.List.Folds.{list_any_more}
 use Rattle.std.proofs.lemmas.Nat.Bits.{bit_at-zero, bit_at_set_other, bit_at_set_same}
+use Rattle.std.proofs.Math.Bool.{or-false, or-true}
 use Rattle.fan_base.specs.declared.doc.Doc.{Doc}
 use Rattle.fan_base.specs.declared.word.Word.{Word}
 use Rattle.word_table.specs.declared.sorted.Sorted.{Sorted}
@@ -21,14 +22,6 @@ use Rattle.shard_index.specs.Narrowing.{has_place}
 use Rattle.shard_index.specs.Places.{has_word, places_where, standing_of}
 use Rattle.shard_index.proofs.NarrowLemmas.{kept-from, stand-where, written}
 use Rattle.shard_index.proofs.PlaceLemmas.{distinct-standing, places-below}
-
-or-true : (b : Bool) → (b || true) ≡ true
-or-true true = refl
-or-true false = refl
-
-or-false : (b : Bool) → (b || false) ≡ b
-or-false true = refl
-or-false false = refl
 
 neq-eqb : (x y : ℕ) → (x ≡ y → ⊥) → eqb x y ≡ false
 neq-eqb x y differ = by (eqb x y) refl

@@ -1,54 +1,34 @@
 -- Marks by place: what is set at the places of documents, and how many are set.
 use Rattle.std.proofs.Common.{◌≡◌, ℕ, zero, suc, ◌+◌, ◌<◌, ◌≤◌, List, [], ◌∷◌, ◌++◌, length, Bool, true, false, ◌||◌, cond, get_or, replicate, refl, sym, ap, ◌∙◌, arith, take, filter, map, set, append_assoc, zero-add}
 use mir.Val.{bool_byte}
-use Rattle.std.specs.List.{count_by, fold}
-use Rattle.std.proofs.lemmas.List.{get_or-map, length-take-le, set_at, take_more}
-use Rattle.std.proofs.lemmas.List.Sums.{count_by_more_no, count_by_more_yes, length-filter, sum_by-cons}
+use Rattle.std.specs.List.{count_by}
+use Rattle.std.proofs.lemmas.List.{get_or-map, length-set, length-take-le, length_push, set_at, take_more}
+use Rattle.std.proofs.lemmas.List.Sums.{count_by_more_no, count_by_more_yes, fold_push, length-filter, sum_by-cons}
+use Rattle.std.proofs.Math.Bool.{or-false, or-true}
 use Rattle.fan_base.specs.declared.doc.Doc.{Doc}
 use Rattle.shard_index.specs.Places.{places_from, places_where}
 use Rattle.shard_index.specs.Totals.{marked_at}
 use Rattle.shard_index.proofs.PlaceLemmas.{places-push}
 
-length-set : (xs : List Bool) (i : ℕ) (v : Bool) → length (set xs i v) ≡ length xs
-length-set [] i v = refl
-length-set (x ∷ xs) zero v = refl
-length-set (x ∷ xs) (suc i) v = ap suc (length-set xs i v)
-
 pub length-marked : (marks : List Bool) (places : List ℕ) → length (marked_at marks places) ≡ length marks
 length-marked marks [] = refl
 length-marked marks (p ∷ ps) = length-marked (set marks p true) ps ∙ length-set marks p true
 
-fold-push : {A B : Type 0} (f : B → A → B) (start : B) (xs : List A) (x : A) → fold f start (xs ++ x ∷ []) ≡ f (fold f start xs) x
-fold-push f start [] x = refl
-fold-push f start (y ∷ ys) x = fold-push f (f start y) ys x
-
 pub marked-more : (marks : List Bool) (places : List ℕ) (i place : ℕ) → i < length places → place ≡ get_or places i place → marked_at marks (take (i + 1) places) ≡ set (marked_at marks (take i places)) place true
 marked-more marks places i place within is =
     let longer : take (i + 1) places ≡ take i places ++ place ∷ [] = take_more places i place within ∙ ap (λ n. take i places ++ n ∷ []) (sym is) in
-    ap (λ ps. marked_at marks ps) longer ∙ fold-push (λ ms p. set ms p true) marks (take i places) place
+    ap (λ ps. marked_at marks ps) longer ∙ fold_push (λ ms p. set ms p true) marks (take i places) place
 
 -- no mark
 pub count-none : (n : ℕ) → count_by (λ b. b) (replicate n false) ≡ 0
 count-none zero = refl
 count-none (suc n) = sum_by-cons (λ b. cond b 1 0) false (replicate n false) ∙ (zero-add (count_by (λ b. b) (replicate n false)) ∙ count-none n)
 
-grown : (xs : List Bool) (x : Bool) → length xs + 1 ≡ length (xs ++ x ∷ [])
-grown [] x = refl
-grown (y ∷ ys) x = (let e : suc (length ys) + 1 ≡ suc (length ys + 1) = omega arith in e) ∙ ap suc (grown ys x)
-
-or_true : (b : Bool) → true ≡ (b || true)
-or_true true = refl
-or_true false = refl
-
-or_false : (b : Bool) → b ≡ (b || false)
-or_false true = refl
-or_false false = refl
-
 marked-from : (place : ℕ) (test mark : Doc → Bool) (before : List Bool) (docs : List Doc) → place ≡ length before
     → marked_at (before ++ map mark docs) (places_from place test docs) ≡ before ++ map (λ d. mark d || test d) docs
 marked-from place test mark before [] is = refl
 marked-from place test mark before (d ∷ ds) is =
-    by (test d) (λ b. marked-from (place + 1) test mark (before ++ b ∷ []) ds (ap (λ k. k + 1) is ∙ grown before b))
+    by (test d) (λ b. marked-from (place + 1) test mark (before ++ b ∷ []) ds (ap (λ k. k + 1) is ∙ sym (length_push before b)))
   where
     rest : List Bool
     rest = map (λ e. mark e || test e) ds
@@ -57,10 +37,10 @@ marked-from place test mark before (d ∷ ds) is =
         → marked_at (before ++ mark d ∷ map mark ds) (cond b (place ∷ places_from (place + 1) test ds) (places_from (place + 1) test ds)) ≡ before ++ (mark d || b) ∷ rest
     by true more =
         ap (λ xs. marked_at xs (places_from (place + 1) test ds)) (set_at before (mark d) (map mark ds) true place (sym is) ∙ sym (append_assoc before (true ∷ []) (map mark ds)))
-        ∙ (more true ∙ (append_assoc before (true ∷ []) rest ∙ ap (λ c. before ++ c ∷ rest) (or_true (mark d))))
+        ∙ (more true ∙ (append_assoc before (true ∷ []) rest ∙ ap (λ c. before ++ c ∷ rest) (sym (or-true (mark d)))))
     by false more =
         ap (λ xs. marked_at xs (places_from (place + 1) test ds)) (sym (append_assoc before (mark d ∷ []) (map mark ds)))
-        ∙ (more (mark d) ∙ (append_assoc before (mark d ∷ []) rest ∙ ap (λ c. before ++ c ∷ rest) (or_false (mark d))))
+        ∙ (more (mark d) ∙ (append_assoc before (mark d ∷ []) rest ∙ ap (λ c. before ++ c ∷ rest) (sym (or-false (mark d)))))
 
 -- one word more
 pub marked-word : (test mark : Doc → Bool) (docs : List Doc) → marked_at (map mark docs) (places_where test docs) ≡ map (λ d. mark d || test d) docs

@@ -5,6 +5,7 @@ use Rattle.std.specs.Option.{option_eq}
 use Rattle.std.proofs.lemmas.Bool.Decides.{nat_tests}
 use Rattle.std.proofs.lemmas.Bool.{le-ltb, lt-ltb}
 use Rattle.std.proofs.lemmas.List.{length_push}
+use Rattle.std.proofs.Math.Seq.{get_or-append_seam}
 use Rattle.fan_base.specs.declared.doc.Doc.{Doc}
 use Rattle.fan_base.specs.declared.word.Word.{Word}
 use Rattle.query_model.specs.Answers.{times_in}
@@ -134,10 +135,6 @@ length-places place test (d ∷ ds) = by (test d) (length-places (place + 1) tes
     by true more = ap suc more
     by false more = more
 
-at-middle : (xs ys : List ℕ) (y : ℕ) → get_or (xs ++ y ∷ ys) (length xs) 0 ≡ y
-at-middle [] ys y = refl
-at-middle (x ∷ xs) ys y = at-middle xs ys y
-
 ids-from : (before : List ℕ) (place : ℕ) (test : Doc → Bool) (docs : List Doc) → place ≡ length before
     → map (λ p. get_or (before ++ map (λ d. d.id) docs) p 0) (places_from place test docs) ≡ map (λ d. d.id) (filter test docs)
 ids-from before place test [] is = refl
@@ -150,15 +147,11 @@ ids-from before place test (d ∷ ds) is =
     longer : all ≡ (before ++ d.id ∷ []) ++ map (λ d. d.id) ds
     longer = sym (append_assoc before (d.id ∷ []) (map (λ d. d.id) ds))
 
-    grown : (xs : List ℕ) → length xs + 1 ≡ length (xs ++ d.id ∷ [])
-    grown [] = refl
-    grown (x ∷ xs) = (let e : suc (length xs) + 1 ≡ suc (length xs + 1) = omega arith in e) ∙ ap suc (grown xs)
-
     many : place + 1 ≡ length (before ++ d.id ∷ [])
-    many = ap (λ n. n + 1) is ∙ grown before
+    many = ap (λ n. n + 1) is ∙ sym (length_push before d.id)
 
     here : get_or all place 0 ≡ d.id
-    here = ap (λ n. get_or all n 0) is ∙ at-middle before (map (λ d. d.id) ds) d.id
+    here = ap (λ n. get_or all n 0) is ∙ get_or-append_seam before d.id (map (λ d. d.id) ds) 0
 
     by : (b : Bool) → map (λ p. get_or all p 0) (places_from (place + 1) test ds) ≡ map (λ d. d.id) (filter test ds)
         → map (λ p. get_or all p 0) (cond b (place ∷ places_from (place + 1) test ds) (places_from (place + 1) test ds)) ≡ map (λ d. d.id) (cond b (d ∷ filter test ds) (filter test ds))

@@ -2,7 +2,8 @@
 use Rattle.std.proofs.Common.{◌≡◌, ℕ, zero, suc, ◌+◌, ◌-◌, ◌*◌, ◌<◌, ◌≤◌, ◌^◌, List, [], ◌∷◌, ◌++◌, length, Bool, true, false, ◌||◌, cond, ltb, get_or, replicate, refl, sym, ap, ◌∙◌, subst, arith, take, drop, map, filter, zip, append_assoc, drop-cons, zero-add}
 use Rattle.std.specs.List.{All, AllByRecursion}
 use Rattle.std.proofs.lemmas.Bool.{le-ltb, lt-ltb, or_parts}
-use Rattle.std.proofs.lemmas.List.{drop_all, take_all}
+use Rattle.std.proofs.lemmas.List.{drop_all, length_push, take_all}
+use Rattle.std.proofs.Math.Seq.{get_or-append_seam}
 use Rattle.std.proofs.Common.{length-drop}
 use Rattle.fan_base.specs.declared.doc.Doc.{Doc}
 use Rattle.fan_base.specs.declared.word.Word.{Word}
@@ -266,10 +267,6 @@ with_id ids score = (get_or ids score.0 0, score.1)
 abbrev pub with_ids : List ℕ → List (ℕ × ℕ) → List (ℕ × ℕ)
 with_ids ids scored = map (with_id ids) scored
 
-at-middle : (xs ys : List ℕ) (y : ℕ) → get_or (xs ++ y ∷ ys) (length xs) 0 ≡ y
-at-middle [] ys y = refl
-at-middle (x ∷ xs) ys y = at-middle xs ys y
-
 ids-from : (score : Doc → ℕ) (before : List ℕ) (place : ℕ) (test : Doc → Bool) (docs : List Doc) → place ≡ length before
     → with_ids (before ++ map (λ d. d.id) docs) (scored_from place test score docs) ≡ map (λ d. (d.id, score d)) (filter test docs)
 ids-from score before place test [] is = refl
@@ -285,15 +282,11 @@ ids-from score before place test (d ∷ ds) is =
     longer : all ≡ (before ++ d.id ∷ []) ++ map (λ e. e.id) ds
     longer = sym (append_assoc before (d.id ∷ []) (map (λ e. e.id) ds))
 
-    grown : (xs : List ℕ) → length xs + 1 ≡ length (xs ++ d.id ∷ [])
-    grown [] = refl
-    grown (x ∷ xs) = (let e : suc (length xs) + 1 ≡ suc (length xs + 1) = omega arith in e) ∙ ap suc (grown xs)
-
     many : place + 1 ≡ length (before ++ d.id ∷ [])
-    many = ap (λ n. n + 1) is ∙ grown before
+    many = ap (λ n. n + 1) is ∙ sym (length_push before d.id)
 
     here : get_or all place 0 ≡ d.id
-    here = ap (λ n. get_or all n 0) is ∙ at-middle before (map (λ e. e.id) ds) d.id
+    here = ap (λ n. get_or all n 0) is ∙ get_or-append_seam before d.id (map (λ e. e.id) ds) 0
 
     by : (b : Bool) → with_ids all rest ≡ map (λ e. (e.id, score e)) (filter test ds)
         → with_ids all (cond b ((place, score d) ∷ rest) rest) ≡ map (λ e. (e.id, score e)) (cond b (d ∷ filter test ds) (filter test ds))

@@ -1,7 +1,8 @@
 -- Totals by place: what a weight adds at the places of documents.
 use Rattle.std.proofs.Common.{◌≡◌, ℕ, zero, suc, ◌+◌, ◌*◌, ◌<◌, ◌≤◌, List, [], ◌∷◌, ◌++◌, length, Bool, get_or, replicate, refl, sym, ap, ◌∙◌, subst, arith, take, drop, map, set, append_assoc, zero-add}
-use Rattle.std.specs.List.{All, AllByRecursion, fold}
-use Rattle.std.proofs.lemmas.List.{length-take-le, set_at, take_more}
+use Rattle.std.specs.List.{All, AllByRecursion}
+use Rattle.std.proofs.lemmas.List.{length-set, length-take-le, length_push, set_at, take_more}
+use Rattle.std.proofs.Math.Seq.{get_or-append_seam}
 use Rattle.fan_base.specs.declared.doc.Doc.{Doc}
 use Rattle.fan_base.specs.declared.word.Word.{Word}
 use Rattle.query_model.specs.Answers.{times_in}
@@ -11,18 +12,9 @@ use Rattle.word_table.specs.Told.{repeated}
 use Rattle.word_table.proofs.ToldLemmas.{repeated-push}
 use Rattle.shard_index.proofs.PlaceLemmas.{places-below}
 
-length-set : (xs : List ℕ) (i v : ℕ) → length (set xs i v) ≡ length xs
-length-set [] i v = refl
-length-set (x ∷ xs) zero v = refl
-length-set (x ∷ xs) (suc i) v = ap suc (length-set xs i v)
-
 pub length-added : (weight : ℕ) (totals places : List ℕ) → length (added_at weight totals places) ≡ length totals
 length-added weight totals [] = refl
 length-added weight totals (p ∷ ps) = length-added weight (raised weight totals p) ps ∙ length-set totals p (get_or totals p 0 + weight)
-
-fold-push : {A B : Type 0} (f : B → A → B) (start : B) (xs : List A) (x : A) → fold f start (xs ++ x ∷ []) ≡ f (fold f start xs) x
-fold-push f start [] x = refl
-fold-push f start (y ∷ ys) x = fold-push f (f start y) ys x
 
 added-append : (weight : ℕ) (totals xs ys : List ℕ) → added_at weight totals (xs ++ ys) ≡ added_at weight (added_at weight totals xs) ys
 added-append weight totals [] ys = refl
@@ -115,17 +107,9 @@ next-fits n weight totals places times i fits within many low =
 
 -- totals of documents
 
-grown : (xs : List ℕ) (x : ℕ) → length xs + 1 ≡ length (xs ++ x ∷ [])
-grown [] x = refl
-grown (y ∷ ys) x = (let e : suc (length ys) + 1 ≡ suc (length ys + 1) = omega arith in e) ∙ ap suc (grown ys x)
-
-at-middle : (xs ys : List ℕ) (y : ℕ) → get_or (xs ++ y ∷ ys) (length xs) 0 ≡ y
-at-middle [] ys y = refl
-at-middle (x ∷ xs) ys y = at-middle xs ys y
-
 raised-middle : (weight : ℕ) (xs ys : List ℕ) (y place : ℕ) → place ≡ length xs → raised weight (xs ++ y ∷ ys) place ≡ xs ++ (y + weight) ∷ ys
 raised-middle weight xs ys y place is =
-    ap (λ n. set (xs ++ y ∷ ys) place (n + weight)) (ap (λ n. get_or (xs ++ y ∷ ys) n 0) is ∙ at-middle xs ys y)
+    ap (λ n. set (xs ++ y ∷ ys) place (n + weight)) (ap (λ n. get_or (xs ++ y ∷ ys) n 0) is ∙ get_or-append_seam xs y ys 0)
     ∙ set_at xs y ys (y + weight) place (sym is)
 
 added-again : (weight n place : ℕ) (xs ys more : List ℕ) (y : ℕ) → place ≡ length xs → added_at weight (xs ++ y ∷ ys) (replicate n place ++ more) ≡ added_at weight (xs ++ (y + n * weight) ∷ ys) more
@@ -141,7 +125,7 @@ added-standing weight place word score before (d ∷ ds) is =
     let n = score d + (times_in d word) * weight in
     added-again weight (times_in d word) place before (map score ds) (standing_from (place + 1) word ds) (score d) is
     ∙ (ap (λ xs. added_at weight xs (standing_from (place + 1) word ds)) (sym (append_assoc before (n ∷ []) (map score ds)))
-    ∙ (added-standing weight (place + 1) word score (before ++ n ∷ []) ds (ap (λ k. k + 1) is ∙ grown before n)
+    ∙ (added-standing weight (place + 1) word score (before ++ n ∷ []) ds (ap (λ k. k + 1) is ∙ sym (length_push before n))
     ∙ append_assoc before (n ∷ []) (map (λ d. score d + (times_in d word) * weight) ds)))
 
 -- what a word adds in all

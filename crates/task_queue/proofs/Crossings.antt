@@ -37,8 +37,8 @@ use Rattle.task_queue.specs.contracts.passes.Taker.TheInside as of_taker
 use Rattle.task_queue.specs.contracts.passes.Gathered as gathered
 use Rattle.task_queue.specs.contracts.passes.Gathered.TheInside as of_gathered
 use Rattle.task_queue.specs.contracts.rule.Queued as queued
-use Rattle.task_queue.specs.contracts.spares.AdderRow as adder_row
-use Rattle.task_queue.specs.contracts.spares.Row as row
+use Rattle.task_queue.specs.contracts.spares.AdderBlocks as adder_blocks
+use Rattle.task_queue.specs.contracts.spares.SpareBlocks as spare_blocks
 use Rattle.task_queue.specs.contracts.looks.Looks as looks
 use Rattle.task_queue.specs.contracts.looks.Looks.TheInside as of_looks
 use Rattle.queue_looks.proofs.trail.Trail.TheSendSync as trail_queue_looks
@@ -49,13 +49,13 @@ use Rattle.task_queue.specs.contracts.queue.TaskQueue.TheInside as of_queue
 pub Packets-send : (X : RattleType) → IsSend X → IsSend (packets.the_row X)
 Packets-send = crossing_queue_packets.Packets-send
 
-Row_send : (X : RattleType) → IsSend X → IsSend (row.the_row X)
-Row_send X item = recorded_send (row.the_field X).row _ _ (row.the_type X).to_one (struct_send (shape (row.the_type X)) (search (crossing_queue_packets.Block-send, option_std.the_field_send, option_std.the_send, crosses, sendable) depth 60 fits 20000, (search (crosses, sendable) depth 60 fits 20000, tt)))
+SpareBlocks_send : (X : RattleType) → IsSend X → IsSend (spare_blocks.the_row X)
+SpareBlocks_send X item = recorded_send (spare_blocks.the_field X).row _ _ (spare_blocks.the_type X).to_one (struct_send (shape (spare_blocks.the_type X)) (search (crossing_queue_packets.Block-send, option_std.the_field_send, option_std.the_send, crosses, sendable) depth 60 fits 20000, (search (crosses, sendable) depth 60 fits 20000, tt)))
 
-AdderRow_send : (X : RattleType) → IsSend X → IsSend (adder_row.the_row X)
-AdderRow_send X item = recorded_send (adder_row.the_field X).row _ _ (adder_row.the_type X).to_one (struct_send (shape (adder_row.the_type X)) (search (Row_send, box_std.the_send, option_std.the_field_send, option_std.the_send, global_std.the_field_send, global_std.the_send, crosses, sendable) depth 60 fits 20000, (search (crosses, sendable) depth 60 fits 20000, tt)))
+AdderBlocks_send : (X : RattleType) → IsSend X → IsSend (adder_blocks.the_row X)
+AdderBlocks_send X item = recorded_send (adder_blocks.the_field X).row _ _ (adder_blocks.the_type X).to_one (struct_send (shape (adder_blocks.the_type X)) (search (SpareBlocks_send, box_std.the_send, option_std.the_field_send, option_std.the_send, global_std.the_field_send, global_std.the_send, crosses, sendable) depth 60 fits 20000, (search (crosses, sendable) depth 60 fits 20000, tt)))
 
-ruleset all = (link_atomic_blocks.the_field_send, link_atomic_blocks.the_send, link_atomic_blocks.the_field_sync, link_atomic_blocks.the_sync, seat_atomic_blocks.the_send, web_atomic_blocks.the_send, web_atomic_blocks.the_sync, table_atomic_table.the_field_send, table_atomic_table.the_send, table_atomic_table.the_field_sync, table_atomic_table.the_sync, sendlease_atomic_table.the_send, sendlease_atomic_table.the_sync, seat_atomic_table.the_send, shared_atomic_table.the_send, shared_atomic_table.the_sync, phantomdata_std.the_field_send, phantomdata_std.the_send, phantomdata_std.the_field_sync, phantomdata_std.the_sync, manuallydrop_std.the_field_send, manuallydrop_std.the_send, manuallydrop_std.the_field_sync, manuallydrop_std.the_sync, option_std.the_field_send, option_std.the_send, option_std.the_field_sync, option_std.the_sync, memory_std.the_field_send, memory_std.the_send, memory_std.the_field_sync, memory_std.the_sync, chained_crossbeam_queue.the_send, chained_crossbeam_queue.the_sync, ends_crossbeam_queue.the_field_send, ends_crossbeam_queue.the_send, ends_crossbeam_queue.the_field_sync, ends_crossbeam_queue.the_sync, laps_crossbeam_queue.the_field_send, laps_crossbeam_queue.the_send, laps_crossbeam_queue.the_field_sync, laps_crossbeam_queue.the_sync, stage_crossbeam_queue.the_field_send, stage_crossbeam_queue.the_send, stage_crossbeam_queue.the_field_sync, stage_crossbeam_queue.the_sync, box_std.the_send, box_std.the_sync, linkedlist_std.the_send, linkedlist_std.the_sync, nodes_std.the_send, nodes_std.the_sync, global_std.the_field_send, global_std.the_send, global_std.the_field_sync, global_std.the_sync, ticket_pool_model.the_field_send, ticket_pool_model.the_send, ticket_pool_model.the_field_sync, ticket_pool_model.the_sync, crossing_queue_packets.Block-send, Row_send, AdderRow_send, crossing_queue_packets.Packet-send, slotted_crossbeam_queue.the_send, slotted_crossbeam_queue.the_sync, array_crossbeam_queue.the_send, array_crossbeam_queue.the_sync, array_crossbeam_queue.the_field_send, array_crossbeam_queue.the_field_sync, turns_crossbeam_queue.the_send, turns_crossbeam_queue.the_sync, free_crossbeam_queue.the_send, free_crossbeam_queue.the_sync, crosses, sendable)
+ruleset all = (link_atomic_blocks.the_field_send, link_atomic_blocks.the_send, link_atomic_blocks.the_field_sync, link_atomic_blocks.the_sync, seat_atomic_blocks.the_send, web_atomic_blocks.the_send, web_atomic_blocks.the_sync, table_atomic_table.the_field_send, table_atomic_table.the_send, table_atomic_table.the_field_sync, table_atomic_table.the_sync, sendlease_atomic_table.the_send, sendlease_atomic_table.the_sync, seat_atomic_table.the_send, shared_atomic_table.the_send, shared_atomic_table.the_sync, phantomdata_std.the_field_send, phantomdata_std.the_send, phantomdata_std.the_field_sync, phantomdata_std.the_sync, manuallydrop_std.the_field_send, manuallydrop_std.the_send, manuallydrop_std.the_field_sync, manuallydrop_std.the_sync, option_std.the_field_send, option_std.the_send, option_std.the_field_sync, option_std.the_sync, memory_std.the_field_send, memory_std.the_send, memory_std.the_field_sync, memory_std.the_sync, chained_crossbeam_queue.the_send, chained_crossbeam_queue.the_sync, ends_crossbeam_queue.the_field_send, ends_crossbeam_queue.the_send, ends_crossbeam_queue.the_field_sync, ends_crossbeam_queue.the_sync, laps_crossbeam_queue.the_field_send, laps_crossbeam_queue.the_send, laps_crossbeam_queue.the_field_sync, laps_crossbeam_queue.the_sync, stage_crossbeam_queue.the_field_send, stage_crossbeam_queue.the_send, stage_crossbeam_queue.the_field_sync, stage_crossbeam_queue.the_sync, box_std.the_send, box_std.the_sync, linkedlist_std.the_send, linkedlist_std.the_sync, nodes_std.the_send, nodes_std.the_sync, global_std.the_field_send, global_std.the_send, global_std.the_field_sync, global_std.the_sync, ticket_pool_model.the_field_send, ticket_pool_model.the_send, ticket_pool_model.the_field_sync, ticket_pool_model.the_sync, crossing_queue_packets.Block-send, SpareBlocks_send, AdderBlocks_send, crossing_queue_packets.Packet-send, slotted_crossbeam_queue.the_send, slotted_crossbeam_queue.the_sync, array_crossbeam_queue.the_send, array_crossbeam_queue.the_sync, array_crossbeam_queue.the_field_send, array_crossbeam_queue.the_field_sync, turns_crossbeam_queue.the_send, turns_crossbeam_queue.the_sync, free_crossbeam_queue.the_send, free_crossbeam_queue.the_sync, crosses, sendable)
 
 pub Queued-send : (J : RattleType) → IsSend J → IsSend (queued.the_row J)
 Queued-send J s = recorded_send (queued.the_field J).row _ _ (queued.the_type J).to_one (struct_send (shape (queued.the_type J)) (search all depth 60 fits 20000, (search all depth 60 fits 20000, tt)))

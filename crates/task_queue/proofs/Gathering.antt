@@ -12,7 +12,8 @@ use Rattle.task_queue.specs.declared.view.Share.{Share}
 use Rattle.task_queue.specs.declared.view.View.{View}
 use Rattle.task_queue.specs.Views.{adding, taking, gathered, nobody, share, entries_of, pushes_of, pops_of, room_of}
 use Rattle.task_queue.specs.Rule.{Facts, QueueHolds, Knows, IsAdderShare, IsTakerShare}
-use Rattle.task_queue.proofs.Seats.{all_set, all_more, at_other}
+use Rattle.queue_packets.proofs.Views.{all_set, all_more}
+use Rattle.task_queue.proofs.Seats.{at_other}
 use Rattle.task_queue.proofs.Sums.{sum-fork, sum-merge}
 use Rattle.task_queue.proofs.Known.{Steps, knows_still, adder_share, taker_share}
 

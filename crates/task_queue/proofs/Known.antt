@@ -6,7 +6,7 @@ use mathlib.Core.Option.{some}
 use lib.ListN.{get_elem?}
 use Rattle.job_trait.specs.declared.job.Head.{Head}
 use Rattle.pool_model.specs.History.{accepts, lefts, accepted_by, taken_by}
-use Rattle.task_queue.proofs.Orders.{sum_by-ones}
+use Rattle.pool_model.proofs.Lists.{sum_by-ones}
 use Rattle.task_queue.specs.declared.rule.Queued.{Queued}
 use Rattle.task_queue.specs.declared.view.Role.{Role}
 use Rattle.task_queue.specs.declared.view.Role.TheVariants.{Maker, Adder, Taker, Gathered, Nobody}
@@ -14,7 +14,7 @@ use Rattle.task_queue.specs.declared.view.Share.{Share}
 use Rattle.task_queue.specs.declared.view.View.{View}
 use Rattle.task_queue.specs.Views.{entries_of, pushes_as, pops_as, room_as, pushes_of, pops_of, room_of, most}
 use Rattle.task_queue.specs.Rule.{Facts, QueueHolds, KnowsAs, Knows, IsAdderShare, IsTakerShare}
-use Rattle.task_queue.proofs.Seats.{some_is, none_some}
+use Rattle.queue_packets.proofs.Views.{some_is, none_some}
 use Rattle.task_queue.proofs.Sums.{sum_two, sum_most, sum_at}
 
 -- the passes p and q stepped, and this is how the facts have changed

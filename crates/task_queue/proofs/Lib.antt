@@ -1,4 +1,3 @@
-pub mod Orders
 pub mod Tickets
 pub mod Histories
 pub mod Seats

@@ -11,7 +11,8 @@ use Rattle.pool_model.specs.History.{accepts, outs}
 use Rattle.task_queue.specs.declared.view.View.{View}
 use Rattle.task_queue.specs.Views.{making, adding, taking, nobody, pushes_of, pops_of, room_of}
 use Rattle.task_queue.specs.Rule.{Facts, QueueHolds, Knows}
-use Rattle.task_queue.proofs.Seats.{all_first, all_set, all_more}
+use Rattle.queue_packets.proofs.Views.{all_set, all_more}
+use Rattle.task_queue.proofs.Seats.{all_first}
 use Rattle.task_queue.proofs.Sums.{sum-fork}
 use Rattle.task_queue.proofs.Known.{Steps, knows_still, others_are_nobody}
 

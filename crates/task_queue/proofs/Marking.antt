@@ -8,7 +8,8 @@ use lib.ListN.{get_elem?}
 use Rattle.atomic_table.specs.Table.{State, Me, step, keeps, stepped, Allows, Splits, Joins}
 use Rattle.task_queue.specs.declared.mark.MarkView.{MarkView}
 use Rattle.task_queue.specs.Marks.{marking, KnowsMark, MarkHolds, looks, agrees, sets}
-use Rattle.task_queue.proofs.Seats.{all_first, all_set, all_more, at_other}
+use Rattle.queue_packets.proofs.Views.{all_set, all_more}
+use Rattle.task_queue.proofs.Seats.{all_first, at_other}
 use Rattle.task_queue.proofs.Sums.{sum-set, sum-fork, sum-merge, sum_at}
 
 abbrev parts_of : MarkView → ℕ

@@ -15,7 +15,7 @@ use Rattle.task_queue.specs.declared.view.View.{View}
 use Rattle.task_queue.specs.Views.{taking, gathered, entry_of, pushes_of, pops_of, room_of}
 use Rattle.task_queue.specs.Rule.{Facts, QueueHolds, Knows, IsAdderShare, IsTakerShare}
 use Rattle.task_queue.specs.Steps.{Took, Shows}
-use Rattle.task_queue.proofs.Seats.{all_set}
+use Rattle.queue_packets.proofs.Views.{all_set}
 use Rattle.task_queue.proofs.Sums.{sum-set, sum_one}
 use Rattle.task_queue.proofs.Known.{Steps, knows_still, others_know_still, others_tell_nothing, accepts_short}
 

@@ -14,7 +14,7 @@ use Rattle.task_queue.specs.declared.rule.Queued.{Queued}
 use Rattle.task_queue.specs.declared.view.View.{View}
 use Rattle.task_queue.specs.Views.{adding, entry_of, pushes_of, pops_of, room_of, most}
 use Rattle.task_queue.specs.Rule.{Facts, QueueHolds, Knows}
-use Rattle.task_queue.proofs.Seats.{all_set}
+use Rattle.queue_packets.proofs.Views.{all_set}
 use Rattle.task_queue.proofs.Sums.{sum-set}
 use Rattle.task_queue.proofs.Known.{Steps, knows_still}
 

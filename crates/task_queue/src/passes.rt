@@ -1,6 +1,6 @@
 // The passes of a queue.
 use crate::rule::{Pass, Queued};
-use crate::spares::{AdderRow, OwnRow};
+use crate::spares::{AdderBlocks, OwnBlocks};
 use std::marker::Model;
 
 /// The right to make the other passes of a queue. Contracts see its queue, how many passes there are to be in all, how many of
@@ -25,7 +25,7 @@ impl<J> Model for Maker<J> {
 #[derive(Drop)]
 pub struct Adder<J> {
     pub(crate) pass: Pass<J>,
-    pub(crate) spares: AdderRow<Queued<J>>,
+    pub(crate) spares: AdderBlocks<Queued<J>>,
 }
 
 impl<J> Model for Adder<J> {
@@ -44,7 +44,7 @@ impl<J> Model for Adder<J> {
 #[derive(Drop)]
 pub struct Taker<J> {
     pub(crate) pass: Pass<J>,
-    pub(crate) spares: OwnRow<Queued<J>>,
+    pub(crate) spares: OwnBlocks<Queued<J>>,
 }
 
 impl<J> Model for Taker<J> {

@@ -10,7 +10,7 @@ ghost use Rattle.pool_model.specs.Tickets.{Ascend, tickets_of};
 use crate::looks::{Looks, pop};
 use crate::passes::{Adder, Gathered, Maker, Taker};
 use crate::rule::{Line, Pass, Queued};
-use crate::spares::{AdderRow, Spares};
+use crate::spares::{AdderBlocks, Spares};
 use crate::steps::{Count, Gather, MakeAdder, MakeTaker, Push, PutAdder, PutTaker};
 use fan_base::{Memory, Refused};
 use job_trait::Headed;
@@ -64,7 +64,7 @@ impl<J: Headed> TaskQueue<J> {
     {
         Adder {
             pass: self.line.another::<MakeAdder>(&mut maker.pass),
-            spares: AdderRow::new(),
+            spares: AdderBlocks::new(),
         }
     }
 

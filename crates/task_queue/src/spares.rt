@@ -6,25 +6,25 @@ use std::alloc::Global;
 use std::sync::Wait;
 use std::{array, mem};
 
-/// How many blocks a row has. For so many tasks an adder and a taker make a step or two each on what all share.
-const ROW: usize = 32;
+/// How many blocks a box holds. For so many tasks an adder and a taker make a step or two each on what all share.
+const IN_A_BOX: usize = 32;
 
-/// How many rows wait at most, full ones for the adders and as many empty ones for the takers. Those over are freed, with their blocks.
-const ROWS: usize = 2_048;
+/// How many boxes wait at most, full ones for the adders and as many empty ones for the takers. Those over are freed, with their blocks.
+const BOXES: usize = 2_048;
 
-/// A few empty blocks. Putting one in or taking one out touches no block's own memory, which another thread used last.
+/// Empty blocks, as many as a box holds. Putting one in or taking one out touches no block's own memory, which another thread used last.
 #[derive(Drop)]
-pub(crate) struct Row<X> {
-    blocks: [Option<Block<X>>; ROW],
+pub(crate) struct SpareBlocks<X> {
+    blocks: [Option<Block<X>>; IN_A_BOX],
     count: usize,
 }
 
-/// The row that a pass has, if it has one.
-pub(crate) type OwnRow<X> = Option<Box<Row<X>>>;
+/// The box of blocks that a pass has, if it has one.
+pub(crate) type OwnBlocks<X> = Option<Box<SpareBlocks<X>>>;
 
-impl<X> Row<X> {
-    fn new() -> Row<X> {
-        Row {
+impl<X> SpareBlocks<X> {
+    fn new() -> SpareBlocks<X> {
+        SpareBlocks {
             blocks: array::from_fn(|_| None),
             count: 0,
         }
@@ -59,95 +59,98 @@ fn put_at<T>(places: &mut [Option<T>], at: usize, item: T) -> Option<T> {
     }
 }
 
-/// Rows of blocks that takers gave back, and empty rows for the takers. An adder makes an empty row with the first of each so many blocks
+/// Boxes of blocks that takers gave back, and empty boxes for the takers. An adder makes an empty box with the first of each so many blocks
 /// that it makes, so there are about as many as the tasks that wait, the adders and the takers ask for.
 pub(crate) struct Spares<X> {
-    full: ArrayQueue<Box<Row<X>>>,
-    empty: ArrayQueue<Box<Row<X>>>,
+    full: ArrayQueue<Box<SpareBlocks<X>>>,
+    empty: ArrayQueue<Box<SpareBlocks<X>>>,
     alloc: Global,
 }
 
-/// What an adder has of its own: a row, and how many blocks it has made, modulo 32.
+/// What an adder has of its own: a box of blocks, and how many blocks it has made, modulo 32.
 #[derive(Drop)]
-pub(crate) struct AdderRow<X> {
-    row: OwnRow<X>,
+pub(crate) struct AdderBlocks<X> {
+    blocks: OwnBlocks<X>,
     made: usize,
 }
 
-impl<X> AdderRow<X> {
-    pub(crate) fn new() -> AdderRow<X> {
-        AdderRow { row: None, made: 0 }
+impl<X> AdderBlocks<X> {
+    pub(crate) fn new() -> AdderBlocks<X> {
+        AdderBlocks {
+            blocks: None,
+            made: 0,
+        }
     }
 }
 
 impl<X> Spares<X> {
     pub(crate) fn new(alloc: Global) -> Result<Spares<X>, Memory> {
-        let full = ArrayQueue::new(alloc, ROWS)?;
-        let empty = ArrayQueue::new(alloc, ROWS)?;
+        let full = ArrayQueue::new(alloc, BOXES)?;
+        let empty = ArrayQueue::new(alloc, BOXES)?;
         Ok(Spares { full, empty, alloc })
     }
 
     /// A block for an adder's next task: one of its own, or of those that takers gave back, or a new one.
-    pub(crate) fn next<R: Wait>(&self, rt: &R, own: &mut AdderRow<X>) -> Option<Block<X>> {
-        match pop_own(&mut own.row) {
+    pub(crate) fn next<R: Wait>(&self, rt: &R, own: &mut AdderBlocks<X>) -> Option<Block<X>> {
+        match pop_own(&mut own.blocks) {
             Some(block) => Some(block),
             None => self.refill(rt, own),
         }
     }
 
     // A call of its own, since most tasks need none.
-    fn refill<R: Wait>(&self, rt: &R, own: &mut AdderRow<X>) -> Option<Block<X>> {
+    fn refill<R: Wait>(&self, rt: &R, own: &mut AdderBlocks<X>) -> Option<Block<X>> {
         if let Some(full) = self.full.pop(rt) {
-            if let Some(used_up) = own.row.replace(full) {
+            if let Some(used_up) = own.blocks.replace(full) {
                 let _freed = self.empty.push(rt, used_up);
             }
-            if let Some(block) = pop_own(&mut own.row) {
+            if let Some(block) = pop_own(&mut own.blocks) {
                 return Some(block);
             }
         }
         let block = Block::new(self.alloc).ok()?;
-        self.make_row(rt, own);
+        self.make_box(rt, own);
         Some(block)
     }
 
-    // Makes a row for the takers with the first of so many blocks. It may go without, where there is no memory.
-    fn make_row<R: Wait>(&self, rt: &R, own: &mut AdderRow<X>) {
+    // Makes a box for the takers with the first of so many blocks. It may go without, where there is no memory.
+    fn make_box<R: Wait>(&self, rt: &R, own: &mut AdderBlocks<X>) {
         if own.made == 0
-            && let Ok(row) = Box::new(self.alloc, Row::new())
+            && let Ok(made) = Box::new(self.alloc, SpareBlocks::new())
         {
-            let _freed = self.empty.push(rt, row);
+            let _freed = self.empty.push(rt, made);
         }
-        own.made = own.made.wrapping_add(1) % ROW;
+        own.made = own.made.wrapping_add(1) % IN_A_BOX;
     }
 
-    /// A taker keeps the block of the task that it took, and gives back its row once that is full. Where it has no row the block is freed.
-    pub(crate) fn keep<R: Wait>(&self, rt: &R, own: &mut OwnRow<X>, block: Block<X>) {
+    /// A taker keeps the block of the task that it took, and gives back its box once that is full. Where it has no box the block is freed.
+    pub(crate) fn keep<R: Wait>(&self, rt: &R, own: &mut OwnBlocks<X>, block: Block<X>) {
         if let Some(block) = push_own(own, block) {
             self.give_back(rt, own);
             let _freed = push_own(own, block);
         }
     }
 
-    // A call of its own, as `refill` is. Rows over are freed.
-    fn give_back<R: Wait>(&self, rt: &R, own: &mut OwnRow<X>) {
+    // A call of its own, as `refill` is. Boxes over are freed.
+    fn give_back<R: Wait>(&self, rt: &R, own: &mut OwnBlocks<X>) {
         if let Some(full) = mem::replace(own, self.empty.pop(rt)) {
             let _freed = self.full.push(rt, full);
         }
     }
 }
 
-// Takes a block from a row, if there is one that has some.
-fn pop_own<X>(own: &mut OwnRow<X>) -> Option<Block<X>> {
+// Takes a block from a pass's box, if it has one with a block in it.
+fn pop_own<X>(own: &mut OwnBlocks<X>) -> Option<Block<X>> {
     match own {
-        Some(row) => row.pop(),
+        Some(blocks) => blocks.pop(),
         None => None,
     }
 }
 
-// Puts a block into a row, and gives it back where there is no row or no room in it.
-fn push_own<X>(own: &mut OwnRow<X>, block: Block<X>) -> Option<Block<X>> {
+// Puts a block into a pass's box, and gives it back where it has none or no room in it.
+fn push_own<X>(own: &mut OwnBlocks<X>, block: Block<X>) -> Option<Block<X>> {
     match own {
-        Some(row) => row.push(block),
+        Some(blocks) => blocks.push(block),
         None => Some(block),
     }
 }

@@ -10,6 +10,7 @@ use Rattle.word_table.specs.declared.numbered.NumberedDoc.{NumberedDoc}
 use Rattle.word_table.specs.Numbered.{IsNumbered, AreNumbersOf, word_at}
 use Rattle.word_table.specs.Numbers.{number_in, with_word, with_words}
 use Rattle.word_table.proofs.NumberLemmas.{in-with, same_word, with-more, with-new, with-old}
+use Rattle.word_table.proofs.PairLemmas.{all-append}
 
 -- more words stand behind those that were there
 pub record Extends (words more new : List Word) : Type 0 where
@@ -83,10 +84,6 @@ text-at (u ∷ us) w less = by (pointwise eqb u w) refl less (text-at us w)
     by true e less rest = same_word u w e
     by false e less rest = rest (omega (arith, less))
 
-within-push : (k : ℕ) (ns : List ℕ) (n : ℕ) → AllByRecursion (λ m. m < k) ns → n < k → AllByRecursion (λ m. m < k) (ns ++ n ∷ [])
-within-push k [] n all low = (low, tt)
-within-push k (m ∷ ms) n all low = (all.0, within-push k ms n all.1 low)
-
 stand-push : (words : List Word) (numbers : List ℕ) (texts : List Word) (n : ℕ) (w : Word) → AreNumbersOf words numbers texts → n ≡ number_in (with_word words w) w
     → AreNumbersOf (with_word words w) (numbers ++ n ∷ []) (texts ++ w ∷ [])
 stand-push words numbers texts n w s is =
@@ -96,7 +93,7 @@ stand-push words numbers texts n w s is =
     let text : word_at known n ≡ w = ap (word_at known) is ∙ text-at known w (in-with words w) in
     record {
       texts_are = map-append (word_at known) numbers (n ∷ []) ∙ (λ i. wide.texts_are i ++ text i ∷ []);
-      within = within-push (length known) numbers n wide.within there;
+      within = all-append (λ m. m < length known) numbers (n ∷ []) wide.within (there, tt);
     }
 
 pub stand-step : (known texts : List Word) (i n : ℕ) (w : Word) (numbers : List ℕ) → i < length texts → w ≡ get_or texts i w → length numbers ≡ length texts

@@ -8,7 +8,7 @@ use Rattle.std.specs.BTreeMap.{get, is_at}
 use Rattle.std.proofs.lemmas.Bool.{cases_lt, eq-eqb, le-ltb, lt-ltb, ne_eqb}
 use Rattle.std.proofs.lemmas.Bool.Decides.{nat_tests}
 use Rattle.std.proofs.lemmas.List.{get_or_append_left, get_or_default, get_or_push, length_push, take_more}
-use Rattle.std.proofs.lemmas.List.Sums.{take_while-cons}
+use Rattle.std.proofs.lemmas.List.Sums.{fold_push, take_while-cons}
 use Rattle.std.specs.Prelude.{take_while}
 use Rattle.fan_base.proofs.Words.{up_to_padding}
 use Rattle.fan_base.specs.Word.{is_filled, padded}
@@ -286,10 +286,6 @@ in-with words w = elim (cases_lt (number_in words w) (length words)) [
 
 -- several words are known
 
-fold-push : (known words : List Word) (x : Word) → with_words known (words ++ x ∷ []) ≡ with_word (with_words known words) x
-fold-push known [] x = refl
-fold-push known (w ∷ ws) x = fold-push (with_word known w) ws x
-
 pub with-more : (known words : List Word) (i : ℕ) (x : Word) → i < length words → x ≡ get_or words i x → with_words known (take (i + 1) words) ≡ with_word (with_words known (take i words)) x
 with-more known words i x within is =
-    ap (λ (ws : List Word). with_words known ws) (take_more words i x within ∙ ap (λ (v : Word). take i words ++ v ∷ []) (sym is)) ∙ fold-push known (take i words) x
+    ap (λ (ws : List Word). with_words known ws) (take_more words i x within ∙ ap (λ (v : Word). take i words ++ v ∷ []) (sym is)) ∙ fold_push with_word known (take i words) x

@@ -5,7 +5,7 @@ use Rattle.crossbeam_queue.specs.SegTies.{SegId}
 use Rattle.task_queue.specs.Seen.{AdderSeen, GatheredSeen}
 use Rattle.prio_pool.specs.Gathering.{only_adder}
 use Rattle.prio_pool.proofs.Gathered.{next_only, next_queue}
-use Rattle.pool_runs.proofs.Lists.{one_over}
+use Rattle.pool_model.proofs.Lists.{one_over}
 use Rattle.prio_pool.proofs.gather.gather_adders.Goals as goal
 
 pub loop-adder-init : goal.loop-adder-init

@@ -6,7 +6,7 @@ use Rattle.pool_model.specs.Seen.{PassSeen}
 use Rattle.task_queue.specs.Marks.{OpenSeen}
 use Rattle.prio_pool.specs.Made.{in_places, IsPlace}
 use Rattle.prio_pool.specs.Passes.{first_pass}
-use Rattle.pool_runs.proofs.Lists.{one_over}
+use Rattle.pool_model.proofs.Lists.{one_over}
 use Rattle.prio_pool.proofs.listed.adder_passes.Goals as goal
 
 pub loop-adders-preserved : goal.loop-adders-preserved

@@ -5,7 +5,7 @@ use Rattle.pool_model.specs.Seen.{EndSeen}
 use Rattle.prio_pool.specs.Made.{helper_seen}
 use Rattle.prio_pool.specs.Passes.{TookNothing}
 use Rattle.prio_pool.specs.Takers.{TakersSeen}
-use Rattle.pool_runs.proofs.Lists.{one_over}
+use Rattle.pool_model.proofs.Lists.{one_over}
 use Rattle.prio_pool.proofs.listed.helper_passes.Goals as goal
 
 pub loop-takers-preserved : goal.loop-takers-preserved

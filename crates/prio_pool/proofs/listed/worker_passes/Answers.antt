@@ -6,7 +6,7 @@ use Rattle.prio_pool.specs.Made.{worker_seen}
 use Rattle.prio_pool.specs.Passes.{TookNothing}
 use Rattle.prio_pool.specs.Sleeping.{parkers_of, bits_of}
 use Rattle.prio_pool.specs.Takers.{TakersSeen}
-use Rattle.pool_runs.proofs.Lists.{one_over}
+use Rattle.pool_model.proofs.Lists.{one_over}
 use Rattle.prio_pool.proofs.Sleeping.{same_others}
 use Rattle.prio_pool.proofs.listed.worker_passes.Goals as goal
 

@@ -8,7 +8,7 @@ use Rattle.pool_model.specs.Passes.{HasNoGap, adds_of}
 use Rattle.pool_model.specs.Seen.{PassSeen}
 use Rattle.task_queue.specs.Seen.{GatheredSeen}
 use Rattle.prio_pool.specs.Gathering.{gathered_from, OneAdderMore}
-use Rattle.pool_runs.proofs.Lists.{one_over}
+use Rattle.pool_model.proofs.Lists.{one_over}
 use Rattle.prio_pool.proofs.Merging.{queues_of}
 use Rattle.prio_pool.proofs.together.put_passes.Goals as goal
 

@@ -10,7 +10,7 @@ use Rattle.pool_model.specs.Records.{Record}
 use Rattle.pool_model.specs.Seen.{EndSeen}
 use Rattle.task_queue.specs.Marks.{WatchSeen}
 use Rattle.prio_pool.specs.Gathering.{gathered_from, IsOf, FoundAs}
-use Rattle.pool_runs.proofs.Lists.{one_over}
+use Rattle.pool_model.proofs.Lists.{one_over}
 use Rattle.prio_pool.proofs.together.put_workers.Goals as goal
 
 -- the last of the ends is the first of them turned round

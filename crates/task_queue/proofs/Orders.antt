@@ -1,8 +1,0 @@
--- A sum of ones.
-use Rattle.std.proofs.Common.{◌≡◌, List, [], ◌∷◌, length, refl, arith}
-use Rattle.std.specs.List.{sum_by}
-use Rattle.std.proofs.lemmas.List.Sums.{sum_by-cons}
-
-pub sum_by-ones : {X : Type 0} (xs : List X) → sum_by (λ _. 1) xs ≡ length xs
-sum_by-ones [] = refl
-sum_by-ones (x ∷ xs) = omega (arith, sum_by-cons (λ (_ : _). 1) x xs, sum_by-ones xs)
