@@ -15,6 +15,7 @@ use notify_queue::SenderEnd;
 use std::alloc::Global;
 use std::marker::Model;
 use std::sync::Wait;
+use tick_wheel::ScheduleFault;
 
 /// The queries that wait for their due ticks. It must be spent by [`QueryTimers::close`].
 pub struct QueryTimers<'h> {
@@ -88,7 +89,9 @@ fn schedule(base: &mut EventBase<DueQuery>, number: u64, delay: u32) -> Result<u
     };
     match agenda.schedule(u64::from(delay), job) {
         Ok(()) => Ok(due),
-        Err(_) => Err(Memory),
+        Err(ScheduleFault::Memory(_)) => Err(Memory),
+        Err(ScheduleFault::ZeroDelay(_)) => unreachable!(),
+        Err(ScheduleFault::DelayTooLong(_)) => unreachable!(),
     }
 }
 
