@@ -107,10 +107,11 @@ module _ {N : Type 0} where
       → end.left.note.ran.stopped ≡ is_stopped asked.stop_at (answered_in asked.lines) → (end.left.note.ran.stopped ≡ true → IsStopAccount asked mid end.left) → (end.left.note.ran.stopped ≡ false → IsJoinAccount mid end.left)
       → (end.left.refused ≡ false → end.left.ends.tasks.refused ≡ false → AllDone (ends ++ mid.helper ∷ []) → IsPoolReport asked (told_by end.left.note))
       → (end.left.ends.tasks.refused ≡ false → mid.front.world.refused ≡ false)
+      → (end.left.ends.tasks.refused ≡ false → end.left.ends.tasks.tally.handed ≡ mid.front.world.tally.handed)
       → AreEndsFor (map told_of mid.front.world.posters) end.left.ends.tasks.posters.items → StaysPass mid.front.world.pass end.left.ends.tasks.pass → IsDoneBy mid.front.printer end.left.ends.printer
       → IsPrinterEnd asked ids 0 end.left.ends.printer
       → IsSideEnd asked ids end
-  side_end asked ids stop start pool slots room mid ends worlds end s e is all done stops account ran report refused posters pass printer poster = record {
+  side_end asked ids stop start pool slots room mid ends worlds end s e is all done stops account ran report refused handed posters pass printer poster = record {
     worlds = subst (λ (l : List (TaskEnds N)). AreWorldEnds ids l) (sym is) all;
     tasks = record {
       posters = subst (λ (l : List _). AreEndsFor l end.left.ends.tasks.posters.items) (e.helped.follows.posters ∙ s.world.posters) posters;
@@ -118,6 +119,7 @@ module _ {N : Type 0} where
         cells = pass.cells ∙ (e.helped.follows.pass.cells ∙ s.world.pass.cells);
         passes = pass.passes ∙ (e.helped.follows.pass.passes ∙ s.world.pass.passes);
       };
+      handed = λ calm. handed calm ∙ (e.helped.follows.handed (refused calm) ∙ ap (λ t. t.handed) s.world.tally);
     };
     poster = poster;
     stopped = record { stops = stops; account = λ on. stop_told asked stop pool start mid end.left e (account on); joined = λ off. join_told asked stop pool start mid end.left e (ran off) };

@@ -1,19 +1,22 @@
 -- What was counted, and what a run has to count.
-use Rattle.std.proofs.Common.{◌≡◌, ℕ, Bool, true, List, length, map, ap, sym, ◌∙◌, subst}
+use Rattle.std.proofs.Common.{◌≡◌, ℕ, ◌+◌, ◌*◌, ◌≤◌, Bool, true, List, length, map, ap, sym, ◌∙◌, subst, arith}
+use Rattle.std.proofs.lemmas.Nat.{mul-le}
+use Rattle.std.proofs.Math.Nat.{mul_comm}
 use Rattle.std.specs.Prelude.{Some}
 use Rattle.std.specs.Bool.{OnTrue}
 use Rattle.event_base.specs.Seen.{NoteSeen}
+use Rattle.query_model.specs.declared.line.Line.{Line}
 use Rattle.query_model.specs.Documents.{queries_of}
 use Rattle.query_model.specs.Order.{replies_of}
-use Rattle.core_word.specs.Count.{Counts}
+use Rattle.core_word.specs.Count.{Counts, added}
 use Rattle.fan_model.specs.Answered.{answered_in, tops_in}
 use Rattle.fan_model.specs.Notes.{emptied, notes_of}
 use Rattle.fan_model.specs.Report.{Asking, IsPoolReport}
 use Rattle.fan_model.specs.Tasks.{printer_exec}
-use Rattle.fan_model.specs.Totals.{Totals, core_totals, totals_by}
+use Rattle.fan_model.specs.Totals.{core_totals, totals_by}
 use Rattle.run_notes.specs.declared.counting.Counted.{Counted}
 use Rattle.run_notes.specs.declared.notes.PoolNote.{PoolNote}
-use Rattle.run_notes.specs.Counting.{ArePutBy, HasCounted, totals_of}
+use Rattle.run_notes.specs.Counting.{AreCoresBy, ArePutBy, HasCounted, totals_of}
 use Rattle.run_notes.specs.Told.{note_of, told_of}
 use Rattle.run_printing.specs.Ends.{IsWhole}
 use Rattle.run_ending.specs.declared.end.FanEnd.{FanEnd}
@@ -30,18 +33,30 @@ totals_are asked counted shards counts as_many =
 
 -- both comparisons agree
 pub both_agree : (asked : Asking) (counted : Counted) (shards : ℕ) (tally : Counts) (notes : List NoteSeen) → HasCounted asked.lines asked.bases counted → shards ≡ asked.shards
-    → totals_of tally ≡ totals_by counted.answered counted.tops shards → ArePutBy shards counted.by_base.items notes → DoAgree asked counted tally notes
+    → AreCoresBy tally (totals_by counted.answered counted.tops shards) → ArePutBy shards counted.by_base.items notes → DoAgree asked counted tally notes
 both_agree asked counted shards tally notes counts as_many cores puts = record {
-  cores = cores ∙ totals_are asked counted shards counts as_many;
+  cores = subst (AreCoresBy tally) (totals_are asked counted shards counts as_many) cores;
   puts = subst (λ (n : ℕ). ArePutBy n counted.by_base.items notes) as_many puts;
 }
 
 pub cores_of_both : (asked : Asking) (counted : Counted) (shards : ℕ) (tally : Counts) (notes : List NoteSeen) → HasCounted asked.lines asked.bases counted → shards ≡ asked.shards → DoAgree asked counted tally notes
-    → totals_of tally ≡ totals_by counted.answered counted.tops shards
-cores_of_both asked counted shards tally notes counts as_many both = both.cores ∙ sym (totals_are asked counted shards counts as_many)
+    → AreCoresBy tally (totals_by counted.answered counted.tops shards)
+cores_of_both asked counted shards tally notes counts as_many both = subst (AreCoresBy tally) (sym (totals_are asked counted shards counts as_many)) both.cores
 
 pub puts_of_both : (asked : Asking) (counted : Counted) (shards : ℕ) (tally : Counts) (notes : List NoteSeen) → shards ≡ asked.shards → DoAgree asked counted tally notes → ArePutBy shards counted.by_base.items notes
 puts_of_both asked counted shards tally notes as_many both = subst (λ (n : ℕ). ArePutBy n counted.by_base.items notes) (sym as_many) both.puts
+
+-- What was handed over: nothing before the stages ran, a core for each message of the gathering bases, and one for each answered query's reply.
+pub handed_whole : (opening others printing puts answered shards : ℕ) → opening ≡ 0 → others ≡ added 0 puts → printing ≡ answered → puts ≡ shards * answered → answered ≤ 4294967296 → shards ≤ 64
+    → added (added opening others) printing ≡ answered * shards + answered
+handed_whole opening others printing puts answered shards none messages replies put few few_shards =
+    omega (arith, none, messages, replies, put, few, mul-le shards answered 64 4294967296 few_shards few, mul_comm answered shards)
+
+-- with what was handed over the numbers are all those of the run
+pub all_cores : (lines : List Line) (shards : ℕ) (tally : Counts) → AreCoresBy tally (core_totals lines shards) → tally.handed ≡ length (answered_in lines) * shards + length (answered_in lines)
+    → totals_of tally ≡ core_totals lines shards
+unfolding core_totals
+all_cores lines shards tally are handed = λ i. record { made = are.made i; handed = handed i; forwarded = are.forwarded i; freed = are.freed i; reopened = are.reopened i }
 
 -- the printer's note is that of a queue that gave a message for each query
 pub printer_note : (asked : Asking) (n : NoteSeen) (counts : Counts) → IsWhole asked.lines (printer_exec asked.bases) n counts → length (replies_of asked.lines) ≡ length (queries_of asked.lines)

@@ -1,4 +1,4 @@
-ghost use Rattle.std.specs.Prelude.{◌≡◌, ◌+◌, ◌≤◌, List, length};
+ghost use Rattle.std.specs.Prelude.{◌≡◌, ◌+◌, List, length};
 ghost use Rattle.core_cells.specs.Seen.{AreAll};
 ghost use Rattle.fan_base.specs.Outside.{shown};
 ghost use Rattle.run_printing.specs.Ends.{HasPrinted, IsBaseOf, IsNewBase};
@@ -68,6 +68,7 @@ pub(crate) fn run_over_cells<
     requires all { AreAll cells.now passes.items }
     requires tables { AreTablesOf N.asked tables.items }
     requires dealt { AreAllDealt N.asked tables.items }
+    requires opening { tally.handed ≡ 0 }
     ensures { IsEndOf N.asked (shown (K.holds sink.old) (K.faults sink.old)) (shown (K.holds sink.new) (K.faults sink.new)) result }
 {
     let workers = plan.knobs.workers;
@@ -103,6 +104,7 @@ fn run_opened<
     requires plan { IsPlanned N.asked plan.now.lines.now plan.now.turns.now plan.now.counted.now plan.now.stop plan.now.knobs }
     requires setup { (ids : RunIds) × (ids.workers ≡ plan.now.knobs.workers) × IsSetup N.asked ids setup }
     requires tables { (tables : List TableSeen) × HaveTables setup.gatherers.items tables × AreAllDealt N.asked tables }
+    requires opening { tally.handed ≡ 0 }
     ensures { IsEndOf N.asked (shown (K.holds sink.old) (K.faults sink.old)) (shown (K.holds sink.new) (K.faults sink.new)) result }
 {
     let Setup {

@@ -227,6 +227,7 @@ fn over_slots<
 ) -> FanEnd
     requires plan { IsPlanned N.asked plan.now.lines.now plan.now.turns.now plan.now.counted.now plan.now.stop plan.now.knobs }
     requires keys { AreEnough N.asked keys }
+    requires nothing { keys.tally.handed ≡ 0 }
     ensures { IsEndOf N.asked (shown (K.holds sink.old) (K.faults sink.old)) (shown (K.holds sink.new) (K.faults sink.new)) result }
 {
     comings_in_order();
@@ -258,6 +259,7 @@ fn over_desks<
     requires plan { IsPlanned N.asked plan.now.lines.now plan.now.turns.now plan.now.counted.now plan.now.stop plan.now.knobs }
     requires desks { AreTablesOf N.asked desks.tables.items }
     requires dealt { AreAllDealt N.asked desks.tables.items }
+    requires opening { desks.tally.handed ≡ 0 }
     ensures { IsEndOf N.asked (shown (K.holds sink.old) (K.faults sink.old)) (shown (K.holds sink.new) (K.faults sink.new)) result }
 {
     let made: MadeTaskHomes<N> = new_homes(alloc, plan.cells());
@@ -331,6 +333,7 @@ fn over_cells<
     requires all { AreAll made.cells made.passes.items }
     requires desks { AreTablesOf N.asked desks.tables.items }
     requires dealt { AreAllDealt N.asked desks.tables.items }
+    requires opening { desks.tally.handed ≡ 0 }
     ensures { IsEndOf N.asked (shown (K.holds sink.old) (K.faults sink.old)) (shown (K.holds sink.new) (K.faults sink.new)) result }
 {
     let MadeCells { cells, passes } = made;

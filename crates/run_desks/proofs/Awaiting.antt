@@ -12,7 +12,7 @@ use Rattle.fan_parts.specs.Seen.{EndSeen}
 use Rattle.query_opening.specs.Turns.{IsDeskOf}
 use Rattle.run_gathering.specs.Awaited.{AwaitedSeen, TableSeen, awaited_at, place_of, with_part}
 use Rattle.run_gathering.specs.Dealt.{AreDealt, AwaitsBegun, AwaitsQuery, arrival_for}
-use Rattle.run_desks.specs.Tables.{with_arrivals}
+use Rattle.run_desks.specs.Tables.{HasRoomFor, with_arrivals}
 use Rattle.run_desks.proofs.Places.{has_place, same_number, same_or_not, same_row}
 
 arrivals_bases : (desk : DeskId EndSeen) (n k : ℕ) (t : TableSeen) → (with_arrivals desk n k t).bases ≡ t.bases
@@ -122,6 +122,55 @@ same_table asked place base t none so = record {
         at_is = is.at_is;
       };
 }
+
+none_or : (o : Option AwaitedSeen) → ((part : AwaitedSeen) → o ≡ Some part → ⊥) → o ≡ None
+none_or None lacks = refl
+none_or (Some part) lacks = absurd (lacks part refl)
+
+-- The table has a place for each part of the query that is begun next, and nothing stands there.
+pub room_for : (asked : Asking) (place base : ℕ) (query : Asked) (t : TableSeen) → 0 < asked.bases
+    → ((at : ℕ) (a : Asked) → ComesAt asked.lines at (Coming.begins a) → 1 ≤ a.number)
+    → ((at other : ℕ) (a b : Asked) → ComesAt asked.lines at (Coming.begins a) → ComesAt asked.lines other (Coming.begins b) → a.number ≡ b.number → at ≡ other)
+    → ComesAt asked.lines place (Coming.begins query) → query.number ≤ length (comings_of asked.lines) → base_of asked.bases query.number ≡ base
+    → AwaitsBegun asked place base t → HasRoomFor query.number asked.shards t
+room_for asked place base query t some from_one once comes few on so =
+    let n = query.number in
+    let place_is : (m s : ℕ) → place_of t m s ≡ m / asked.bases * asked.shards + s =
+    λ m s. ap (λ (b : ℕ). m / b * t.shards + s) so.of.0 ∙ ap (λ (w : ℕ). m / asked.bases * w + s) so.of.1 in
+    record {
+      place = λ s within. omega (arith, place_is n s, so.places, has_place n (length (comings_of asked.lines)) asked.bases s asked.shards some few within);
+      empty = λ s within. none_or (awaited_at t (place_of t n s)) (λ part stands.
+          let is = so.only (place_of t n s) part stands in
+          let one : 1 ≤ part.number = omega (arith, is.number_is, from_one is.place is.query is.comes) in
+          let row : n / asked.bases ≡ part.number / asked.bases =
+          same_row (n / asked.bases) (part.number / asked.bases) asked.shards s part.shard within is.within (sym (place_is n s) ∙ (is.at_is ∙ place_is part.number part.shard)) in
+          let part_on : base_of asked.bases part.number ≡ base = ap (base_of asked.bases) is.number_is ∙ is.on_base in
+          let same : n ≡ part.number = same_number asked.bases n part.number some (from_one place query comes) one (omega (arith, on, part_on)) row in
+          let here : place ≡ is.place = once place is.place query is.query comes is.comes (same ∙ is.number_is) in
+          omega (arith, here, is.before));
+    }
+
+-- the same of the table in a list of tables
+pub dealt_room : (asked : Asking) (place k number shards : ℕ) (query : Asked) (tables : List TableSeen) (table : TableSeen) → 0 < asked.bases
+    → ((at : ℕ) (a : Asked) → ComesAt asked.lines at (Coming.begins a) → 1 ≤ a.number)
+    → ((at other : ℕ) (a b : Asked) → ComesAt asked.lines at (Coming.begins a) → ComesAt asked.lines other (Coming.begins b) → a.number ≡ b.number → at ≡ other)
+    → ComesAt asked.lines place (Coming.begins query) → query.number ≤ length (comings_of asked.lines) → 1 + k ≡ base_of asked.bases query.number
+    → slice_get tables k ≡ Some table → AreDealt asked place tables → number ≡ query.number → shards ≡ asked.shards → HasRoomFor number shards table
+dealt_room asked place k number shards query tables table some from_one once comes few base there so same_number same_shards =
+    let room = room_for asked place (1 + k) query table some from_one once comes few (sym base) (so.each k table there) in
+    subst (λ (n : ℕ). HasRoomFor n shards table) (sym same_number) (subst (λ (j : ℕ). HasRoomFor query.number j table) (sym same_shards) room)
+
+-- behind the arrivals for the first so many shards there is room for that of the next
+pub room_left : (desk : DeskId EndSeen) (n k shards : ℕ) (first old : TableSeen) (part : AwaitedSeen) → HasRoomFor n shards first → k < shards
+    → old ≡ with_arrivals desk n k first → part.number ≡ n → part.shard ≡ k
+    → (place_of old part.number part.shard < length old.parts) × (awaited_at old (place_of old part.number part.shard) ≡ None)
+room_left desk n k shards first old part room less so number shard =
+    let own : place_of old part.number part.shard ≡ place_of old n k = ap (λ (m : ℕ). place_of old m part.shard) number ∙ ap (λ (s : ℕ). place_of old n s) shard in
+    let at : place_of old part.number part.shard ≡ place_of first n k = own ∙ (ap (λ (t : TableSeen). place_of t n k) so ∙ arrivals_place desk n k first n k) in
+    let many : length old.parts ≡ length first.parts = ap (λ (t : TableSeen). length t.parts) so ∙ arrivals_many desk n k first in
+    let stood : awaited_at old (place_of first n k) ≡ awaited_at first (place_of first n k) =
+    ap (λ (t : TableSeen). awaited_at t (place_of first n k)) so ∙ arrivals_others desk n k first (place_of first n k) (λ s l e. omega (arith, l, e)) in
+    (omega (arith, at, many, room.place k less), ap (λ (p : ℕ). awaited_at old p) at ∙ (stood ∙ room.empty k less))
 
 -- One place more, at which this query is begun for this base, and the arrivals at its desk are put.
 pub begun_table : (asked : Asking) (place base : ℕ) (query : Asked) (desk : DeskId EndSeen) (t : TableSeen) → 0 < asked.bases

@@ -3,3 +3,4 @@ mod KeyCounts
 mod Counting
 mod Places
 mod Awaiting
+mod Once

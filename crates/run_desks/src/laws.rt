@@ -1,8 +1,10 @@
 //! What is known of the turns of a run. These functions do nothing: their clauses are laws.
 ghost use Rattle.std.specs.Prelude.{◌≡◌, ℕ, ◌≤◌, List, Some, length};
 ghost use Rattle.std.specs.List.{slice_get};
+ghost use Rattle.query_model.specs.declared.line.Line.{Line};
 ghost use Rattle.query_model.specs.declared.line.Line.TheVariants as line;
-ghost use Rattle.fan_model.specs.Comings.{comings_of};
+ghost use Rattle.query_model.specs.Order.{Asked};
+ghost use Rattle.fan_model.specs.Comings.{Coming, ComesAt, comings_of};
 ghost use Rattle.fan_parts.specs.Facts.{IsAskOf, IsCountable};
 ghost use Rattle.fan_parts.specs.Seen.{AskSeen};
 ghost use Rattle.front_walk.specs.Following.{IsInput};
@@ -33,6 +35,14 @@ pub fn begun_query_is_asked<N: RunName>()
     ensures from_one { (place number at documents : ℕ) → IsBegun N.asked place number at documents → 1 ≤ number }
     ensures same { (place number at documents : ℕ) (b : IsBegun N.asked place number at documents) (ask : AskSeen)
         (is_ask : IsAskOf N.asked ask.number ask.asks ask.before) → ask.number ≡ number → is_ask.query ≡ b.query }
+{
+    comings_in_order();
+}
+
+/// A query is begun at one place alone.
+pub(crate) fn begun_once()
+    ensures { (lines : List Line) (place other : ℕ) (a b : Asked) → ComesAt lines place (Coming.begins a) →
+        ComesAt lines other (Coming.begins b) → a.number ≡ b.number → place ≡ other }
 {
     comings_in_order();
 }

@@ -12,7 +12,7 @@ ghost use Rattle.run_desks.specs.Tables.{AreTablesOf};
 ghost use Rattle.run_desks.specs.Turns.{IsTurnAt};
 
 use crate::keys::DeskKeys;
-use crate::laws::{begun_query_is_asked, known_turns};
+use crate::laws::{begun_once, begun_query_is_asked, known_turns};
 use crate::opening::{OpenedQuery, open_query};
 use crate::tables::{await_parts, close_tables, new_tables};
 use core_word::Tally;
@@ -146,6 +146,7 @@ fn begin_query<'d, 'r: 'd, 'i: 'r, N: RunName + 'static, R: Wait>(
     ensures keys { OnOk result (HasKeysFor (drop (place + 1) (comings_of N.asked.lines)) keys.new) }
 {
     begun_query_is_asked::<N>();
+    begun_once();
     comings_are_queries();
     each_query_has_a_reply();
     place_by_place();

@@ -3,7 +3,7 @@ ghost use Rattle.std.specs.Prelude.{◌≡◌, ◌≤◌, IfOk, length};
 ghost use Rattle.fan_model.specs.Comings.{comings_of};
 ghost use Rattle.query_opening.specs.Turns.{IsDeskOf};
 ghost use Rattle.run_gathering.specs.Dealt.{AreDealt};
-ghost use Rattle.run_desks.specs.Tables.{with_arrivals};
+ghost use Rattle.run_desks.specs.Tables.{HasRoomFor, with_arrivals};
 
 use collect_ops::Arrivals;
 use fan_base::Memory;
@@ -53,7 +53,7 @@ pub(crate) fn close_tables<'d, 'r: 'd, 'i: 'r, N: RunName>(
     tables.destroy_empty();
 }
 
-/// Puts all arrivals at the desk of a query into the table of its base, each at its place.
+/// Puts all arrivals at the desk of a query into the table of its base, each at its place, at which nothing stands.
 pub(crate) fn await_parts<'d, 'r: 'd, 'i: 'r, N: RunName>(
     table: &mut PartTable<'d, 'r, 'i, N>,
     number: u32,
@@ -63,6 +63,7 @@ pub(crate) fn await_parts<'d, 'r: 'd, 'i: 'r, N: RunName>(
     requires shards { shards ≡ N.asked.shards }
     requires desk { IsDeskOf N.asked number arrivals.desk }
     requires first { arrivals.next ≡ 0 }
+    requires room { HasRoomFor number shards table.old }
     ensures { table.new ≡ with_arrivals arrivals.entry.desk number shards table.old }
 {
     let mut arrivals = arrivals;

@@ -1,4 +1,4 @@
-ghost use Rattle.std.specs.Prelude.{◌≡◌, ◌++◌, ◌∷◌, [], true, false};
+ghost use Rattle.std.specs.Prelude.{◌≡◌, ◌↔◌, ◌++◌, ◌∷◌, [], true, false};
 ghost use Rattle.std.specs.Bool.{OnTrue};
 
 use event_base::QueueNote;
@@ -7,7 +7,7 @@ use std::alloc::Global;
 
 /// Whether all numbers agree, all notes are listed, and nobody notes want of memory.
 pub fn is_fine(agrees: bool, listed: bool, refused: bool, missed: bool) -> bool
-    ensures { OnTrue result ((agrees ≡ true) × (listed ≡ true) × (refused ≡ false) × (missed ≡ false)) }
+    ensures { (result ≡ true) ↔ ((agrees ≡ true) × (listed ≡ true) × (refused ≡ false) × (missed ≡ false)) }
 {
     agrees && listed && !refused && !missed
 }

@@ -31,9 +31,11 @@ module _ {N : Type 0} where
   pub nothing : (w : GatheringSeen N) → GathersBy 0 0 [] w w
   nothing w = record { sent = sym (append-nil w.printer.sender.sent); same = (refl, refl, refl); known = λ e. e; tally = λ e. refl }
 
-  -- nothing that is seen was done by a world that is seen as `now`
-  pub kept : (inside now : GatheringSeen N) → inside ≡ now → GathersBy 0 0 [] now inside
-  kept inside now is = subst (λ (a : GatheringSeen N). GathersBy 0 0 [] a inside) is (nothing inside)
+  -- nothing but the scorings was changed by a world that is seen as `now`
+  pub kept : (inside now : GatheringSeen N) (waiting : ℕ) → inside ≡ now → GathersBy 0 0 [] now (record inside { waiting = waiting })
+  kept inside now waiting is =
+      let same : GathersBy 0 0 [] inside (record inside { waiting = waiting }) = record { sent = sym (append-nil inside.printer.sender.sent); same = (refl, refl, refl); known = λ e. e; tally = λ e. refl } in
+      subst (λ (a : GatheringSeen N). GathersBy 0 0 [] a (record inside { waiting = waiting })) is same
 
   -- one step behind another
   pub join : (f w f' w' : ℕ) (ps ps' : List (PrintJob N)) (a b c : GatheringSeen N) → GathersBy f w ps a b → GathersBy f' w' ps' b c → GathersBy (f + f') (w + w') (ps ++ ps') a c
@@ -59,6 +61,7 @@ module _ {N : Type 0} where
     printer = record { sender = with_put a.printer.sender job; exec = a.printer.exec };
     tally = record a.tally { freed = raised a.tally.freed };
     refused = a.refused;
+    waiting = a.waiting;
   })
   posting a job = record { sent = refl; same = (refl, refl, refl); known = λ e. e; tally = λ e. refl }
 
@@ -66,40 +69,40 @@ module _ {N : Type 0} where
   pub posted : (inside now : GatheringSeen N) (printer : PosterSeen (PrintJob N)) (t : Counts) (job : PrintJob N) → inside ≡ now
       → printer ≡ record { sender = with_put inside.printer.sender job; exec = inside.printer.exec }
       → t ≡ record inside.tally { freed = raised inside.tally.freed }
-      → (posts : List (PrintJob N)) × GathersBy 0 0 posts now (record { printer = printer; tally = t; refused = inside.refused })
+      → (posts : List (PrintJob N)) × GathersBy 0 0 posts now (record { printer = printer; tally = t; refused = inside.refused; waiting = inside.waiting })
   posted inside now printer t job is put freed = (
     job ∷ [],
-    subst (λ (a : GatheringSeen N). GathersBy 0 0 (job ∷ []) a (record { printer = printer; tally = t; refused = inside.refused })) is
-        (subst (λ (q : PosterSeen (PrintJob N)). GathersBy 0 0 (job ∷ []) inside (record { printer = q; tally = t; refused = inside.refused })) (sym put)
-        (subst (λ (u : Counts). GathersBy 0 0 (job ∷ []) inside (record { printer = record { sender = with_put inside.printer.sender job; exec = inside.printer.exec }; tally = u; refused = inside.refused })) (sym freed) (posting inside job))),
+    subst (λ (a : GatheringSeen N). GathersBy 0 0 (job ∷ []) a (record { printer = printer; tally = t; refused = inside.refused; waiting = inside.waiting })) is
+        (subst (λ (q : PosterSeen (PrintJob N)). GathersBy 0 0 (job ∷ []) inside (record { printer = q; tally = t; refused = inside.refused; waiting = inside.waiting })) (sym put)
+        (subst (λ (u : Counts). GathersBy 0 0 (job ∷ []) inside (record { printer = record { sender = with_put inside.printer.sender job; exec = inside.printer.exec }; tally = u; refused = inside.refused; waiting = inside.waiting })) (sym freed) (posting inside job))),
   )
 
   -- its post was refused
   pub unposted : (inside now : GatheringSeen N) (printer : PosterSeen (PrintJob N)) (t : Counts) → inside ≡ now → printer ≡ inside.printer
-      → (posts : List (PrintJob N)) × GathersBy 0 0 posts now (record { printer = printer; tally = t; refused = true })
+      → (posts : List (PrintJob N)) × GathersBy 0 0 posts now (record { printer = printer; tally = t; refused = true; waiting = inside.waiting })
   unposted inside now printer t is same = (
     [],
-    subst (λ (a : GatheringSeen N). GathersBy 0 0 [] a (record { printer = printer; tally = t; refused = true })) is
-        (subst (λ (q : PosterSeen (PrintJob N)). GathersBy 0 0 [] inside (record { printer = q; tally = t; refused = true })) (sym same) (refusing 0 0 inside t)),
+    subst (λ (a : GatheringSeen N). GathersBy 0 0 [] a (record { printer = printer; tally = t; refused = true; waiting = inside.waiting })) is
+        (subst (λ (q : PosterSeen (PrintJob N)). GathersBy 0 0 [] inside (record { printer = q; tally = t; refused = true; waiting = inside.waiting })) (sym same) (refusing 0 0 inside t)),
   )
 
   -- a fire of a task was unpacked
   pub fired : (inside now : GatheringSeen N) (t : Counts) → inside ≡ now → t ≡ record inside.tally { handed = raised inside.tally.handed }
-      → (forwards : ℕ) × (posts : List (PrintJob N)) × GathersBy 1 forwards posts now (record { printer = inside.printer; tally = t; refused = inside.refused })
+      → (forwards : ℕ) × (posts : List (PrintJob N)) × GathersBy 1 forwards posts now (record { printer = inside.printer; tally = t; refused = inside.refused; waiting = inside.waiting })
   fired inside now t is handed = (
     0,
     [],
-    subst (λ (a : GatheringSeen N). GathersBy 1 0 [] a (record { printer = inside.printer; tally = t; refused = inside.refused })) is
-        (subst (λ (u : Counts). GathersBy 1 0 [] inside (record { printer = inside.printer; tally = u; refused = inside.refused })) (sym handed) (tallied 1 0 inside)),
+    subst (λ (a : GatheringSeen N). GathersBy 1 0 [] a (record { printer = inside.printer; tally = t; refused = inside.refused; waiting = inside.waiting })) is
+        (subst (λ (u : Counts). GathersBy 1 0 [] inside (record { printer = inside.printer; tally = u; refused = inside.refused; waiting = inside.waiting })) (sym handed) (tallied 1 0 inside)),
   )
 
   -- a reply's core was forwarded, and nothing was posted then
   pub forwarded : (inside now next : GatheringSeen N) (t : Counts) → inside ≡ now
       → t ≡ record inside.tally { made = raised inside.tally.made; forwarded = raised inside.tally.forwarded; freed = raised inside.tally.freed }
-      → GathersBy 0 0 [] (record { printer = inside.printer; tally = t; refused = inside.refused }) next
+      → GathersBy 0 0 [] (record { printer = inside.printer; tally = t; refused = inside.refused; waiting = inside.waiting }) next
       → (forwards : ℕ) × (posts : List (PrintJob N)) × GathersBy 0 forwards posts now next
   forwarded inside now next t is counts second =
-      let mid : GatheringSeen N = record { printer = inside.printer; tally = t; refused = inside.refused } in
+      let mid : GatheringSeen N = record { printer = inside.printer; tally = t; refused = inside.refused; waiting = inside.waiting } in
       let first : GathersBy 0 1 [] inside mid =
-      subst (λ (u : Counts). GathersBy 0 1 [] inside (record { printer = inside.printer; tally = u; refused = inside.refused })) (sym counts) (tallied 0 1 inside) in
+      subst (λ (u : Counts). GathersBy 0 1 [] inside (record { printer = inside.printer; tally = u; refused = inside.refused; waiting = inside.waiting })) (sym counts) (tallied 0 1 inside) in
       (1, [], subst (λ (a : GatheringSeen N). GathersBy 0 1 [] a next) is (join 0 1 0 0 [] [] inside mid next first second))

@@ -2,5 +2,6 @@ mod Counting
 mod Contents
 mod Firing
 mod Looped
+mod Waiting
 pub mod Crossings
 pub mod Living

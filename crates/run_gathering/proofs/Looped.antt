@@ -1,18 +1,19 @@
 -- What loops of a gathering base keep, one after another.
-use Rattle.std.proofs.Common.{◌≡◌, ℕ, Bool, false, [], refl, ap, ◌∙◌, subst}
+use Rattle.std.proofs.Common.{◌≡◌, ℕ, Bool, false, [], length, refl, ap, ◌∙◌, subst}
 use Rattle.core_word.specs.Count.{Counts}
 use Rattle.notify_queue.specs.Ends.{Sending}
 use Rattle.event_base.specs.Closing.{held_by}
 use Rattle.event_base.specs.Laws.{KeepsBase}
-use Rattle.event_base.specs.Looping.{HoldsNoCallback}
+use Rattle.event_base.specs.Looping.{HoldsNoCallback, count_of_callbacks}
 use Rattle.event_base.specs.Seen.{AgendaSeen, BaseSeen}
 use Rattle.fan_parts.specs.Seen.{PosterSeen}
 use Rattle.fan_parts.specs.declared.jobs.GatherJob.{GatherJob}
 use Rattle.fan_parts.specs.declared.jobs.PrintJob.{PrintJob}
 use Rattle.run_gathering.specs.Seen.{GatheringSeen}
-use Rattle.run_gathering.specs.Gathering.{no_counts, HoldsScorings, TookIn}
+use Rattle.run_gathering.specs.Gathering.{counted, fires_among, no_counts, HoldsScorings, TookIn}
 use Rattle.run_gathering.specs.Stages.{CameTo, IsSameBase}
 use Rattle.run_gathering.proofs.Firing.{took_none, took_more}
+use Rattle.run_gathering.proofs.Waiting.{all_fires, no_count}
 
 -- no callback and no timer: nothing
 pub holds_nothing : {J : Type 0} (a : AgendaSeen J) → HoldsNoCallback a → a.wheel.timers ≡ [] → held_by a ≡ []
@@ -42,12 +43,17 @@ module _ {N : Type 0} where
     holds = did.holds;
   }
 
-  pub came_to : (old new : BaseSeen (GatherJob N)) (printer printer_end : PosterSeen (PrintJob N)) (start now : GatheringSeen N) (ended : Sending (PrintJob N)) (t : Counts) (refused : Bool)
-      → start ≡ record { printer = printer; tally = no_counts; refused = false } → TookIn start old now new → now ≡ record { printer = printer_end; tally = t; refused = refused }
-      → ended ≡ printer_end.sender → CameTo old new printer.sender ended t refused
-  came_to old new printer printer_end start now ended t refused from did to end_is =
-      let moved : TookIn (record { printer = printer; tally = no_counts; refused = false }) old (record { printer = printer_end; tally = t; refused = refused }) new =
-      subst (λ (v : GatheringSeen N). TookIn (record { printer = printer; tally = no_counts; refused = false }) old v new) to (subst (λ (w : GatheringSeen N). TookIn w old now new) from did) in record {
+  pub came_to : (old new : BaseSeen (GatherJob N)) (printer printer_end : PosterSeen (PrintJob N)) (start now : GatheringSeen N) (ended : Sending (PrintJob N)) (t : Counts) (refused : Bool) (waiting : ℕ)
+      → start ≡ record { printer = printer; tally = no_counts; refused = false; waiting = 0 } → TookIn start old now new
+      → now ≡ record { printer = printer_end; tally = t; refused = refused; waiting = waiting }
+      → ended ≡ printer_end.sender → (refused ≡ false → HoldsNoCallback new.agenda) → CameTo old new printer.sender ended t refused
+  came_to old new printer printer_end start now ended t refused waiting from did to end_is closed =
+      let first : GatheringSeen N = record { printer = printer; tally = no_counts; refused = false; waiting = 0 } in
+      let last : GatheringSeen N = record { printer = printer_end; tally = t; refused = refused; waiting = waiting } in
+      let moved : TookIn first old last new = subst (λ (v : GatheringSeen N). TookIn first old v new) to (subst (λ (w : GatheringSeen N). TookIn w old now new) from did) in
+      let each : refused ≡ false → fires_among moved.took ≡ length moved.took =
+      λ calm. all_fires moved.took waiting (count_of_callbacks old.agenda) (count_of_callbacks new.agenda) (moved.waits calm) (no_count new.agenda (closed calm)) in
+      record {
         took = moved.took;
         taken = moved.taken;
         forwards = moved.forwards;
@@ -57,5 +63,6 @@ module _ {N : Type 0} where
           number = ap (λ (s : Sending (PrintJob N)). s.number) end_is ∙ moved.by.same.1;
           sent = ap (λ (s : Sending (PrintJob N)). s.sent) end_is ∙ moved.by.sent;
         };
-        counts = moved.by.tally;
+        fires = each;
+        counts = λ calm. moved.by.tally calm ∙ ap (λ (k : ℕ). counted k moved.forwards (length moved.posts) no_counts) (each calm);
       }

@@ -6,6 +6,7 @@ use Rattle.fan_base.specs.declared.number.Mark.{Mark}
 use Rattle.job_trait.specs.Marks.{IsDone}
 use Rattle.core_word.specs.Count.{Counts, raised}
 use Rattle.event_base.specs.Calls.{with_in_loop}
+use Rattle.event_base.specs.Looping.{count_of_callbacks}
 use Rattle.notify_queue.specs.declared.stamp.Stamped.{Stamped}
 use Rattle.event_base.specs.Seen.{AgendaSeen, BaseSeen}
 use Rattle.event_base.specs.Turns.{Place}
@@ -66,6 +67,11 @@ module _ {N : Type 0} where
     pub loops : All IsScoringJob a.loops
     pub later : All IsScoringJob a.later
 
+  -- Over so many turns, among them so many fires, as many scorings come to wait as callbacks come to be held; but each turn that is no fire takes a scoring. Nothing
+  -- is said where the last world notes a refusal.
+  abbrev pub KeepsWaiting : ℕ → ℕ → Place (GatheringSeen N) (GatherJob N) → Place (GatheringSeen N) (GatherJob N) → Type 0
+  KeepsWaiting fires turns p q = q.0.refused ≡ false → q.0.waiting + (turns + count_of_callbacks p.1) ≡ p.0.waiting + (fires + count_of_callbacks q.1)
+
   -- The base took these messages; as many fires came in as there are among them, some replies' cores were forwarded, and these replies were posted.
   pub record TookIn (w : GatheringSeen N) (old : BaseSeen (GatherJob N)) (v : GatheringSeen N) (new : BaseSeen (GatherJob N)) : Type 0 where
     pub took : List (Stamped (GatherJob N))
@@ -73,6 +79,7 @@ module _ {N : Type 0} where
     pub forwards : ℕ
     pub posts : List (PrintJob N)
     pub by : GathersBy (fires_among took) forwards posts w v
+    pub waits : KeepsWaiting (fires_among took) (length took) (w, old.agenda) (v, new.agenda)
     pub holds : HoldsScorings new.agenda
 
   -- nothing was scheduled, or one scoring for the next loop phase
@@ -86,3 +93,4 @@ module _ {N : Type 0} where
     pub by : GathersBy (fires_at id) forwards posts before.0 after.0
     pub done : after.0.refused ≡ false → IsDone m
     pub agenda : Schedules before.1 after.1
+    pub waits : KeepsWaiting (fires_at id) 1 before after

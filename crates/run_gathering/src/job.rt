@@ -1,8 +1,8 @@
-ghost use Rattle.std.specs.Prelude.{◌≡◌, ℕ, List, [], length};
+ghost use Rattle.std.specs.Prelude.{◌≡◌, ◌+◌, ℕ, List, [], false, length};
 ghost use Rattle.event_base.specs.Calls.{IsReached};
 ghost use Rattle.fan_parts.specs.declared.jobs.PrintJob.{PrintJob};
 ghost use Rattle.fan_parts.specs.Heads.{gather_head};
-ghost use Rattle.run_gathering.specs.Gathering.{GathersBy, Schedules};
+ghost use Rattle.run_gathering.specs.Gathering.{GathersBy, Schedules, KeepsWaiting};
 
 use crate::merge::{Gathered, gather_parts};
 use crate::world::Gathering;
@@ -51,6 +51,7 @@ fn take_part<'d, 'r: 'd, 'i: 'r, N: RunName, R: Wait>(
 )
     ensures did { (forwards : ℕ) × (posts : List (PrintJob N)) × GathersBy 1 forwards posts world.old world.new }
     ensures agenda { Schedules agenda.old agenda.new }
+    ensures waits { KeepsWaiting 0 0 (world.old, agenda.old) (world.new, agenda.new) }
     ensures calls { IsReached gather_head agenda.old agenda.new }
 {
     calls_in_a_row::<GatherJob<N>>();
@@ -76,6 +77,7 @@ fn complete<'d, 'r: 'd, 'i: 'r, N: RunName, R: Wait>(
     requires { length parts ≡ N.asked.shards }
     ensures did { (forwards : ℕ) × (posts : List (PrintJob N)) × GathersBy 0 forwards posts world.old world.new }
     ensures agenda { Schedules agenda.old agenda.new }
+    ensures waits { KeepsWaiting 0 0 (world.old, agenda.old) (world.new, agenda.new) }
     ensures calls { IsReached gather_head agenda.old agenda.new }
 {
     calls_in_a_row::<GatherJob<N>>();
@@ -100,7 +102,8 @@ fn refusal<'d, 'r: 'd, 'i: 'r, N: RunName>(
     world: &mut Gathering<'d, 'r, 'i, N>,
     fault: Fault,
 ) -> Try<PlacedReply<N>>
-    ensures { GathersBy 0 0 [] world.old world.new }
+    ensures did { GathersBy 0 0 [] world.old world.new }
+    ensures waiting { world.new.waiting ≡ world.old.waiting }
 {
     match fault {
         Fault::Memory => {
@@ -120,6 +123,7 @@ fn schedule<'d, 'r: 'd, 'i: 'r, N: RunName>(
 )
     ensures did { GathersBy 0 0 [] world.old world.new }
     ensures agenda { Schedules agenda.old agenda.new }
+    ensures waits { KeepsWaiting 0 0 (world.old, agenda.old) (world.new, agenda.new) }
     ensures calls { IsReached gather_head agenda.old agenda.new }
 {
     calls_in_a_row::<GatherJob<N>>();
@@ -145,13 +149,15 @@ fn schedule<'d, 'r: 'd, 'i: 'r, N: RunName>(
     }
 }
 
-/// The next of the scorings that are scheduled is made.
+/// The next of the scorings that are scheduled is made. None waits only where a message is, or was, a scoring job, which never comes: then want
+/// of memory is noted.
 fn score_next<'d, 'r: 'd, 'i: 'r, N: RunName, R: Wait>(rt: &R, world: &mut Gathering<'d, 'r, 'i, N>)
-    ensures { (posts : List (PrintJob N)) × GathersBy 0 0 posts world.old world.new }
+    ensures did { (posts : List (PrintJob N)) × GathersBy 0 0 posts world.old world.new }
+    ensures waits { world.new.refused ≡ false → world.new.waiting + 1 ≡ world.old.waiting }
 {
     match world.scorings.pop_front() {
         Some(scoring) => score(rt, world, scoring),
-        None => {}
+        None => world.refused = true,
     }
 }
 
@@ -161,7 +167,8 @@ fn score<'d, 'r: 'd, 'i: 'r, N: RunName, R: Wait>(
     world: &mut Gathering<'d, 'r, 'i, N>,
     scoring: Scoring<'i, N>,
 )
-    ensures { (posts : List (PrintJob N)) × GathersBy 0 0 posts world.old world.new }
+    ensures did { (posts : List (PrintJob N)) × GathersBy 0 0 posts world.old world.new }
+    ensures waiting { world.new.waiting ≡ world.old.waiting }
 {
     let (inner, ask, place, ranking) = scoring.into_parts();
     let outcome = match ranking.answer(world.alloc, world.shards.all(), ask.before()) {

@@ -1,4 +1,4 @@
-ghost use Rattle.std.specs.Prelude.{◌≡◌, [], false};
+ghost use Rattle.std.specs.Prelude.{◌≡◌, [], false, length};
 ghost use Rattle.notify_queue.specs.Ends.{AreAllEnds, IsDry};
 ghost use Rattle.event_base.specs.Closing.{AreOn, held_by};
 ghost use Rattle.event_base.specs.Looping.{HoldsNoCallback};
@@ -120,6 +120,7 @@ pub fn close_gathering<N: RunName, R: Wait>(
     requires posts { AreOn gather_head stage.base.agenda.exec ends.items }
     ensures exec { result.queue.exec ≡ stage.base.agenda.exec }
     ensures note { IsDry stage.base.queue → (result.queue.put ≡ result.queue.taken) × (result.queue.left ≡ 0) }
+    ensures taken { result.queue.taken ≡ length stage.base.queue.taken }
     ensures printer { result.printer ≡ stage.printer }
     ensures tally { IsDry stage.base.queue → held_by stage.base.agenda ≡ [] → result.tally ≡ stage.tally }
     ensures refused { result.refused ≡ stage.refused }

@@ -1,6 +1,6 @@
-ghost use Rattle.std.specs.Prelude.{◌≡◌, ◌≤◌, ℕ, IfOk, length};
+ghost use Rattle.std.specs.Prelude.{◌≡◌, ◌≤◌, ℕ, [], IfOk, length};
 ghost use Rattle.query_model.specs.declared.line.Ask.{Ask};
-ghost use Rattle.fan_parts.specs.Facts.{IsAnswerAt, IsAskOf, IsRankingOf};
+ghost use Rattle.fan_parts.specs.Facts.{IsAnswerAt, IsAskOf};
 ghost use Rattle.run_gathering.specs.Merging.{HasGathered, part_by, parts_by};
 
 use collect_ops::Listed;
@@ -50,7 +50,7 @@ fn contents<N: RunName>(
         IfOk result (λ parts. parts.items ≡ parts_by N.asked asks before (length list)) }
 {
     let mut list = list;
-    let mut parts = Vec::new(alloc);
+    let mut parts = with_room(alloc, list.len())?;
     let mut shard: u32 = 0;
     while let Some(outcome) = list.pop() {
         let content = content_of(number, shard, outcome)?;
@@ -61,6 +61,16 @@ fn contents<N: RunName>(
         shard += 1;
     }
     Ok(parts)
+}
+
+/// No parts, with room for so many.
+fn with_room(alloc: Global, count: usize) -> Result<Vec<PartAnswer>, Fault>
+    ensures { IfOk result (λ parts. parts.items ≡ []) }
+{
+    match Vec::with_capacity(alloc, count) {
+        Ok(parts) => Ok(parts),
+        Err(_) => Err(Fault::Memory),
+    }
 }
 
 /// What a part holds, where it is that of this query and this shard.

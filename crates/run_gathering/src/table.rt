@@ -1,8 +1,8 @@
 //! The arrivals that the parts of a base's queries are for.
-ghost use Rattle.std.specs.Prelude.{◌≡◌, ◌≤◌, ◌^◌, ◌+◌, ◌*◌, ◌/◌, None, IfNone, IfOk, IfSome, length};
+ghost use Rattle.std.specs.Prelude.{◌≡◌, ◌<◌, ◌≤◌, ◌+◌, ◌*◌, ◌/◌, None, IfNone, IfOk, IfSome, length};
 ghost use Rattle.std.specs.Bool.{OnFalse, OnTrue};
 ghost use Rattle.std.specs.List.{All};
-ghost use Rattle.run_gathering.specs.Awaited.{AwaitsNone, IsAwaited, IsFor, IsTaken, place_of, with_part};
+ghost use Rattle.run_gathering.specs.Awaited.{AwaitsNone, IsAwaited, IsFor, IsTaken, awaited_at, place_of, with_part};
 
 use collect_ops::Arrived;
 use core_word::Tally;
@@ -140,18 +140,17 @@ impl<'d, 'r: 'd, 'i: 'r, N: RunName> PartTable<'d, 'r, 'i, N> {
         })
     }
 
-    /// Puts an arrival at its place. What stood there is spent; so is the arrival, where the table has no such place.
+    /// Puts an arrival at its place, which the table has, and at which nothing stands.
     pub fn put(&mut self, part: AwaitedPart<'d, 'r, 'i, N>)
+        requires place { place_of self.old part.number part.shard < length self.old.parts }
+        requires empty { awaited_at self.old (place_of self.old part.number part.shard) ≡ None }
         ensures same { (self.new.bases ≡ self.old.bases) × (self.new.shards ≡ self.old.shards) }
         ensures put { self.new ≡ with_part part.entry self.old }
     {
         let place = self.place_of(part.number(), part.shard());
-        if place >= self.parts.len() {
-            give_up_part(part);
-            return;
-        }
-        if let Some(before) = replace(&mut self.parts[place], Some(part)) {
-            give_up_part(before);
+        match replace(&mut self.parts[place], Some(part)) {
+            None => {}
+            Some(_before) => unreachable!(),
         }
     }
 

@@ -29,13 +29,13 @@ pub struct Gathering<'d, 'r, 'i, N: RunName> {
 }
 
 impl<'d, 'r, 'i, N: RunName> Model for Gathering<'d, 'r, 'i, N> {
-    ghost use Rattle.std.specs.Prelude.{◌≡◌};
+    ghost use Rattle.std.specs.Prelude.{◌≡◌, length};
     ghost use Rattle.fan_model.specs.Tasks.{printer_exec};
     ghost use Rattle.run_gathering.specs.Seen.{GatheringSeen};
 
     ghost Value = { GatheringSeen N };
 
-    ghost view = { λ w. record { printer = w.printer; tally = w.tally; refused = w.refused } };
+    ghost view = { λ w. record { printer = w.printer; tally = w.tally; refused = w.refused; waiting = length w.scorings.items } };
 
     ghost invariant = { λ w. w.printer.exec ≡ printer_exec N.asked.bases };
 }
@@ -49,7 +49,7 @@ impl<'d, 'r: 'd, 'i: 'r, N: RunName> Gathering<'d, 'r, 'i, N> {
         printer: BasePoster<PrintJob<N>>,
     ) -> Gathering<'d, 'r, 'i, N>
         requires { printer.exec ≡ printer_exec N.asked.bases }
-        ensures { result ≡ record { printer = printer; tally = no_counts; refused = false } }
+        ensures { result ≡ record { printer = printer; tally = no_counts; refused = false; waiting = 0 } }
     {
         Gathering {
             shards,
@@ -65,7 +65,7 @@ impl<'d, 'r: 'd, 'i: 'r, N: RunName> Gathering<'d, 'r, 'i, N> {
     /// The poster, the tally, and whether memory was refused. Arrivals and scorings that are left are spent: their queries' cores get want of
     /// memory.
     pub fn into_parts(self) -> (BasePoster<PrintJob<N>>, Tally, bool)
-        ensures { self.entry ≡ record { printer = result.0; tally = result.1; refused = result.2 } }
+        ensures { self.entry ≡ record { printer = result.0; tally = result.1; refused = result.2; waiting = self.entry.waiting } }
     {
         let Gathering {
             shards: _,
@@ -93,7 +93,8 @@ impl<'d, 'r: 'd, 'i: 'r, N: RunName> Gathering<'d, 'r, 'i, N> {
         outcome: Try<PlacedReply<N>>,
     )
         requires { producer.sight ≡ seen.CallbackLeft }
-        ensures { (posts : List (PrintJob N)) × GathersBy 0 0 posts self.old self.new }
+        ensures did { (posts : List (PrintJob N)) × GathersBy 0 0 posts self.old self.new }
+        ensures waiting { self.new.waiting ≡ self.old.waiting }
     {
         let fire = fulfil_awaited(producer, outcome, &mut self.tally);
         match self.printer.post(rt, PrintJob::Replied(fire)) {

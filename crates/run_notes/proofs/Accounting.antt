@@ -38,12 +38,6 @@ done_runs (t ∷ ts) [] are all = absurd are
 done_runs (t ∷ ts) (r ∷ rs) are all =
     ap (λ (x : Run). x ∷ map run_of rs) (done_run t r are.0 (All-head WasDone r rs all)) ∙ ap (λ (l : List Run). run_of_task t ∷ l) (done_runs ts rs are.1 (All-tail WasDone r rs all))
 
-pub runs_append : (ts us : List Task) (rs ss : List Record) → AreRunsOf ts rs → AreRunsOf us ss → AreRunsOf (ts ++ us) (rs ++ ss)
-runs_append [] us [] ss a b = b
-runs_append [] us (r ∷ rs) ss a b = absurd a
-runs_append (t ∷ ts) us [] ss a b = absurd a
-runs_append (t ∷ ts) us (r ∷ rs) ss a b = (a.0, runs_append ts us rs ss a.1 b)
-
 sum_map : {X Y : Type 0} (f : X → Y) (w : Y → ℕ) (xs : List X) → sum_by w (map f xs) ≡ sum_by (λ x. w (f x)) xs
 sum_map f w [] = refl
 sum_map f w (x ∷ xs) = sum_by-cons w (f x) (map f xs) ∙ (ap (λ (n : ℕ). w (f x) + n) (sum_map f w xs) ∙ sym (sum_by-cons (λ y. w (f y)) x xs))

@@ -1,5 +1,5 @@
 -- Runs that led from world to world, and the records of them.
-use Rattle.std.proofs.Common.{◌≡◌, ℕ, suc, ◌+◌, ◌<◌, ◌⊎◌, inl, inr, Bool, true, false, length, length-append, List, [], ◌∷◌, ◌++◌, map, refl, sym, ap, ◌∙◌, subst, append-nil, append_assoc, arith, All}
+use Rattle.std.proofs.Common.{◌≡◌, ℕ, suc, ◌+◌, ◌<◌, ◌⊎◌, inl, inr, Bool, true, false, length, length-append, List, [], ◌∷◌, ◌++◌, map, refl, sym, ap, ◌∙◌, subst, append-nil, arith, All}
 use Rattle.std.proofs.lemmas.List.{map-append}
 use Rattle.std.proofs.lemmas.List.Elements.{All-nil, All-cons}
 use Rattle.std.proofs.lemmas.List.Sums.{sum_by-append}
@@ -12,8 +12,10 @@ use Rattle.job_trait.proofs.Histories.{leads_more, are_marks-append}
 use Rattle.pool_model.specs.Records.{AreRunsOf, IsRunOf, Record, ran_of}
 use Rattle.pool_model.specs.Seen.{Returned, task_of}
 use Rattle.pool_model.specs.Tasks.{Task}
+use Rattle.pool_model.proofs.Accounts.{runs-append}
+use Rattle.pool_model.proofs.Lists.{one_over}
 use Rattle.run_notes.specs.Accounts.{AllRanBack, AreRunsOfSome, HaveRunSoFar, RanBack, RanBackSoFar, SomeLed}
-use Rattle.run_notes.proofs.Accounting.{WasDone, runs_append}
+use Rattle.run_notes.proofs.Accounting.{WasDone}
 
 module _ {W : Type 0} (runs : JobId → W → Mark → W → Type 0) where
   -- a fact that each run tells backwards, and by which it was done
@@ -36,7 +38,7 @@ some_more : (tasks : List Task) (records after : List Record) (t : Task) (r : Re
 some_more tasks records after t r some is (inl put) = record {
   ran = some.ran ++ t ∷ [];
   others = some.others;
-  runs = subst (AreRunsOf (some.ran ++ t ∷ [])) (sym put) (runs_append some.ran (t ∷ []) records (r ∷ []) some.runs (is, tt));
+  runs = subst (AreRunsOf (some.ran ++ t ∷ [])) (sym put) (runs-append some.ran (t ∷ []) records (r ∷ []) some.runs (is, tt));
   all = record { sums = λ w. omega (arith, some.all.sums w, sum_by-append w some.ran some.others, sum_by-append w (some.ran ++ t ∷ []) some.others, sum_by-append w some.ran (t ∷ []), sum_by-append w tasks (t ∷ [])) };
 }
 some_more tasks records after t r some is (inr lost) = record {
@@ -50,9 +52,6 @@ module _ {J W : Type 0} (head : J → Head) (runs : JobId → W → Mark → W �
   pub back_none : (tasks : List (Returned J)) (w : W) → RanBackSoFar head runs tasks tasks [] w w
   back_none tasks w = record { done = []; list = refl; back = record { ran = tt; led = record { through = refl } } }
 
-  one_over : (done left more tasks : List (Returned J)) (b : Returned J) → done ++ left ≡ tasks → left ≡ b ∷ more → (done ++ b ∷ []) ++ more ≡ tasks
-  one_over done left more tasks b whole next = grind (arith, append_assoc, ap (λ (l : List (Returned J)). done ++ l) next, whole)
-
   pub back_more : (tasks left more : List (Returned J)) (records after : List Record) (w m v : W) (b : Returned J) (r : Record) → RanBackSoFar head runs tasks left records w m
       → left ≡ b ∷ more → IsRunOf (task_of head b) r → runs r.job m r.mark v → after ≡ records ++ r ∷ [] → RanBackSoFar head runs tasks more after w v
   back_more tasks left more records after w m v b r so_far next is ran put =
@@ -63,7 +62,7 @@ module _ {J W : Type 0} (head : J → Head) (runs : JobId → W → Mark → W �
         list = one_over so_far.done left more tasks b so_far.list next;
         back = record {
           ran = subst (AreRunsOf (map (task_of head) (so_far.done ++ b ∷ []))) (sym put)
-              (subst (λ (l : List Task). AreRunsOf l (records ++ r ∷ [])) (sym tasks_are) (runs_append (map (task_of head) so_far.done) (task_of head b ∷ []) records (r ∷ []) so_far.back.ran (is, tt)));
+              (subst (λ (l : List Task). AreRunsOf l (records ++ r ∷ [])) (sym tasks_are) (runs-append (map (task_of head) so_far.done) (task_of head b ∷ []) records (r ∷ []) so_far.back.ran (is, tt)));
           led = subst (λ (l : List Record). Leads runs w (ran_of l) v) (sym put)
               (subst (λ (l : List Ran). Leads runs w l v) (sym pairs) (leads_more runs w m v (ran_of records) r.job r.mark so_far.back.led ran));
         };

@@ -1,3 +1,4 @@
 pub mod Accounting
 pub mod Leading
 pub mod Noting
+mod Putting

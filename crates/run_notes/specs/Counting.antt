@@ -1,6 +1,6 @@
 -- What the queues and cores of a run come to, by the number of its answered queries.
 use Rattle.std.specs.Prelude.{◌≡◌, ℕ, ◌+◌, ◌*◌, ◌<◌, ◌==◌, List, length, map, slice_index_or}
-use Rattle.std.specs.List.{count_by, range_with_len}
+use Rattle.std.specs.List.{count_by, range_with_len, sum_by}
 use Rattle.core_word.specs.Count.{Counts}
 use Rattle.event_base.specs.Seen.{NoteSeen}
 use Rattle.query_model.specs.declared.line.Line.{Line}
@@ -12,6 +12,17 @@ use Rattle.run_notes.specs.declared.counting.Counted.{Counted}
 
 abbrev pub totals_of : Counts → Totals
 totals_of c = record { made = c.made; handed = c.handed; forwarded = c.forwarded; freed = c.freed; reopened = c.reopened }
+
+-- As many cores were made, forwarded, freed and used again. How many were handed over isn't compared: each message of a gathering base is one, and each reply of an answered query.
+pub record AreCoresBy (counts : Counts) (totals : Totals) : Type 0 where
+  pub made : counts.made ≡ totals.made
+  pub forwarded : counts.forwarded ≡ totals.forwarded
+  pub freed : counts.freed ≡ totals.freed
+  pub reopened : counts.reopened ≡ totals.reopened
+
+-- how many messages these queues had
+abbrev pub puts_of : List NoteSeen → ℕ
+puts_of notes = sum_by (λ (n : NoteSeen). n.put) notes
 
 -- each of these queues had so many messages for each of so many queries
 pub record ArePutBy (shards : ℕ) (counts : List ℕ) (notes : List NoteSeen) : Type 0 where

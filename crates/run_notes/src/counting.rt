@@ -1,6 +1,6 @@
-ghost use Rattle.std.specs.Prelude.{◌≡◌, ◌≤◌, ◌^◌, ◌↔◌, All, IsTrue};
+ghost use Rattle.std.specs.Prelude.{◌≤◌, ◌^◌, ◌↔◌, All, IsTrue};
 ghost use Rattle.fan_model.specs.Totals.{totals_by};
-ghost use Rattle.run_notes.specs.Counting.{ArePutBy, totals_of};
+ghost use Rattle.run_notes.specs.Counting.{AreCoresBy, ArePutBy};
 
 use core_word::Tally;
 use event_base::QueueNote;
@@ -13,16 +13,15 @@ pub struct Counted {
     pub by_base: Vec<u64>,
 }
 
-/// Whether the tally has the numbers of cores that so many answered queries come to.
+/// Whether as many cores were made, forwarded, freed and used again as so many answered queries come to. How many were handed over isn't looked at.
 pub fn cores_agree(counted: &Counted, shards: u32, tally: &Tally) -> bool
     requires answered { counted.now.answered ≤ 2 ^ 32 }
     requires tops { counted.now.tops ≤ 2 ^ 32 }
     requires shards { shards ≤ 64 }
-    ensures { IsTrue result ↔ (totals_of tally.now ≡ totals_by counted.now.answered counted.now.tops shards) }
+    ensures { IsTrue result ↔ AreCoresBy tally.now (totals_by counted.now.answered counted.now.tops shards) }
 {
     let tasks = counted.answered * u64::from(shards);
     tally.made() == tasks + counted.answered + counted.tops
-        && tally.handed() == tasks + counted.answered
         && tally.forwarded() == counted.tops
         && tally.freed() == tasks + counted.answered + counted.tops
         && tally.reopened() == tasks

@@ -32,7 +32,8 @@
 //! * behind a join, in the same way, each task that was added has one record among those of what the pool ran, and nothing was
 //!   handed back (`ran`);
 //! * what the front ran of late tasks are the first of them, in order, where its world notes no refusal (`late`); a refusal
-//!   that it noted before stays noted (`refused`);
+//!   that it noted before stays noted (`refused`); where it notes none, the second phase counted no core as handed over
+//!   (`handed`);
 //! * behind a stop, where no memory was refused, the replies of all cancelled queries were posted (`posted`); without one
 //!   nothing more was, and memory is said to be refused exactly where it was (`joined`);
 //! * the ends are those of the front's posters and of its pass (`posters`, `pass`, `printer`).

@@ -66,6 +66,7 @@ pub fn second_phase<'c, 't, 'i: 't, N: RunName + 'static, R: Wait>(
     ensures late { result.ends.tasks.refused ≡ false →
         AreSomeOf [] (late_runs N.asked.lines N.asked.shards N.asked.bases N.asked.stop_at) (map run_of_direct result.note.direct) }
     ensures refused { result.ends.tasks.refused ≡ false → mid.entry.front.world.refused ≡ false }
+    ensures handed { result.ends.tasks.refused ≡ false → result.ends.tasks.tally.handed ≡ mid.entry.front.world.tally.handed }
     ensures posters { AreEndsFor (map told_of mid.entry.front.world.posters) result.ends.tasks.posters.items }
     ensures pass { StaysPass mid.entry.front.world.pass result.ends.tasks.pass }
     ensures printer { IsDoneBy mid.entry.front.printer result.ends.printer }

@@ -1,10 +1,11 @@
 -- Bases that are closed one by one, and what is left of worlds.
-use Rattle.std.proofs.Common.{◌≡◌, ℕ, suc, ◌+◌, ◌-◌, List, [], ◌∷◌, ◌++◌, Bool, true, false, length, get_or, length-append, map, refl, sym, ap, ◌∙◌, subst, arith}
+use Rattle.std.proofs.Common.{◌≡◌, ℕ, suc, ◌+◌, ◌-◌, ◌<◌, List, [], ◌∷◌, ◌++◌, Bool, length, get_or, length-append, map, refl, sym, ap, ◌∙◌, subst, arith}
 use Rattle.std.specs.List.{All}
 use Rattle.std.proofs.lemmas.List.{length-map}
+use Rattle.std.proofs.lemmas.List.Sums.{sum_by-append, sum_by-cons}
 use Rattle.std.proofs.lemmas.List.Elements.{All-cons, All-nil, All-push, All-weaker}
 use Rattle.core_cells.specs.Seen.{AreAll, SeenPass}
-use Rattle.core_word.specs.Count.{Counts}
+use Rattle.core_word.specs.Count.{Counts, added}
 use Rattle.event_base.specs.Seen.{NoteSeen}
 use Rattle.fan_model.specs.Report.{Asking}
 use Rattle.fan_model.specs.Tasks.{printer_exec}
@@ -13,7 +14,7 @@ use Rattle.fan_parts.specs.declared.jobs.PrintJob.{PrintJob}
 use Rattle.fan_parts.specs.declared.run_name.RunName.{Ghosts}
 use Rattle.run_bases.specs.declared.rows.Column.{Column}
 use Rattle.run_bases.specs.Columns.{IsColumn}
-use Rattle.run_notes.specs.Counting.{AreEmptied, IsEmptied}
+use Rattle.run_notes.specs.Counting.{AreEmptied, IsEmptied, puts_of}
 use Rattle.run_tasks.specs.declared.world.TaskEnds.{TaskEnds}
 use Rattle.run_threads.specs.declared.gatherer.GatherSlot.{GatherSlot}
 use Rattle.run_setup.specs.Closing.{AreColumnsBack, AreGathered, AreTaskEnds, AreWorldEnds, IsFullColumn, IsGatheredSlot, IsPrinterBack, has_refused, merged, merged_with, tally_of}
@@ -120,3 +121,32 @@ module _ {N : Type 0} where
 pub merged-append : (counts : Counts) (xs ys : List Counts) → merged_with counts (xs ++ ys) ≡ merged_with (merged_with counts xs) ys
 merged-append counts [] ys = refl
 merged-append counts (x ∷ xs) ys = merged-append (merged counts x) xs ys
+
+joined : (sum put before theirs total : ℕ) → before ≡ added 0 sum → theirs ≡ added 0 put → total ≡ sum + put → added before theirs ≡ added 0 total
+joined sum put before theirs total so_far here all = omega (arith, so_far, here, all)
+
+pub none_both : (before theirs : ℕ) → before ≡ 0 → theirs ≡ 0 → added before theirs ≡ 0
+none_both before theirs nothing none = omega (arith, nothing, none)
+
+-- no message more, and nothing more that was handed over
+pub none_more : (handed : ℕ) (notes : List NoteSeen) → notes ≡ [] → handed ≡ 0 → handed ≡ added 0 (puts_of notes)
+none_more handed notes none nothing =
+    let zero_is : handed ≡ added 0 0 = omega (arith, nothing) in
+    zero_is ∙ ap (λ (l : List NoteSeen). added 0 (puts_of l)) (sym none)
+
+-- the messages of one queue more
+pub one_more : (before theirs : ℕ) (notes : List NoteSeen) (note : NoteSeen) (after : List NoteSeen) → after ≡ notes ++ note ∷ [] → before ≡ added 0 (puts_of notes) → theirs ≡ added 0 note.put
+    → added before theirs ≡ added 0 (puts_of after)
+one_more before theirs notes note after is so_far here =
+    let put = λ (n : NoteSeen). n.put in
+    let one : puts_of (note ∷ []) ≡ note.put = omega (arith, sum_by-cons put note []) in
+    let all : puts_of after ≡ puts_of notes + note.put = ap (λ (l : List NoteSeen). puts_of l) is ∙ (sum_by-append put notes (note ∷ []) ∙ ap (λ (k : ℕ). puts_of notes + k) one) in
+    joined (puts_of notes) note.put before theirs (puts_of after) so_far here all
+
+module _ {N : Type 0} where
+  -- worlds that counted no core as handed over
+  pub worlds_hand_none : (counts : Counts) (worlds : List (TaskEnds N)) → counts.handed ≡ 0 → ((k : ℕ) (d : TaskEnds N) → k < length worlds → (get_or worlds k d).tally.handed ≡ 0)
+      → (merged_with counts (map (λ (w : TaskEnds N). w.tally) worlds)).handed ≡ 0
+  worlds_hand_none counts [] none each = none
+  worlds_hand_none counts (w ∷ ws) none each =
+      worlds_hand_none (merged counts w.tally) ws (omega (arith, none, each 0 w (omega arith))) (λ k d below. each (suc k) d (omega (arith, below)))

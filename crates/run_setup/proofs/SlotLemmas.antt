@@ -1,9 +1,10 @@
 -- Slots before and after the threads.
-use Rattle.std.proofs.Common.{◌≡◌, ℕ, zero, suc, ◌+◌, ◌-◌, ◌<◌, ◌||◌, List, [], ◌∷◌, Bool, true, false, true≢false, length, get_or, map, slice_get, Some, refl, sym, ap, ◌∙◌, subst, arith}
+use Rattle.std.proofs.Common.{◌≡◌, ℕ, zero, suc, ◌+◌, ◌-◌, ◌<◌, ◌||◌, List, [], ◌∷◌, ◌++◌, Bool, true, false, true≢false, length, get_or, map, slice_get, Some, refl, sym, ap, ◌∙◌, subst, arith}
 use Rattle.std.specs.List.{All, list_any}
 use Rattle.std.proofs.lemmas.List.Elements.{All-cons, All-nil}
 use Rattle.std.proofs.lemmas.Option.{same_Some}
 use Rattle.core_cells.specs.Seen.{SeenPass}
+use Rattle.core_word.specs.Count.{Counts, added, raised}
 use Rattle.event_base.specs.Seen.{BaseSeen, new_base}
 use Rattle.fan_base.specs.declared.number.ExecId.{ExecId}
 use Rattle.fan_model.specs.Report.{Asking}
@@ -12,15 +13,18 @@ use Rattle.fan_parts.specs.declared.jobs.PrintJob.{PrintJob}
 use Rattle.fan_parts.specs.declared.run_name.RunName.{Ghosts}
 use Rattle.fan_parts.specs.Seen.{PosterSeen}
 use Rattle.job_trait.specs.Marks.{IsDone}
+use Rattle.notify_queue.specs.declared.stamp.Stamped.{Stamped}
 use Rattle.notify_queue.specs.Ends.{QueueId, Sending}
 use Rattle.pool_model.specs.Passes.{AreAllEnds}
 use Rattle.pool_model.specs.Seen.{EndSeen, PoolId, WorkerSeen}
 use Rattle.run_bases.specs.Columns.{exec_at}
 use Rattle.run_gathering.specs.Awaited.{TableSeen}
 use Rattle.run_gathering.specs.Dealt.{AreAllDealt, AwaitsAll}
+use Rattle.run_gathering.specs.Gathering.{counted, no_counts, raised_times}
 use Rattle.run_notes.specs.Accounts.{AllDone}
 use Rattle.run_stages.specs.Stages.{AllRan, AllReady}
 use Rattle.run_tasks.specs.declared.stage.WorkerStage.{WorkerStage}
+use Rattle.run_tasks.specs.Leaving.{CountsTasks, reopened_times}
 use Rattle.run_tasks.specs.declared.world.TaskEnds.{TaskEnds}
 use Rattle.run_tasks.specs.Seen.{TaskSeen, WorldSeen}
 use Rattle.run_tasks.specs.Worlds.{AreEndsFor, Follows, TaskRan, told_of}
@@ -81,6 +85,23 @@ module _ {N : Type 0} where
         record { pass = record { pool = pool; number = k }; has = is.pass; of_pool = refl };
   }
 
+reopened_hands_none : (n : ℕ) (counts : Counts) → (reopened_times n counts).handed ≡ counts.handed
+reopened_hands_none zero counts = refl
+reopened_hands_none (suc n) counts = reopened_hands_none n counts
+
+-- tasks unpack no fire
+tasks_hand_none : (n : ℕ) (old new : Counts) → CountsTasks n old new → new.handed ≡ old.handed
+tasks_hand_none n old new counts = ap (λ (t : Counts). t.handed) counts.is ∙ reopened_hands_none counts.freed old
+
+-- so many times one more than nothing
+raised_all : (n : ℕ) → raised_times n 0 ≡ added 0 n
+raised_all zero = omega arith
+raised_all (suc n) = ap raised (raised_all n) ∙ omega arith
+
+-- one core that was handed over for each message of a base that had taken none before
+handed_each : {J : Type 0} (tally : Counts) (forwards posts : ℕ) (took taken : List (Stamped J)) → taken ≡ [] ++ took → tally ≡ counted (length took) forwards posts no_counts → tally.handed ≡ added 0 (length taken)
+handed_each tally forwards posts took taken all is = ap (λ (t : Counts). t.handed) is ∙ (raised_all (length took) ∙ ap (λ (l : List (Stamped _)). added 0 (length l)) (sym all))
+
 module _ {N : Type 0} {g : Ghosts N} where
   gathered : (asked : Asking) (ids : RunIds) (k : ℕ) (old new : GatherSlot N g) → IsGatherSlot asked ids k old → HasGatheredIn old new → IsGatheredSlot asked ids k new
   gathered asked ids k old new is did =
@@ -97,6 +118,8 @@ module _ {N : Type 0} {g : Ghosts N} where
               (did.did.posted.number ∙ ap (λ (p : PosterSeen (PrintJob N)). p.sender.number) printer);
           dry = λ calm. (did.closed calm).0;
           empty = did.empty;
+          handed = λ calm. handed_each did.stage.tally did.did.forwards (length did.did.posts) did.did.took did.stage.base.queue.taken
+              (did.did.taken ∙ ap (λ (b : BaseSeen (GatherJob N)). b.queue.taken ++ did.did.took) (base ids.printer)) (did.did.counts calm);
         };
         no_base = did.spent_base;
         no_printer = did.spent_printer;
@@ -135,6 +158,7 @@ module _ {N : Type 0} where
         record {
           posters = world-row ids (ids.workers - k) slot.world stage.ends.posters.items is.is_new did.posters;
           pass = record { cells = did.cells.cells ∙ is.is_new.pass.cells; passes = did.cells.passes ∙ is.is_new.pass.passes };
+          handed = λ calm. tasks_hand_none (length stage.end.records) slot.world.tally stage.ends.tally (did.tally calm) ∙ ap (λ (t : Counts). t.handed) is.is_new.tally;
         },
         (did.end_pool ∙ ap (λ (p : WorkerSeen). p.pool) pass, did.marks),
       )
@@ -174,13 +198,15 @@ module _ {N : Type 0} where
 
 module _ {N : Type 0} where
   -- the front's world
-  pub front-ends : (ids : RunIds) (old new : WorldSeen N) (ends : TaskEnds N) → IsNewWorld ids 0 old → Follows old new → AreEndsFor (map told_of new.posters) ends.posters.items → ends.pass ≡ new.pass → AreTaskEnds ids 0 ends
-  front-ends ids old new ends is follows are pass = record {
+  pub front-ends : (ids : RunIds) (old new : WorldSeen N) (ends : TaskEnds N) → IsNewWorld ids 0 old → Follows old new → AreEndsFor (map told_of new.posters) ends.posters.items → ends.pass ≡ new.pass
+      → (ends.refused ≡ false → (new.refused ≡ false) × (ends.tally.handed ≡ new.tally.handed)) → AreTaskEnds ids 0 ends
+  front-ends ids old new ends is follows are pass handed = record {
     posters = world-row ids 0 old ends.posters.items is (subst (λ ts. AreEndsFor ts ends.posters.items) follows.posters are);
     pass = record {
       cells = ap (λ (p : SeenPass). p.cells) pass ∙ (follows.pass.cells ∙ is.pass.cells);
       passes = ap (λ (p : SeenPass). p.passes) pass ∙ (follows.pass.passes ∙ is.pass.passes);
     };
+    handed = λ calm. let none = handed calm in none.1 ∙ (follows.handed none.0 ∙ ap (λ (t : Counts). t.handed) is.tally);
   }
 
 pub neither : (a b : Bool) → a || b ≡ false → (a ≡ false) × (b ≡ false)

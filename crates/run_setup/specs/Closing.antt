@@ -46,10 +46,12 @@ module _ {N : Type 0} where
   pub record IsPrinterEnd (asked : Asking) (ids : RunIds) (number : ℕ) (e : Sending (PrintJob N)) : Type 0 where
     pub is : IsEndOf (print_head asked) ids.printer number (printer_exec asked.bases) e
 
-  -- what is left of a world: the ends of its posters with this number, and its pass
+  -- what is left of a world: the ends of its posters with this number, and its pass; where it notes no want of memory, its tally counts no core as
+  -- handed over
   pub record AreTaskEnds (ids : RunIds) (number : ℕ) (ends : TaskEnds N) : Type 0 where
     pub posters : AreEndsFor (row_of number ids.queues) ends.posters.items
     pub pass : IsCellPass ids ends.pass
+    pub handed : ends.refused ≡ false → ends.tally.handed ≡ 0
 
   -- what is left of the workers' worlds, by worker
   pub record AreWorldEnds (ids : RunIds) (worlds : List (TaskEnds N)) : Type 0 where
@@ -57,7 +59,7 @@ module _ {N : Type 0} where
     pub each : (k : ℕ) (d : TaskEnds N) → k < ids.workers → AreTaskEnds ids (ids.workers - k) (slice_index_or worlds k d)
 
   -- the stage of a gathering base that has run: it is the base that was opened, and where it notes no want of memory, nothing is left in its queue and
-  -- its agenda
+  -- its agenda, and for each message that it took one core was counted as handed over
   pub record IsGathered (asked : Asking) (ids : RunIds) (k : ℕ) (stage : GatherStage N) : Type 0 where
     pub exec : stage.base.agenda.exec ≡ exec_at 1 k
     pub queue : (q : QueueId) → stage.base.queue.queue ≡ slice_index_or ids.queues k q
@@ -65,6 +67,7 @@ module _ {N : Type 0} where
     pub printer : IsPrinterEnd asked ids (asked.bases - k) stage.printer
     pub dry : stage.refused ≡ false → IsDry stage.base.queue
     pub empty : stage.refused ≡ false → held_by stage.base.agenda ≡ []
+    pub handed : stage.refused ≡ false → stage.tally.handed ≡ added 0 (length stage.base.queue.taken)
 
 module _ {N : Type 0} {g : Ghosts N} where
   -- its slot

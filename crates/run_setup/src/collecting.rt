@@ -3,10 +3,11 @@ ghost use Rattle.std.specs.Prelude.{◌≡◌, ◌∷◌, ◌++◌, ◌+◌, ◌
 ghost use Rattle.std.specs.List.{list_any};
 ghost use Rattle.notify_queue.specs.Ends.{QueueId};
 ghost use Rattle.run_bases.specs.Columns.{AreColumns, IsEndRow};
-ghost use Rattle.run_notes.specs.Counting.{AreEmptied, IsEmptied};
+ghost use Rattle.run_notes.specs.Counting.{AreEmptied, IsEmptied, puts_of};
 ghost use Rattle.run_setup.specs.Ids.{RunIds};
 ghost use Rattle.run_setup.specs.Closing.{AreColumnsBack, AreGathered, AreTaskEnds, AreWorldEnds, IsFullColumn};
 ghost use Rattle.run_gathering.specs.Gathering.{no_counts};
+ghost use Rattle.core_word.specs.Count.{added};
 ghost use Rattle.run_setup.specs.Closing.{IsGatheredSlot, IsPrinterBack, IsPrinterEnd, has_refused, merged, merged_with, tally_of};
 
 use crate::cells::TaskCellPass;
@@ -128,6 +129,8 @@ fn close_slot<'d, 'r: 'd, 'i: 'r, N: RunName, R: Wait>(
     ensures printer { (ids : RunIds) (k : ℕ) → IsGatheredSlot N.asked ids k slot.entry → IsPrinterEnd N.asked ids (N.asked.bases - k) result.printer }
     ensures tally { (ids : RunIds) (k : ℕ) → IsGatheredSlot N.asked ids k slot.entry → result.refused ≡ false
         → result.tally ≡ tally_of slot.entry.stage }
+    ensures handed { (ids : RunIds) (k : ℕ) → IsGatheredSlot N.asked ids k slot.entry → result.refused ≡ false
+        → result.tally.handed ≡ added 0 result.queue.put }
     ensures refused { result.refused ≡ has_refused slot.entry.stage }
 {
     let GatherSlot {
@@ -189,6 +192,8 @@ impl<N: RunName> Gatherers<N> {
             → IsPrinterBack N.asked ids (suc N.asked.bases) self.old.printer → IsPrinterBack N.asked ids 1 self.new.printer }
         ensures tally { list_any (λ s. has_refused s.stage) slots.entry.items ≡ false →
             self.new.counted.tally ≡ merged_with self.old.counted.tally (map (λ s. tally_of s.stage) slots.entry.items) }
+        ensures handed { list_any (λ s. has_refused s.stage) slots.entry.items ≡ false → self.old.counted.tally.handed ≡ 0 →
+            self.new.counted.tally.handed ≡ added 0 (puts_of self.new.notes.items) }
         ensures refused { self.new.counted.refused ≡ self.old.counted.refused || list_any (λ s. has_refused s.stage) slots.entry.items }
     {
         let mut columns = columns.into_iter();

@@ -51,7 +51,7 @@ pub fn what_ran_can_be_closed<N: RunName>()
         → old ≡ new_base (printer_exec N.asked.bases) 0 ids.printer (N.asked.bases + 1) → IsBaseOf old new → IsPrinterBase N.asked ids new }
     ensures front { (ids : RunIds) (old new : WorldSeen N) (ends : TaskEnds N) → IsNewWorld ids 0 old → Follows old new
         → AreEndsFor (map told_of new.posters) ends.posters.items
-        → ends.pass ≡ new.pass → AreTaskEnds ids 0 ends }
+        → ends.pass ≡ new.pass → (ends.refused ≡ false → (new.refused ≡ false) × (ends.tally.handed ≡ new.tally.handed)) → AreTaskEnds ids 0 ends }
     ensures poster { (ids : RunIds) (e : Sending (PrintJob N)) → e.queue ≡ ids.printer → e.number ≡ 0 → IsPrinterEnd N.asked ids 0 e }
 {}
 

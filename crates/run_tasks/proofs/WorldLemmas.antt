@@ -68,6 +68,7 @@ module _ {N : Type 0} where
       passes = ap (λ (w : WorldSeen N). w.pass.passes) is;
     };
     refused = λ down. sym (ap (λ (w : WorldSeen N). w.refused) is) ∙ down;
+    handed = λ down. ap (λ (w : WorldSeen N). w.tally.handed) is;
   }
 
   -- one end more, where the ends that are still to come fit behind it
@@ -80,7 +81,7 @@ module _ {N : Type 0} where
       (so_far (e ∷ es) (ap (λ (s : Sending (GatherJob N)). s.queue) is, ap (λ (s : Sending (GatherJob N)). s.number) is, on, rest))
 
   pub follows-itself : (w : WorldSeen N) → Follows w w
-  follows-itself w = record { posters = refl; cells = refl; pass = record { cells = refl; homes = refl; passes = refl }; refused = λ down. down }
+  follows-itself w = record { posters = refl; cells = refl; pass = record { cells = refl; homes = refl; passes = refl }; refused = λ down. down; handed = λ down. refl }
 
   pub follows-on : (w m v : WorldSeen N) → Follows w m → Follows m v → Follows w v
   follows-on w m v first second = record {
@@ -92,6 +93,7 @@ module _ {N : Type 0} where
       passes = second.pass.passes ∙ first.pass.passes;
     };
     refused = λ down. first.refused (second.refused down);
+    handed = λ down. second.handed down ∙ first.handed (second.refused down);
   }
 
   record Led (w : WorldSeen N) (list : List Ran) (v : WorldSeen N) : Type 0 where

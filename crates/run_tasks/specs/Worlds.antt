@@ -36,12 +36,14 @@ pub record StaysPass (old new : SeenPass) : Type 0 where
   pub passes : new.passes ≡ old.passes
 
 module _ {N : Type 0} where
-  -- A world after another: its posters and its cells are the same, and a note that memory was refused stays.
+  -- A world after another: its posters and its cells are the same, and a note that memory was refused stays; where none stands, its tally counts no core more as
+  -- handed over.
   pub record Follows (old new : WorldSeen N) : Type 0 where
     pub posters : map told_of new.posters ≡ map told_of old.posters
     pub cells : new.cells ≡ old.cells
     pub pass : StaysPass old.pass new.pass
     pub refused : new.refused ≡ false → old.refused ≡ false
+    pub handed : new.refused ≡ false → new.tally.handed ≡ old.tally.handed
 
   -- what a run of the task with this id does: where the world doesn't note that memory was refused, the run was done, and one core was left
   pub record TaskRan (id : JobId) (old : WorldSeen N) (mark : Mark) (new : WorldSeen N) : Type 0 where

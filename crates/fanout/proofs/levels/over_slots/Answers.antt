@@ -1,4 +1,4 @@
-use Rattle.std.proofs.Common.{List, ℕ, ◌≤◌, length, sym, subst}
+use Rattle.std.proofs.Common.{List, ℕ, ◌≤◌, ◌∙◌, ap, length, sym, subst}
 use Rattle.query_model.specs.Order.{Asked}
 use Rattle.fan_model.specs.Answered.{tops_in}
 use Rattle.run_gathering.specs.Dealt.{AreDealt}
@@ -18,6 +18,9 @@ pub over_desks-requires-clause-dealt : goal.over_desks-requires-clause-dealt
 over_desks-requires-clause-dealt g c κs within =
     let many = c.known_turns.ensures.as_many c.args.plan.now.turns.now c.requires.plan.turns_are in
     subst (λ (n : ℕ). AreDealt g.N.RunName.asked n c.in-Ok.desks.tables.items) many c.in-Ok.ensures.dealt
+
+pub over_desks-requires-clause-opening : goal.over_desks-requires-clause-opening
+over_desks-requires-clause-opening g c κs within = ap (λ t. t.handed) c.in-Ok.ensures.counted.are ∙ c.requires.nothing
 
 pub returns-in-Err : goal.returns-in-Err
 returns-in-Err g c = c.refused.ensures _ _

@@ -4,7 +4,7 @@ use Rattle.fan_model.specs.Comings.{Coming, comings_of}
 use Rattle.query_opening.specs.Turns.{IsDeskOf}
 use Rattle.run_gathering.specs.Awaited.{TableSeen}
 use Rattle.run_gathering.specs.Dealt.{AreDealt}
-use Rattle.run_desks.proofs.Awaiting.{base_is, dealt_begun, put_is}
+use Rattle.run_desks.proofs.Awaiting.{base_is, dealt_begun, dealt_room, put_is}
 use Rattle.run_desks.proofs.Counting.{counted_begun}
 use Rattle.run_desks.proofs.run.begin_query.Goals as goal
 
@@ -13,6 +13,23 @@ base_place-base-requires-clause-number g c =
     let one : 1 ≤ c.args.query.number = c.begun_query_is_asked.ensures.from_one c.args.place c.args.query.number c.args.query.line c.args.query.documents c.requires.begun in
     let same : c.number-number.result ≡ c.args.query.number = c.number-number.ensures.number ∙ c.in_ok-ask.ensures.number in
     omega (arith, one, same)
+
+pub await_parts-requires-clause-room : goal.await_parts-requires-clause-room
+await_parts-requires-clause-room g c =
+    let asked = g.N.RunName.asked in
+    let b = c.requires.begun in
+    let of = c.open_query.ensures.of in
+    let tables = c.args.tables.now.items in
+    let k = c.base_place-base.result in
+    let table = c.index_mut.result.now in
+    let number : c.number-number.result ≡ b.query.number = c.number-number.ensures.number ∙ (c.in_ok-ask.ensures.number ∙ b.number_is) in
+    let few : b.query.number ≤ length (comings_of asked.lines) =
+    omega (arith, c.comings_are_queries.ensures.number asked.lines c.args.place (Coming.begins b.query) b.comes, c.each_query_has_a_reply.ensures.comings asked.lines) in
+    let base = base_is asked.bases c.open_query.new.keys.bases c.number-number.result b.query.number k c.base_place-base.ensures.base of.bases number in
+    dealt_room asked c.args.place k c.number-number.result c.open_query.new.keys.shards b.query tables table of.countable.some_bases
+    (c.comings_are_queries.ensures.from_one asked.lines) (c.begun_once.ensures asked.lines) b.comes few base
+    (slice_get_read tables asked.bases k table (sym c.requires.tables.as_many) (omega (arith, c.base_place-base.ensures.within, of.bases)) c.index_mut.ensures.value)
+    c.requires.dealt number of.shards
 
 pub returns-clause-counted : goal.returns-clause-counted
 returns-clause-counted g c = λ start first within so_far.

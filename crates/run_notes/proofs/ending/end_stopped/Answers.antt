@@ -4,9 +4,10 @@ use Rattle.std.proofs.lemmas.Bool.{true_from_ne_false}
 use Rattle.fan_model.specs.Report.{IsEachOnce}
 use Rattle.fan_model.specs.Tasks.{Run}
 use Rattle.pool_model.specs.Seen.{task_of}
+use Rattle.pool_model.proofs.Accounts.{runs-append}
 use Rattle.run_notes.specs.Accounts.{runs_added}
 use Rattle.run_notes.specs.Told.{run_of}
-use Rattle.run_notes.proofs.Accounting.{WasDone, done_append, done_of_ends, each_once, records_of_append, runs_append}
+use Rattle.run_notes.proofs.Accounting.{WasDone, done_append, done_of_ends, each_once, records_of_append}
 use Rattle.run_notes.proofs.Leading.{known, known_some}
 use Rattle.run_notes.proofs.ending.end_stopped.Goals as goal
 
@@ -31,7 +32,7 @@ returns-clause-account g c =
       early = subst (λ (l : List Run). IsEachOnce (runs_added c.args.stopping.passes) l)
           (map-append run_of c.stop-accepted.result.ran.records back)
           (each_once c.args.stopping.passes (a.tasks ++ map (task_of g.J.Headed.head) c.stop-accepted.result.returned) (c.stop-accepted.result.ran.records ++ back) a.all
-          (runs_append a.tasks _ c.stop-accepted.result.ran.records back a.runs b.ran) each);
+          (runs-append a.tasks _ c.stop-accepted.result.ran.records back a.runs b.ran) each);
     }
 
 at_most : (missed : Bool) (some all : ℕ) → (missed ≡ true → some < all) → (missed ≡ false → some ≡ all) → some ≤ all

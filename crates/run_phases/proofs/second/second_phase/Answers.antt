@@ -52,6 +52,12 @@ returns-clause-ran g c joined =
 pub returns-clause-late : goal.returns-clause-late
 returns-clause-late g c tasks = c.turns_behind-done.ensures.some (sym c.end-2.ensures.refused ∙ tasks)
 
+pub returns-clause-handed : goal.returns-clause-handed
+returns-clause-handed g c tasks =
+    let behind = sym c.end-2.ensures.refused ∙ tasks in
+    let late = c.turns_behind-done.ensures.follows in
+    ap (λ t. t.handed) c.end-2.ensures.tally ∙ (late.handed behind ∙ c.end_pool-accepted.ensures.follows.handed (late.refused behind))
+
 not_not : (b : Bool) → not (not b) ≡ b
 not_not true = refl
 not_not false = refl

@@ -7,8 +7,8 @@ use Rattle.fan_model.specs.Tasks.{printer_exec}
 use Rattle.run_gathering.specs.Gathering.{no_counts}
 use Rattle.run_tasks.specs.declared.world.TaskEnds.{TaskEnds}
 use Rattle.run_setup.specs.Closing.{merged, merged_with}
-use Rattle.run_setup.proofs.CollectLemmas.{all-passes, columns-start, merged-append, printer-start, slot_refused, slot_tally}
-use Rattle.run_setup.proofs.SlotLemmas.{neither}
+use Rattle.run_setup.proofs.CollectLemmas.{all-passes, columns-start, merged-append, none_both, printer-start, slot_refused, slot_tally, worlds_hand_none}
+use Rattle.run_setup.proofs.SlotLemmas.{neither, none-of}
 use Rattle.run_setup.proofs.closing.close_run.Goals as goal
 
 pub put_all-requires-clause-back : goal.put_all-requires-clause-back
@@ -75,6 +75,20 @@ returns-clause-tally g c = λ calm.
     let theirs = c.put_all.ensures.tally ∙ ap (λ (t : Counts). merged_with t worlds) c.new.ensures.tally in
     let all = c.put.ensures.tally ∙ ap (λ (t : Counts). merged t c.args.front.tally) theirs in
     c.close_all.ensures.tally none ∙ (ap (λ (t : Counts). merged_with t bases) all ∙ sym (merged-append no_counts worlds (c.args.front.tally ∷ bases)))
+
+pub returns-clause-handed : goal.returns-clause-handed
+returns-clause-handed g c = λ calm.
+    let r = c.requires.all in
+    let worlds = list_any (λ (w : TaskEnds g.row.N.Denot). w.refused) c.args.worlds.items in
+    let both = neither c.put.new.self.counted.refused (list_any slot_refused c.args.gatherers.items) (sym c.close_all.ensures.refused ∙ calm) in
+    let theirs = c.put_all.ensures.refused ∙ ap (λ (b : Bool). b || worlds) c.new.ensures.refused in
+    let before = neither worlds c.args.front.refused (sym (c.put.ensures.refused ∙ ap (λ (b : Bool). b || c.args.front.refused) theirs) ∙ both.0) in
+    let each = none-of (λ (w : TaskEnds g.row.N.Denot). w.refused) c.args.worlds.items before.0 in
+    let begun = ap (λ (t : Counts). t.handed) c.new.ensures.tally in
+    let of_worlds = ap (λ (t : Counts). t.handed) c.put_all.ensures.tally
+    ∙ worlds_hand_none c.new.result.tally c.args.worlds.items begun (λ k d below. (r.1.worked.each k d (omega (arith, below, r.1.worked.as_many))).handed (each k d below)) in
+    let of_front = ap (λ (t : Counts). t.handed) c.put.ensures.tally ∙ none_both c.put_all.new.self.counted.tally.handed c.args.front.tally.handed of_worlds (r.1.front_ended.handed before.1) in
+    c.close_all.ensures.handed both.1 of_front
 
 pub returns-clause-refused : goal.returns-clause-refused
 returns-clause-refused g c =

@@ -1,6 +1,7 @@
 use Rattle.std.proofs.Common.{◌-◌, sym, ap, ◌∙◌, subst, arith}
 use Rattle.std.specs.Prelude.{Option}
 use Rattle.std.proofs.lemmas.Option.{same_Some}
+use Rattle.core_word.specs.Count.{Counts, added}
 use Rattle.fan_base.specs.declared.number.ExecId.{ExecId}
 use Rattle.fan_parts.specs.declared.jobs.PrintJob.{PrintJob}
 use Rattle.fan_parts.specs.Heads.{gather_head}
@@ -50,6 +51,14 @@ returns-clause-tally g c = λ ids k slot calm.
     let is = subst (λ (s : GatherStage g.row.N.Denot). IsGathered g.N.RunName.asked ids k s) (same_Some slot.stage stage (sym slot.has ∙ c.in-Some.is)) slot.is in
     let was = sym c.close_gathering.ensures.refused ∙ calm in
     c.close_gathering.ensures.tally (is.dry was) (is.empty was) ∙ ap (λ (s : Option (GatherStage g.row.N.Denot)). tally_of s) (sym c.in-Some.is)
+
+pub returns-clause-handed : goal.returns-clause-handed
+returns-clause-handed g c = λ ids k slot calm.
+    let stage = c.in-Some.stage in
+    let is = subst (λ (s : GatherStage g.row.N.Denot). IsGathered g.N.RunName.asked ids k s) (same_Some slot.stage stage (sym slot.has ∙ c.in-Some.is)) slot.is in
+    let was = sym c.close_gathering.ensures.refused ∙ calm in
+    let note = c.close_gathering.ensures.note (is.dry was) in
+    ap (λ (t : Counts). t.handed) (c.close_gathering.ensures.tally (is.dry was) (is.empty was)) ∙ (is.handed was ∙ ap (added 0) (sym c.close_gathering.ensures.taken ∙ sym note.0))
 
 pub returns-clause-refused : goal.returns-clause-refused
 returns-clause-refused g c = c.close_gathering.ensures.refused ∙ ap (λ (s : Option (GatherStage g.row.N.Denot)). has_refused s) (sym c.in-Some.is)

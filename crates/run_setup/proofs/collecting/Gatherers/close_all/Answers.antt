@@ -9,7 +9,7 @@ use Rattle.fan_parts.specs.declared.jobs.GatherJob.{GatherJob}
 use Rattle.run_bases.specs.declared.rows.Column.{Column}
 use Rattle.run_threads.specs.declared.gatherer.GatherSlot.{GatherSlot}
 use Rattle.run_setup.specs.Closing.{AreColumnsBack, AreGathered, IsFullColumn, IsGatheredSlot, IsPrinterBack, merged, merged_with}
-use Rattle.run_setup.proofs.CollectLemmas.{BasesSoFar, IsEmptiedAt, bases-more, bases-next, bases-none, notes-all, slot_refused, slot_tally}
+use Rattle.run_setup.proofs.CollectLemmas.{BasesSoFar, IsEmptiedAt, bases-more, bases-next, bases-none, none_more, notes-all, one_more, slot_refused, slot_tally}
 use Rattle.run_setup.proofs.Each.{EachFrom, each_first, each_none, each_push}
 use Rattle.run_setup.proofs.SlotLemmas.{neither}
 use Rattle.run_setup.proofs.collecting.Gatherers.close_all.Goals as goal
@@ -27,6 +27,7 @@ loop-slot-init g c =
       refused = ap (λ (l : List (GatherSlot g.row.N.Denot g.N.RunName)). c.args.self.now.counted.refused || list_any slot_refused l) same;
       calm = λ all. ap (λ (l : List (GatherSlot g.row.N.Denot g.N.RunName)). list_any slot_refused l) same ∙ all;
       tally = λ all. ap (λ (l : List (GatherSlot g.row.N.Denot g.N.RunName)). merged_with c.args.self.now.counted.tally (map slot_tally l)) same;
+      handed = λ all nothing. none_more c.args.self.now.counted.tally.handed c.args.self.now.notes.items c.requires.empty nothing;
       emptied = λ all. each_none IsEmptiedAt 0 c.args.self.now.notes.items none;
       so_far = λ ids bases are back printer. subst (λ (n : ℕ). BasesSoFar asked ids slots columns c.args.self.now.printer n) (sym none)
           (bases-none asked ids slots columns c.args.self.now.printer bases (subst (λ (l : List (GatherSlot g.row.N.Denot g.N.RunName)). AreGathered asked ids l) (sym same) are)
@@ -91,6 +92,13 @@ loop-slot-preserved g c =
           ap (λ (t : Counts). merged_with t (map slot_tally rest))
           (c.put.ensures.tally ∙ ap (λ (t : Counts). merged self.counted.tally t) (c.close_slot-end.ensures.tally r.0 closed slot_is (c.close_slot-end.ensures.refused ∙ calm)))
           ∙ (ap (λ (l : List (GatherSlot g.row.N.Denot g.N.RunName)). merged_with self.counted.tally (map slot_tally l)) (sym next) ∙ i.tally all);
+      handed = λ all nothing.
+          let calm = (neither (slot_refused slot) (list_any slot_refused rest) (ap (λ (l : List (GatherSlot g.row.N.Denot g.N.RunName)). list_any slot_refused l) (sym next) ∙ i.calm all)).0 in
+          let so = bases-next asked r.0 (into_iter_items c.loop-slot.left) (slot ∷ rest) (into_iter_items c.loop-slot.columns) (column ∷ rest_columns) self.printer closed next next_columns (i.so_far r.0 r.1 r.2 r.3 r.4) in
+          let slot_is = each_first (IsGatheredSlot asked r.0) closed slot rest so.slots_are in
+          ap (λ (t : Counts). t.handed) c.put.ensures.tally
+          ∙ one_more self.counted.tally.handed end.tally.handed self.notes.items end.queue c.put.new.self.notes.items noted (i.handed all nothing)
+          (c.close_slot-end.ensures.handed r.0 closed slot_is (c.close_slot-end.ensures.refused ∙ calm));
       emptied = λ all.
           let calm = (neither (slot_refused slot) (list_any slot_refused rest) (ap (λ (l : List (GatherSlot g.row.N.Denot g.N.RunName)). list_any slot_refused l) (sym next) ∙ i.calm all)).0 in
           let so = bases-next asked r.0 (into_iter_items c.loop-slot.left) (slot ∷ rest) (into_iter_items c.loop-slot.columns) (column ∷ rest_columns) self.printer closed next next_columns (i.so_far r.0 r.1 r.2 r.3 r.4) in
@@ -123,6 +131,9 @@ pub returns-clause-tally : goal.returns-clause-tally
 returns-clause-tally g c = λ all.
     let none = nil_from_length (into_iter_items c.loop-slot.left) (omega (arith, c.in_default.ensures.cases.0, c.loop-slot.left.rest.ok.0)) in
     ap (λ (l : List (GatherSlot g.row.N.Denot g.N.RunName)). merged_with c.loop-slot.self.counted.tally (map slot_tally l)) (sym none) ∙ c.loop-slot.invariant.tally all
+
+pub returns-clause-handed : goal.returns-clause-handed
+returns-clause-handed g c = c.loop-slot.invariant.handed
 
 pub returns-clause-refused : goal.returns-clause-refused
 returns-clause-refused g c =
