@@ -44,7 +44,7 @@ use report::Status;
 use run::query_main;
 use std::process::ExitCode;
 use std::rt::Runtime;
-use std::{env, io};
+use std::{env, io, mem};
 
 mod answer;
 mod args;
@@ -88,7 +88,10 @@ fn main(rt: HostRuntime) -> ExitCode {
             let mut sink = StdSink::new(rt.stdout());
             let gate = OpenGate::new();
             let report = query_main(&rt, rt.alloc(), &words, &mut source, &mut sink, &gate);
-            report.status
+            let status = report.status;
+            // The process ends, and what the report holds goes with it.
+            mem::forget(report);
+            status
         }
         Err(status) => status,
     };
