@@ -10,11 +10,11 @@ use Rattle.core_cells.specs.Seen.{SeenCells, SeenPass, WereFree}
 use Rattle.core_word.specs.Count.{Counts}
 use Rattle.core_word.specs.Seen.{SeenKey}
 use Rattle.run_tasks.specs.Seen.{WorldSeen}
-use Rattle.run_tasks.specs.Leaving.{CountsLeave, CountsTasks, PutsBack, reopened_times, with_reopened}
+use Rattle.run_tasks.specs.Leaving.{CountsLeave, CountsTasks, MakesMore, PutsBack, reopened_times, with_reopened}
 use Rattle.job_trait.specs.Marks.{IsDone}
 use Rattle.job_trait.specs.Runs.{Leads, Ran, Through}
 use Rattle.pool_model.specs.Records.{Record, ran_of}
-use Rattle.run_tasks.specs.Worlds.{AreEndsFor, Follows, PosterTold, TaskRan, told_of}
+use Rattle.run_tasks.specs.Worlds.{AreEndsFor, Follows, MadeFor, PosterTold, TaskRan, told_of}
 
 module _ {J : Type 0} where
   -- a poster in the place of one that is the same
@@ -54,6 +54,19 @@ counts-first tasks a b c (inr freed) rest = record {
   few = omega (arith, rest.few);
   is = rest.is ∙ (ap (reopened_times rest.freed) freed ∙ reopened-last rest.freed a);
 }
+
+-- a core that is left makes none
+leave_makes : (n : ℕ) (old new : Counts) → CountsLeave old new → MakesMore n old → MakesMore n new
+leave_makes n old new (inl same) makes = subst (λ (t : Counts). MakesMore n t) (sym same) makes
+leave_makes n old new (inr freed) makes = subst (λ (t : Counts). MakesMore n t) (sym freed) makes
+
+reopened_makes : (n times : ℕ) (counts : Counts) → MakesMore n counts → MakesMore n (reopened_times times counts)
+reopened_makes n zero counts makes = makes
+reopened_makes n (suc k) counts makes = reopened_makes n k counts makes
+
+-- tasks that run make none
+pub tasks_make : (n tasks : ℕ) (old new : Counts) → CountsTasks tasks old new → MakesMore n old → MakesMore n new
+tasks_make n tasks old new counts makes = subst (λ (t : Counts). MakesMore n t) (sym counts.is) (reopened_makes n counts.freed old makes)
 
 module _ {N : Type 0} where
   -- a world whose poster at a place has put something
@@ -126,3 +139,12 @@ module _ {N : Type 0} where
   pub leads-tally : (w v : WorldSeen N) (records : List Record) → Leads (TaskRan {N = N}) w (ran_of records) v → v.refused ≡ false → CountsTasks (length records) w.tally v.tally
   leads-tally w v records leads down =
       subst (λ (n : ℕ). CountsTasks n w.tally v.tally) (length-map records (λ (r : Record). (r.job, r.mark))) ((led w v (ran_of records) leads.through).tally down)
+
+  -- the front's world, over the calls with which it leaves and runs tasks
+  pub left-made : (n : ℕ) (w v : WorldSeen N) → Follows w v → (v.refused ≡ false → CountsLeave w.tally v.tally) → MadeFor n w → MadeFor n v
+  left-made n w v follows leave has = record { made = λ down. leave_makes n w.tally v.tally (leave down) (has.made (follows.refused down)) }
+
+  pub leads-made : (n : ℕ) (w v : WorldSeen N) (list : List Ran) → Leads (TaskRan {N = N}) w list v → MadeFor n w → MadeFor n v
+  leads-made n w v list leads has =
+      let all = led w v list leads.through in
+      record { made = λ down. tasks_make n (length list) w.tally v.tally (all.tally down) (has.made (all.follows.refused down)) }

@@ -1,7 +1,7 @@
 -- What leaving a core of a cell does to a pass of the cells and to a tally.
 use Rattle.std.specs.Prelude.{◌≡◌, ◌⊎◌, ℕ, zero, suc, ◌≤◌, [], ◌∷◌, ◌++◌}
 use Rattle.core_cells.specs.Seen.{SeenPass, WereFree}
-use Rattle.core_word.specs.Count.{Counts, raised}
+use Rattle.core_word.specs.Count.{Counts, added, raised}
 use Rattle.core_word.specs.Seen.{HomeId, SeenKey}
 
 -- a core was freed, and its home is ready for another use
@@ -31,3 +31,7 @@ pub record CountsTasks (tasks : ℕ) (old new : Counts) : Type 0 where
   pub freed : ℕ
   pub few : freed ≤ tasks
   pub is : new ≡ reopened_times freed old
+
+-- so many cores more were made than were forwarded, as far as the numbers go up to
+abbrev pub MakesMore : ℕ → Counts → Type 0
+MakesMore n counts = counts.made ≡ added counts.forwarded n

@@ -12,7 +12,7 @@ use Rattle.fan_parts.specs.declared.jobs.GatherJob.{GatherJob}
 use Rattle.fan_parts.specs.Heads.{gather_head}
 use Rattle.fan_parts.specs.Seen.{PosterSeen}
 use Rattle.run_tasks.specs.Seen.{WorldSeen}
-use Rattle.run_tasks.specs.Leaving.{CountsLeave}
+use Rattle.run_tasks.specs.Leaving.{CountsLeave, MakesMore}
 
 -- which poster it is: its queue, its number there, and the executor of its base
 pub record PosterTold : Type 0 where
@@ -44,6 +44,10 @@ module _ {N : Type 0} where
     pub pass : StaysPass old.pass new.pass
     pub refused : new.refused ≡ false → old.refused ≡ false
     pub handed : new.refused ≡ false → new.tally.handed ≡ old.tally.handed
+
+  -- where the world notes no refusal, it has begun the cores of so many tasks
+  pub record MadeFor (tasks : ℕ) (w : WorldSeen N) : Type 0 where
+    pub made : w.refused ≡ false → MakesMore tasks w.tally
 
   -- what a run of the task with this id does: where the world doesn't note that memory was refused, the run was done, and one core was left
   pub record TaskRan (id : JobId) (old : WorldSeen N) (mark : Mark) (new : WorldSeen N) : Type 0 where
