@@ -1,5 +1,5 @@
 -- Worlds one after another, and what a helper's pass has then.
-use Rattle.std.proofs.Common.{◌≡◌, ◌++◌, List, [], ◌∷◌, refl, sym, ap, ◌∙◌, subst, append_assoc, append-nil}
+use Rattle.std.proofs.Common.{◌≡◌, ℕ, ◌++◌, List, [], ◌∷◌, refl, sym, ap, ◌∙◌, subst, append_assoc, append-nil}
 use Rattle.std.proofs.lemmas.List.Elements.{All-append, All-cons, All-nil}
 use Rattle.job_trait.specs.Marks.{IsDone}
 use Rattle.pool_model.specs.Records.{Record}
@@ -8,8 +8,8 @@ use Rattle.prio_pool.specs.declared.pool.Helped.{Helped}
 use Rattle.prio_pool.specs.declared.pool.Helped.TheVariants.{Ran, Empty}
 use Rattle.prio_pool.specs.Ends.{HelpDid}
 use Rattle.run_tasks.specs.Seen.{WorldSeen}
-use Rattle.run_tasks.specs.Worlds.{Follows, TaskRan}
-use Rattle.run_tasks.proofs.WorldLemmas.{follows-itself, follows-on}
+use Rattle.run_tasks.specs.Worlds.{Follows, MadeFor, TaskRan}
+use Rattle.run_tasks.proofs.WorldLemmas.{follows-itself, follows-on, left-made}
 use Rattle.query_tasks.specs.Starting.{HasHelped}
 
 module _ {N : Type 0} where
@@ -57,3 +57,8 @@ module _ {N : Type 0} where
     records = did.list ∙ sym (append-nil old.records);
     done = λ down. All-nil (λ (r : Record). IsDone r.mark);
   }
+
+  -- helping begins no core
+  pub helped_makes : (n : ℕ) (w v : WorldSeen N) (old new : EndSeen) (answer : Helped) → HelpDid (TaskRan {N = N}) answer old w new v → MadeFor n w → MadeFor n v
+  helped_makes n w v old new Ran did has = left-made n w v did.led.follows did.led.tally has
+  helped_makes n w v old new Empty did has = subst (λ (u : WorldSeen N). MadeFor n u) (sym did.world) has

@@ -14,7 +14,7 @@ use Rattle.prio_pool.specs.Adders.{add_on}
 use Rattle.prio_pool.specs.Running.{DirectSeen}
 use Rattle.run_notes.specs.Told.{run_of_direct}
 use Rattle.run_tasks.specs.Seen.{WorldSeen}
-use Rattle.run_tasks.specs.Worlds.{Follows}
+use Rattle.run_tasks.specs.Worlds.{Follows, MadeFor}
 use Rattle.query_tasks.specs.Starting.{HasAdded, HasAddedSome, HasRunSome, adds_for, head_on_pool, run_at, runs_for}
 
 -- a map of what a map gives
@@ -60,6 +60,16 @@ one_more_ran asked ask queue exec shard w v old between new r so_far follows ran
     ∙ ap (λ (x : Run). (map run_of_direct old ++ runs_for asked ask queue exec shard) ++ x ∷ []) (ran down)
     ∙ append_assoc (map run_of_direct old) (runs_for asked ask queue exec shard) (run_at asked ask queue exec shard ∷ [])
     ∙ ap (λ (l : List Run). map run_of_direct old ++ l) (sym (map-range_with_len_more (run_at asked ask queue exec) 0 shard shard (omega (arith))))
+
+-- a core for the one task that was added
+pub made_added : {N : Type 0} (v : WorldSeen N) (old new : PassSeen) (x : Add) → HasAdded old (x ∷ []) new → MadeFor (length (adds_of old) + 1) v → MadeFor (length (adds_of new)) v
+made_added v old new x has made = subst (λ (k : ℕ). MadeFor k v) (sym (ap (λ (l : List Add). length l) has.adds ∙ length-append (adds_of old) (x ∷ []))) made
+
+-- a core for the one task that ran
+pub made_ran : {N : Type 0} (n : ℕ) (v : WorldSeen N) (old new : List DirectSeen) (r : DirectSeen) → new ≡ old ++ r ∷ [] → MadeFor ((n + length old) + 1) v → MadeFor (n + length new) v
+made_ran n v old new r is made =
+    let more : length new ≡ length old + 1 = ap (λ (l : List DirectSeen). length l) is ∙ length-append old (r ∷ []) in
+    subst (λ (k : ℕ). MadeFor k v) (omega (arith, more)) made
 
 -- the next task wasn't added
 pub added_some : (old : PassSeen) (adds : ℕ → List Add) (shards count : ℕ) (between new : PassSeen)

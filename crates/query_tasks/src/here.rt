@@ -1,11 +1,11 @@
 //! How the tasks of a query are run without the pool.
-ghost use Rattle.std.specs.Prelude.{◌≡◌, ◌<◌, ◌++◌, [], ◌∷◌, false, map, OnErr, OnOk};
+ghost use Rattle.std.specs.Prelude.{◌≡◌, ℕ, ◌+◌, ◌<◌, ◌++◌, [], ◌∷◌, false, length, map, OnErr, OnOk};
 ghost use Rattle.fan_model.specs.Notes.{base_of};
 ghost use Rattle.prio_pool.specs.Running.{RanDirect};
 ghost use Rattle.query_tasks.specs.Starting.{HasRunSome, run_at, runs_for};
 ghost use Rattle.run_notes.specs.Told.{run_of_direct};
 ghost use Rattle.run_tasks.specs.Heads.{task_head};
-ghost use Rattle.run_tasks.specs.Worlds.{Follows, TaskRan};
+ghost use Rattle.run_tasks.specs.Worlds.{Follows, MadeFor, TaskRan};
 
 use fan_base::{ExecId, Memory};
 use fan_parts::{NumberedAsk, PartCallback, RunName, TaskConsumer, TaskProducer};
@@ -33,6 +33,8 @@ pub fn run_tasks_here<'c, 't, 'i: 't, N: RunName + 'static, R: Wait>(
     ensures direct { OnOk result (world.new.refused ≡ false →
         map run_of_direct direct.new ≡ map run_of_direct direct.old ++ runs_for N.asked ask.now queue front shards) }
     ensures some { OnErr result (world.new.refused ≡ false → HasRunSome direct.old (runs_for N.asked ask.now queue front) shards direct.new) }
+    ensures made { (n : ℕ) → MadeFor (n + length direct.old) world.old →
+        OnOk result (MadeFor (n + length direct.new) world.new) }
 {
     for shard in 0..shards {
         let callback = task_callback(ask.number(), shard, base);
@@ -55,6 +57,7 @@ fn run_task_here<'c, 't, 'i: 't, N: RunName + 'static, R: Wait>(
     requires { shard < N.asked.shards }
     ensures follows { Follows world.old world.new }
     ensures ran { world.new.refused ≡ false → run_of_direct result ≡ run_at N.asked ask.entry queue front shard }
+    ensures made { (n : ℕ) → MadeFor n world.old → MadeFor (n + 1) world.new }
 {
     let no = 64 * u64::from(ask.number()) + u64::from(shard);
     let (producer, consumer) = core_in_turn(rt, world, no);
@@ -70,7 +73,8 @@ fn core_in_turn<'c, 't, 'i: 't, N: RunName + 'static, R: Wait>(
     world: &mut TaskWorld<'c, 't, 'i, N>,
     no: u64,
 ) -> (TaskProducer<'t, N>, TaskConsumer<'t, N>)
-    ensures { Follows world.old world.new }
+    ensures follows { Follows world.old world.new }
+    ensures made { (n : ℕ) → MadeFor n world.old → MadeFor (n + 1) world.new }
 {
     for _ in rt.forever() {
         if let Some(halves) = world.begin_core(rt, no) {

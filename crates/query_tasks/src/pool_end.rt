@@ -1,5 +1,5 @@
 //! How the pool is ended.
-ghost use Rattle.std.specs.Prelude.{◌≡◌, ◌+◌, ◌<◌, ◌≤◌, ◌++◌, [], true, false, length};
+ghost use Rattle.std.specs.Prelude.{◌≡◌, ℕ, ◌+◌, ◌<◌, ◌≤◌, ◌++◌, [], true, false, length};
 ghost use Rattle.pool_model.specs.Accounts.{AllRun};
 ghost use Rattle.pool_model.specs.declared.task.Ending.TheVariants.{Joins as PoolJoins, Stops as PoolStops};
 ghost use Rattle.pool_model.specs.Passes.{AreAllEnds, AreAllPasses, adds_total};
@@ -7,7 +7,7 @@ ghost use Rattle.prio_pool.specs.Begun.{HasBegun};
 ghost use Rattle.query_tasks.specs.Ends.{end_for, is_stop, seen_of};
 ghost use Rattle.run_notes.specs.Accounts.{AccountsFor, AllDone, HaveAllRun, SomeLed};
 ghost use Rattle.run_tasks.specs.Heads.{task_head};
-ghost use Rattle.run_tasks.specs.Worlds.{Follows, TaskRan};
+ghost use Rattle.run_tasks.specs.Worlds.{Follows, MadeFor, TaskRan};
 
 use crate::pool::{TaskAdder, TaskPool};
 use fan_parts::RunName;
@@ -73,6 +73,7 @@ pub fn end_pool<'c, 't, 'i: 't, N: RunName + 'static, R: Wait>(
     ensures joined { is_stop ending.entry ≡ false → (result.returned ≡ []) × (result.missed ≡ false) }
     ensures few { is_stop ending.entry ≡ true → length result.ran.records + length result.returned ≤ result.accepted }
     ensures missed { result.missed ≡ true → length result.ran.records + length result.returned < result.accepted }
+    ensures made { (n : ℕ) → MadeFor n world.old → MadeFor n world.new }
 {
     match ending {
         Ending::Joins(joining) => join_all(rt, alloc, pool, joining, ends, helped, world),

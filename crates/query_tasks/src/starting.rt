@@ -1,5 +1,5 @@
 //! How the tasks of a query are started on the pool.
-ghost use Rattle.std.specs.Prelude.{◌≡◌, ◌+◌, ◌<◌, ◌≤◌, [], ◌∷◌, true, OnOk, OnErr, IfErr, length};
+ghost use Rattle.std.specs.Prelude.{◌≡◌, ℕ, ◌+◌, ◌<◌, ◌≤◌, [], ◌∷◌, true, OnOk, OnErr, IfErr, length};
 ghost use Rattle.fan_base.specs.declared.refusal.Refused.TheVariants.{Memory as GivenBack};
 ghost use Rattle.fan_model.specs.Notes.{base_of};
 ghost use Rattle.fan_model.specs.Tasks.{pool_exec};
@@ -8,6 +8,7 @@ ghost use Rattle.prio_pool.specs.Adders.{add_on};
 ghost use Rattle.prio_pool.specs.Priority.{queue_in};
 ghost use Rattle.query_tasks.specs.Starting.{HasAdded, HasAddedSome, HasHelped, adds_for, head_on_pool};
 ghost use Rattle.run_tasks.specs.Heads.{task_head};
+ghost use Rattle.run_tasks.specs.Worlds.{MadeFor};
 
 use crate::pool::{TaskAdder, TaskHelper, TaskPool};
 use fan_base::{ExecId, Gate, Memory, Refused};
@@ -44,6 +45,7 @@ pub fn start_tasks<'c, 't, 'i: 't, N: RunName + 'static, G: Gate, R: Wait>(
     ensures same { (adder.new.pool ≡ adder.old.pool) × (adder.new.number ≡ adder.old.number) }
     ensures refused { OnErr result (world.new.refused ≡ true) }
     ensures some { OnErr result (HasAddedSome adder.old (adds_for N.asked ask.now (queue_in pool.now.id priority)) shards adder.new) }
+    ensures made { MadeFor (length (adds_of adder.old)) world.old → MadeFor (length (adds_of adder.new)) world.new }
 {
     for shard in 0..shards {
         let callback = task_callback(ask.number(), shard, exec);
@@ -89,6 +91,7 @@ fn start_task<'c, 't, 'i: 't, N: RunName + 'static, G: Gate, R: Wait>(
     ensures added { OnOk result
         (HasAdded adder.old (add_on (queue_in pool.now.id priority) (head_on_pool N.asked ask.entry shard) ∷ []) adder.new) }
     ensures refused { OnErr result ((world.new.refused ≡ true) × (adder.new ≡ adder.old)) }
+    ensures made { MadeFor (length (adds_of adder.old)) world.old → MadeFor (length (adds_of adder.new)) world.new }
 {
     let no = 64 * u64::from(ask.number()) + u64::from(shard);
     let (producer, consumer) = core_or_help(rt, pool, helper, world, gate, no);
@@ -139,6 +142,7 @@ fn core_or_help<'c, 't, 'i: 't, N: RunName + 'static, G: Gate, R: Wait>(
 ) -> (TaskProducer<'t, N>, TaskConsumer<'t, N>)
     requires { helper.old.pool ≡ pool.now.id }
     ensures helped { HasHelped world.old helper.old world.new helper.new }
+    ensures made { (n : ℕ) → MadeFor n world.old → MadeFor (n + 1) world.new }
 {
     for _ in rt.forever() {
         if let Some(halves) = world.begin_core(rt, no) {
@@ -158,7 +162,8 @@ fn help_once<'c, 't, 'i: 't, N: RunName + 'static, G: Gate, R: Wait>(
     gate: &G,
 )
     requires { helper.old.pool ≡ pool.now.id }
-    ensures { HasHelped world.old helper.old world.new helper.new }
+    ensures helped { HasHelped world.old helper.old world.new helper.new }
+    ensures made { (n : ℕ) → MadeFor n world.old → MadeFor n world.new }
 {
     let _helped = pool.help(rt, helper, world, gate);
 }

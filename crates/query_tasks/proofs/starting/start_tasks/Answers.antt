@@ -29,4 +29,5 @@ loop-shard-preserved g c = record {
   helped = helped_more _ _ _ _ _ _ c.loop-shard.invariant.helped c.start_task.ensures.helped;
   added = one_more_added g.N.RunName.asked c.args.ask.now _ c.loop-shard.shard
       c.args.adder.now c.loop-shard.adder c.start_task.new.adder c.loop-shard.invariant.added (search rules);
+  made = λ has. c.start_task.ensures.made (c.loop-shard.invariant.made has);
 }
