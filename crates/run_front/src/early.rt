@@ -8,7 +8,7 @@ ghost use Rattle.query_opening.specs.Turns.{IsBegun};
 ghost use Rattle.query_tasks.specs.Starting.{HasHelped};
 ghost use Rattle.run_notes.specs.Told.{run_of_add};
 ghost use Rattle.run_plan.specs.Turns.{AreTurnsOf, begun_in};
-ghost use Rattle.run_tasks.specs.Worlds.{told_of};
+ghost use Rattle.run_tasks.specs.Worlds.{MadeFor, told_of};
 ghost use Rattle.run_front.specs.Fronts.{AreRunsTo, AreSomeOf, AreSomeRunsTo, IsFrontOf};
 ghost use Rattle.run_front.specs.Posted.{HasPosted};
 ghost use Rattle.run_desks.specs.Turns.{IsTurnAt};
@@ -56,6 +56,8 @@ pub fn early_turns<'c, 't, 'i: 't, N: RunName + 'static, G: Gate, R: Wait>(
         (begun_in (take end (comings_of N.asked.lines)))) (map run_of_add (adds_of adder.new))) }
     ensures adder { (adder.new.pool ≡ adder.old.pool) × (adder.new.number ≡ adder.old.number) }
     ensures helped { HasHelped front.old.world helper.old front.new.world helper.new }
+    ensures made { MadeFor (length (adds_of adder.old)) front.old.world →
+        MadeFor (length (adds_of adder.new)) front.new.world }
     ensures front { IsFrontOf N.asked front.new }
     ensures printer { told_of front.new.printer ≡ told_of front.old.printer }
     ensures posted { (first : List (PrintJob N)) → HasPosted N.asked 0 first front.old.printer
@@ -106,6 +108,8 @@ fn early_turn<'c, 't, 'i: 't, N: RunName + 'static, G: Gate, R: Wait>(
     ensures few { OnOk result (length (adds_of adder.new) ≤ length (adds_of adder.old) + 64) }
     ensures adder { (adder.new.pool ≡ adder.old.pool) × (adder.new.number ≡ adder.old.number) }
     ensures helped { HasHelped front.old.world helper.old front.new.world helper.new }
+    ensures made { MadeFor (length (adds_of adder.old)) front.old.world →
+        MadeFor (length (adds_of adder.new)) front.new.world }
     ensures front { IsFrontOf N.asked front.new }
     ensures printer { told_of front.new.printer ≡ told_of front.old.printer }
     ensures posted { (first : List (PrintJob N)) → HasPosted N.asked place first front.old.printer →
@@ -145,6 +149,8 @@ fn early_query<'c, 't, 'i: 't, N: RunName + 'static, G: Gate, R: Wait>(
     ensures few { OnOk result (length (adds_of adder.new) ≤ length (adds_of adder.old) + 64) }
     ensures adder { (adder.new.pool ≡ adder.old.pool) × (adder.new.number ≡ adder.old.number) }
     ensures helped { HasHelped front.old.world helper.old front.new.world helper.new }
+    ensures made { MadeFor (length (adds_of adder.old)) front.old.world →
+        MadeFor (length (adds_of adder.new)) front.new.world }
     ensures front { IsFrontOf N.asked front.new }
     ensures printer { told_of front.new.printer ≡ told_of front.old.printer }
     ensures posted { (first : List (PrintJob N)) → HasPosted N.asked place first front.old.printer →

@@ -6,7 +6,7 @@ ghost use Rattle.front_walk.specs.Following.{IsInput};
 ghost use Rattle.query_opening.specs.Turns.{IsBegun};
 ghost use Rattle.run_notes.specs.Told.{run_of_direct};
 ghost use Rattle.run_plan.specs.Turns.{AreTurnsOf, begun_in};
-ghost use Rattle.run_tasks.specs.Worlds.{Follows, told_of};
+ghost use Rattle.run_tasks.specs.Worlds.{Follows, MadeFor, told_of};
 ghost use Rattle.run_front.specs.Fronts.{AreRunsTo, AreSomeOf, AreSomeRunsTo, IsFrontOf};
 ghost use Rattle.run_front.specs.Posted.{HasPosted};
 ghost use Rattle.run_desks.specs.Turns.{IsTurnAt};
@@ -43,6 +43,8 @@ pub fn late_turns<'c, 't, 'i: 't, N: RunName + 'static, R: Wait>(
     ensures some { OnErr result (front.new.world.refused ≡ false → AreSomeOf (map run_of_direct direct.old)
         (task_runs N.asked.lines N.asked.shards (front_exec N.asked.bases) (begun_in (drop start (comings_of N.asked.lines)))) (map run_of_direct direct.new)) }
     ensures follows { Follows front.old.world front.new.world }
+    ensures made { (n : ℕ) → MadeFor (n + length direct.old) front.old.world →
+        OnOk result (MadeFor (n + length direct.new) front.new.world) }
     ensures front { IsFrontOf N.asked front.new }
     ensures printer { told_of front.new.printer ≡ told_of front.old.printer }
     ensures posted { (first : List (PrintJob N)) → HasPosted N.asked start first front.old.printer →
@@ -75,6 +77,8 @@ fn late_turn<'c, 't, 'i: 't, N: RunName + 'static, R: Wait>(
         OnErr result (front.new.world.refused ≡ false
         → AreSomeRunsTo N.asked (front_exec N.asked.bases) start (place + 1) first (map run_of_direct direct.new)) }
     ensures follows { Follows front.old.world front.new.world }
+    ensures made { (n : ℕ) → MadeFor (n + length direct.old) front.old.world →
+        OnOk result (MadeFor (n + length direct.new) front.new.world) }
     ensures front { IsFrontOf N.asked front.new }
     ensures printer { told_of front.new.printer ≡ told_of front.old.printer }
     ensures posted { (first : List (PrintJob N)) → HasPosted N.asked place first front.old.printer →
@@ -106,6 +110,8 @@ fn late_query<'c, 't, 'i: 't, N: RunName + 'static, R: Wait>(
         OnErr result (front.new.world.refused ≡ false
         → AreSomeRunsTo N.asked (front_exec N.asked.bases) start (place + 1) first (map run_of_direct direct.new)) }
     ensures follows { Follows front.old.world front.new.world }
+    ensures made { (n : ℕ) → MadeFor (n + length direct.old) front.old.world →
+        OnOk result (MadeFor (n + length direct.new) front.new.world) }
     ensures front { IsFrontOf N.asked front.new }
     ensures printer { told_of front.new.printer ≡ told_of front.old.printer }
     ensures posted { (first : List (PrintJob N)) → HasPosted N.asked place first front.old.printer →

@@ -18,6 +18,9 @@ returns-in_err-early_turn-clause-some g c =
     let all = some_to asked pool_exec 0 (c.loop-place.place + 1) c.args.end [] (map run_of_add (adds_of c.early_turn.new.adder)) (omega arith) some in
     on_err c.from_residual.result (some_of [] _ _ _ (ap (λ (qs : List Asked). task_runs asked.lines asked.shards pool_exec qs) (c.place_by_place.ensures.before asked.lines c.args.end)) all)
 
+pub returns-in_err-early_turn-clause-made : goal.returns-in_err-early_turn-clause-made
+returns-in_err-early_turn-clause-made g c has = c.early_turn.ensures.made (c.loop-place.invariant.made has)
+
 pub loop-place-preserved : goal.loop-place-preserved
 loop-place-preserved g c =
     let i = c.loop-place.invariant in
@@ -29,6 +32,7 @@ loop-place-preserved g c =
       pool = e.adder.0 ∙ i.pool;
       number = e.adder.1 ∙ i.number;
       helped = helped_more _ _ _ _ _ _ i.helped e.helped;
+      made = λ has. e.made (i.made has);
       front = e.front;
       printer = e.printer ∙ i.printer;
       posted = λ first so_far. ok.posted first (i.posted first so_far);
