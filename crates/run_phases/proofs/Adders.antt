@@ -9,6 +9,9 @@ use Rattle.fan_model.specs.Tasks.{Run}
 pub at_first : (l : List PassSeen) (x p : PassSeen) → l ≡ p ∷ [] → x ≡ slice_index_or l 0 x → x ≡ p
 at_first l x p is at = at ∙ ap (λ (xs : List PassSeen). slice_index_or xs 0 x) is
 
+pub first_unused : (l : List PassSeen) (x p : PassSeen) → l ≡ p ∷ [] → x ≡ slice_index_or l 0 x → adds_of p ≡ [] → adds_of x ≡ []
+first_unused l x p is at unused = ap (λ (q : PassSeen). adds_of q) (at_first l x p is at) ∙ unused
+
 pub set_first : (l : List PassSeen) (p q : PassSeen) → l ≡ p ∷ [] → slice_set l 0 q ≡ q ∷ []
 set_first l p q is = ap (λ (xs : List PassSeen). slice_set xs 0 q) is
 

@@ -1,5 +1,5 @@
 -- The runs of a pool that has ended, and of what came behind its stop.
-use Rattle.std.proofs.Common.{◌≡◌, ℕ, ◌+◌, ◌≤◌, List, [], ◌∷◌, ◌++◌, Bool, true, false, length, map, drop, append-nil, refl, sym, ap, ◌∙◌, subst, length-append, arith, true≢false}
+use Rattle.std.proofs.Common.{◌≡◌, ℕ, ◌+◌, ◌≤◌, List, [], ◌∷◌, ◌++◌, Bool, false, length, map, drop, append-nil, refl, sym, ap, ◌∙◌, subst, length-append, arith, true≢false}
 use Rattle.std.specs.Prelude.{Option, Some, None}
 use Rattle.std.specs.List.{sum_by}
 use Rattle.std.proofs.lemmas.List.{length-map}
@@ -23,9 +23,12 @@ use Rattle.query_tasks.specs.Ends.{seen_of}
 use Rattle.run_phases.specs.declared.first.FrontMid.{FrontMid}
 use Rattle.run_phases.specs.declared.second.FrontLeft.{FrontLeft}
 use Rattle.run_phases.specs.Phases.{IsStopAccount, StopsAt}
+use Rattle.run_phases.proofs.Adders.{runs_of_one}
+use Rattle.run_tasks.specs.declared.world.TaskEnds.{TaskEnds}
 use Rattle.run_tasks.specs.Heads.{task_head}
+use Rattle.run_tasks.specs.Leaving.{MakesMore}
 use Rattle.run_tasks.specs.Seen.{WorldSeen}
-use Rattle.run_tasks.specs.Worlds.{TaskRan}
+use Rattle.run_tasks.specs.Worlds.{MadeFor, TaskRan}
 
 pub early_are : (asked : Asking) (queries : List Asked) → queries ≡ early_of asked.stop_at (answered_in asked.lines) → task_runs asked.lines asked.shards pool_exec queries ≡ early_runs asked.lines asked.shards asked.stop_at
 unfolding early_runs
@@ -48,7 +51,7 @@ late_none asked turns stop direct stops is none =
     let at : StopsAt asked turns None = subst (λ (s : Option ℕ). StopsAt asked turns s) is stops in
     ap (λ (l : List DirectSeen). map run_of_direct l) none ∙ late_are asked [] (sym at.late)
 
-adds_counted : (passes : List PassSeen) → adds_total passes ≡ length (runs_added passes)
+pub adds_counted : (passes : List PassSeen) → adds_total passes ≡ length (runs_added passes)
 adds_counted [] = refl
 adds_counted (p ∷ ps) = omega (arith, sum_by-cons (λ (q : PassSeen). length (adds_of q)) p ps, adds_counted ps, length-map (adds_of p) run_of_add, length-append (map run_of_add (adds_of p)) (runs_added ps))
 
@@ -104,3 +107,25 @@ pub stop_account : {N : Type 0} (asked : Asking) (mid : FrontMid N) (left : Fron
     → length left.note.ran.records + length left.note.returned ≤ left.note.accepted → (behind : WorldSeen N)
     → HaveAllRun (task_head asked) TaskRan (seen_of mid.ending).passes left.note.ran.records left.note.returned mid.front.world behind → IsStopAccount asked mid left
 stop_account asked mid left accepted few behind have = record { accepted = accepted; few = few; back = have.returned; all = have.all; kept = have.kept }
+
+-- what the one adder added is what was added
+adds_of_one : (passes : List PassSeen) (adder : PassSeen) → passes ≡ adder ∷ [] → length (adds_of adder) ≡ adds_total passes
+adds_of_one passes adder is = sym (adds_counted passes ∙ (ap (λ (l : List Run). length l) (runs_of_one passes adder _ is refl) ∙ length-map (adds_of adder) run_of_add))
+
+pub made_by_one : {N : Type 0} (w v : WorldSeen N) (old new : PassSeen) (passes : List PassSeen) → (MadeFor (length (adds_of old)) w → MadeFor (length (adds_of new)) v) → adds_of old ≡ [] → passes ≡ new ∷ []
+    → MadeFor 0 w → MadeFor (adds_total passes) v
+made_by_one w v old new passes makes unused is none =
+    subst (λ (n : ℕ). MadeFor n v) (adds_of_one passes new is) (makes (subst (λ (l : List _). MadeFor (length l) w) (sym unused) none))
+
+-- none ran, and no core more was begun
+pub made_before : {N : Type 0} (n : ℕ) (w : WorldSeen N) (direct : List DirectSeen) → direct ≡ [] → MadeFor n w → MadeFor (n + length direct) w
+made_before n w direct none made =
+    let zero : length direct ≡ 0 = ap (λ (l : List DirectSeen). length l) none in
+    subst (λ (k : ℕ). MadeFor k w) (omega (arith, zero)) made
+
+-- what is left of a world has its tally, and as many tasks are told as accepted as were added
+pub made_told : {N : Type 0} (total accepted late : ℕ) (w : WorldSeen N) (ends : TaskEnds N) → ends.tally ≡ w.tally → accepted ≡ total → MakesMore (total + late) w.tally → MakesMore (accepted + late) ends.tally
+made_told total accepted late w ends same is makes =
+    let made : ends.tally.made ≡ w.tally.made = ap (λ t. t.made) same in
+    let forwarded : ends.tally.forwarded ≡ w.tally.forwarded = ap (λ t. t.forwarded) same in
+    omega (arith, made, forwarded, is, makes)

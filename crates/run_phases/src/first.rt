@@ -4,14 +4,14 @@ ghost use Rattle.fan_model.specs.Comings.{comings_of};
 ghost use Rattle.fan_model.specs.Tasks.{early_runs, pool_exec};
 ghost use Rattle.fan_parts.specs.declared.jobs.PrintJob.{PrintJob};
 ghost use Rattle.front_walk.specs.Following.{IsInput};
-ghost use Rattle.pool_model.specs.Passes.{AreAllPasses};
+ghost use Rattle.pool_model.specs.Passes.{AreAllPasses, adds_total};
 ghost use Rattle.query_tasks.specs.Ends.{is_stop, seen_of};
 ghost use Rattle.query_tasks.specs.Starting.{HasHelped};
 ghost use Rattle.run_front.specs.Fronts.{AreSomeOf, IsFrontOf};
 ghost use Rattle.run_front.specs.Posted.{HasPosted};
 ghost use Rattle.run_notes.specs.Accounts.{runs_added};
 ghost use Rattle.run_plan.specs.Turns.{AreTurnsOf, begun_in};
-ghost use Rattle.run_tasks.specs.Worlds.{told_of};
+ghost use Rattle.run_tasks.specs.Worlds.{MadeFor, told_of};
 ghost use Rattle.run_phases.specs.Phases.{IsOneAdder, StopsAt, early_place};
 
 use fan_base::{Gate, Memory};
@@ -68,6 +68,7 @@ pub fn first_phase<'c, 't, 'i: 't, N: RunName + 'static, G: Gate, R: Wait>(
     ensures passes { AreAllPasses pool.now.id pool.now.adders (seen_of result.ending).passes }
     ensures stops { is_stop result.ending ≡ is_stopped N.asked.stop_at (answered_in N.asked.lines) }
     ensures helped { HasHelped start.entry.front.world start.entry.helper result.front.world result.helper }
+    ensures made { MadeFor 0 start.entry.front.world → MadeFor (adds_total (seen_of result.ending).passes) result.front.world }
     ensures front { IsFrontOf N.asked result.front }
     ensures printer { told_of result.front.printer ≡ told_of start.entry.front.printer }
     ensures posted { (first : List (PrintJob N)) → HasPosted N.asked 0 first start.entry.front.printer → result.refused ≡ false →

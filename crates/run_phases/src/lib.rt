@@ -18,6 +18,7 @@
 //!   refused all of them (`added`);
 //! * the pool is stopped exactly where the run has a stop point and at least so many queries are answered (`stops`); the end
 //!   that has begun is this pool's, with all its adders' passes (`pool`, `passes`);
+//! * where its world notes no refusal, a new one has begun a core for each task that was added (`made`);
 //! * what the front helped with is in its helper's records (`helped`), and the front stays this run's, with the same poster
 //!   (`front`, `printer`);
 //! * where no memory was refused, the replies of all queries that are cancelled before the stop were posted, in order, and
@@ -34,6 +35,8 @@
 //! * what the front ran of late tasks are the first of them, in order, where its world notes no refusal (`late`); a refusal
 //!   that it noted before stays noted (`refused`); where it notes none, the second phase counted no core as handed over
 //!   (`handed`);
+//! * where no memory was refused and the first phase began a core for each task that was added, so many cores more were made than
+//!   forwarded as tasks were accepted and late ones run (`made`);
 //! * behind a stop, where no memory was refused, the replies of all cancelled queries were posted (`posted`); without one
 //!   nothing more was, and memory is said to be refused exactly where it was (`joined`);
 //! * the ends are those of the front's posters and of its pass (`posters`, `pass`, `printer`).

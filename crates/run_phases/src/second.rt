@@ -1,4 +1,4 @@
-ghost use Rattle.std.specs.Prelude.{◌≡◌, ◌≤◌, ◌++◌, ◌∷◌, [], ℕ, List, None, Some, false, true, not, length, map, take, vec_capacity};
+ghost use Rattle.std.specs.Prelude.{◌≡◌, ◌+◌, ◌≤◌, ◌++◌, ◌∷◌, [], ℕ, List, None, Some, false, true, not, length, map, take, vec_capacity};
 ghost use Rattle.std.specs.Bool.{OnTrue};
 ghost use Rattle.fan_model.specs.Answered.{answered_in, is_stopped};
 ghost use Rattle.fan_model.specs.Comings.{comings_of};
@@ -6,14 +6,15 @@ ghost use Rattle.fan_model.specs.Report.{IsPoolReport};
 ghost use Rattle.fan_model.specs.Tasks.{early_runs, late_runs};
 ghost use Rattle.fan_parts.specs.declared.jobs.PrintJob.{PrintJob};
 ghost use Rattle.front_walk.specs.Following.{IsInput};
-ghost use Rattle.pool_model.specs.Passes.{AreAllEnds, AreAllPasses};
+ghost use Rattle.pool_model.specs.Passes.{AreAllEnds, AreAllPasses, adds_total};
 ghost use Rattle.query_tasks.specs.Ends.{is_stop, seen_of};
 ghost use Rattle.run_front.specs.Fronts.{AreSomeOf, IsFrontOf};
 ghost use Rattle.run_front.specs.Posted.{HasPosted, cancelled_from};
 ghost use Rattle.run_notes.specs.Accounts.{AllDone, runs_added};
 ghost use Rattle.run_notes.specs.Told.{run_of_direct, told_of as told_by};
 ghost use Rattle.run_plan.specs.Turns.{AreTurnsOf};
-ghost use Rattle.run_tasks.specs.Worlds.{AreEndsFor, Follows, StaysPass, told_of};
+ghost use Rattle.run_tasks.specs.Leaving.{MakesMore};
+ghost use Rattle.run_tasks.specs.Worlds.{AreEndsFor, Follows, MadeFor, StaysPass, told_of};
 ghost use Rattle.run_phases.specs.Phases.{IsDoneBy, IsJoinAccount, IsLeftAsItWas, IsStopAccount, StopsAt};
 
 use crate::first::FrontMid;
@@ -67,6 +68,8 @@ pub fn second_phase<'c, 't, 'i: 't, N: RunName + 'static, R: Wait>(
         AreSomeOf [] (late_runs N.asked.lines N.asked.shards N.asked.bases N.asked.stop_at) (map run_of_direct result.note.direct) }
     ensures refused { result.ends.tasks.refused ≡ false → mid.entry.front.world.refused ≡ false }
     ensures handed { result.ends.tasks.refused ≡ false → result.ends.tasks.tally.handed ≡ mid.entry.front.world.tally.handed }
+    ensures made { MadeFor (adds_total (seen_of mid.entry.ending).passes) mid.entry.front.world → result.refused ≡ false →
+        result.ends.tasks.refused ≡ false → MakesMore (result.note.accepted + length result.note.direct) result.ends.tasks.tally }
     ensures posters { AreEndsFor (map told_of mid.entry.front.world.posters) result.ends.tasks.posters.items }
     ensures pass { StaysPass mid.entry.front.world.pass result.ends.tasks.pass }
     ensures printer { IsDoneBy mid.entry.front.printer result.ends.printer }
@@ -122,6 +125,7 @@ fn turns_behind<'c, 't, 'i: 't, N: RunName + 'static, R: Wait>(
     ensures some { front.new.world.refused ≡ false →
         AreSomeOf [] (late_runs N.asked.lines N.asked.shards N.asked.bases N.asked.stop_at) (map run_of_direct direct.new) }
     ensures follows { Follows front.old.world front.new.world }
+    ensures made { (n : ℕ) → MadeFor n front.old.world → OnTrue result (MadeFor (n + length direct.new) front.new.world) }
     ensures printer { told_of front.new.printer ≡ told_of front.old.printer }
     ensures posted { (place : ℕ) (first : List (PrintJob N)) → stop ≡ Some place → HasPosted N.asked place first front.old.printer →
         OnTrue result (HasPosted N.asked (length turns.now) first front.new.printer) }

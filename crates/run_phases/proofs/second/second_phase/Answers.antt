@@ -2,7 +2,7 @@ use Rattle.std.proofs.Common.{◌≡◌, Bool, true, false, not, List, ◌++◌,
 use Rattle.std.specs.Bool.{OnTrue}
 use Rattle.pool_model.specs.Seen.{EndSeen}
 use Rattle.run_notes.specs.Accounts.{AllDone}
-use Rattle.run_phases.proofs.Runs.{stop_account, is_nowhere, is_unstopped, report_is}
+use Rattle.run_phases.proofs.Runs.{made_told, stop_account, is_nowhere, is_unstopped, report_is}
 use Rattle.run_phases.proofs.second.second_phase.Goals.{then-missed, else-missed}
 use Rattle.run_phases.proofs.second.second_phase.Goals as goal
 
@@ -57,6 +57,15 @@ returns-clause-handed g c tasks =
     let behind = sym c.end-2.ensures.refused ∙ tasks in
     let late = c.turns_behind-done.ensures.follows in
     ap (λ t. t.handed) c.end-2.ensures.tally ∙ (late.handed behind ∙ c.end_pool-accepted.ensures.follows.handed (late.refused behind))
+
+pub returns-clause-made : goal.returns-clause-made
+returns-clause-made g c has fine tasks = elim c.if-missed.branch [
+  | then-missed w ↦ absurd (true≢false (sym w.if-missed.true ∙ (sym w.result-is ∙ fine)))
+  | else-missed w ↦
+      let ended = c.end_pool-accepted.ensures in
+      let all = held _ _ (was_true _ (sym w.result-is ∙ fine)) (c.turns_behind-done.ensures.made _ (ended.made _ has)) in
+      made_told _ _ _ c.turns_behind-done.new.front.world c.end-2.result.tasks c.end-2.ensures.tally ended.accepted (all.made (sym c.end-2.ensures.refused ∙ tasks))
+]
 
 not_not : (b : Bool) → not (not b) ≡ b
 not_not true = refl

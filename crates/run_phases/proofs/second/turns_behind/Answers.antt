@@ -1,4 +1,4 @@
-use Rattle.run_phases.proofs.Runs.{late_front, late_none, late_some, none_ran, some_all}
+use Rattle.run_phases.proofs.Runs.{late_front, late_none, late_some, made_before, none_ran, some_all}
 use Rattle.run_phases.proofs.second.turns_behind.Goals as goal
 
 pub returns-in_default-clause-direct : goal.returns-in_default-clause-direct
@@ -18,3 +18,9 @@ returns-in-Ok-clause-some g c down = some_all _ _ (late_some g.N.RunName.asked c
 
 pub returns-in-Err-clause-some : goal.returns-in-Err-clause-some
 returns-in-Err-clause-some g c down = late_front g.N.RunName.asked c.args.turns.now c.args.stop c.in-Some.place c.args.direct.now c.late_turns.new.direct c.requires.stop c.in-Some.is c.requires.none (c.in-Err.ensures.some down)
+
+pub returns-in_default-clause-made : goal.returns-in_default-clause-made
+returns-in_default-clause-made g c n has = made_before n _ _ c.requires.none has
+
+pub returns-in-Ok-clause-made : goal.returns-in-Ok-clause-made
+returns-in-Ok-clause-made g c n has = c.in-Ok.ensures.made n (made_before n _ _ c.requires.none has)
