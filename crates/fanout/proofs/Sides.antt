@@ -1,14 +1,16 @@
 -- The front and the workers, from their start to their end.
-use Rattle.std.proofs.Common.{◌≡◌, ℕ, List, [], ◌∷◌, ◌++◌, false, true, map, refl, sym, ap, ◌∙◌, subst, All, arith}
+use Rattle.std.proofs.Common.{◌≡◌, ℕ, ◌+◌, List, [], ◌∷◌, ◌++◌, false, true, length, map, refl, sym, ap, ◌∙◌, subst, All, arith}
 use Rattle.std.specs.Prelude.{Option, get_or}
 use Rattle.std.proofs.lemmas.List.Elements.{All-append, All-cons, All-nil}
 use Rattle.std.proofs.lemmas.List.Sums.{sum_by-append}
+use Rattle.core_word.specs.Count.{Counts}
+use Rattle.run_gathering.specs.Gathering.{no_counts}
 use Rattle.fan_model.specs.Answered.{answered_in, is_stopped}
 use Rattle.fan_model.specs.Report.{Asking, IsPoolReport}
 use Rattle.fan_model.specs.Tasks.{Run}
 use Rattle.job_trait.specs.Marks.{IsDone}
 use Rattle.pool_model.specs.Orders.{IsSameInAnyOrder}
-use Rattle.pool_model.specs.Passes.{AreAllEnds, adds_of, tasks_of}
+use Rattle.pool_model.specs.Passes.{AreAllEnds, adds_of, adds_total, tasks_of}
 use Rattle.pool_model.specs.Records.{Record}
 use Rattle.pool_model.specs.Seen.{EndSeen, PoolSeen, task_of}
 use Rattle.prio_pool.specs.Made.{new_end, new_pass}
@@ -24,9 +26,10 @@ use Rattle.run_phases.specs.Phases.{IsDoneBy, IsJoinAccount, IsStopAccount}
 use Rattle.run_setup.specs.Closing.{AreWorldEnds, IsPrinterEnd}
 use Rattle.run_setup.specs.Ids.{RunIds}
 use Rattle.run_tasks.specs.declared.world.TaskEnds.{TaskEnds}
+use Rattle.run_tasks.specs.Leaving.{MakesMore}
 use Rattle.run_tasks.specs.Heads.{task_head}
 use Rattle.run_tasks.specs.Seen.{WorldSeen}
-use Rattle.run_tasks.specs.Worlds.{AreEndsFor, StaysPass, told_of}
+use Rattle.run_tasks.specs.Worlds.{AreEndsFor, MadeFor, StaysPass, told_of}
 use Rattle.fan_parts.specs.declared.jobs.PrintJob.{PrintJob}
 use Rattle.fan_parts.specs.Seen.{PosterSeen}
 use Rattle.run_tasks.specs.Seen.{TaskSeen}
@@ -102,16 +105,26 @@ module _ {N : Type 0} where
     direct = a.direct;
   }
 
+  -- no core was begun on a new world
+  made_none : (w : WorldSeen N) → w.tally ≡ no_counts → MadeFor 0 w
+  made_none w none = record {
+    made = λ down.
+        let made : w.tally.made ≡ 0 = ap (λ (t : Counts). t.made) none in
+        let forwarded : w.tally.forwarded ≡ 0 = ap (λ (t : Counts). t.forwarded) none in
+        omega (arith, made, forwarded);
+  }
+
   pub side_end : (asked : Asking) (ids : RunIds) (stop : Option ℕ) (start : FrontStart N) (pool : PoolSeen) (slots : List (WorkerSlot TaskSeen (WorldSeen N))) (room : SideRoom N) (mid : FrontMid N) (ends : List EndSeen) (worlds : List (TaskEnds N)) (end : SideEnd N) → IsSideStart asked ids start pool slots room → IsFirstEnd asked stop pool start mid
       → end.worlds.items ≡ worlds → AreWorldEnds ids worlds → (NoneRefused worlds → AllDone ends)
       → end.left.note.ran.stopped ≡ is_stopped asked.stop_at (answered_in asked.lines) → (end.left.note.ran.stopped ≡ true → IsStopAccount asked mid end.left) → (end.left.note.ran.stopped ≡ false → IsJoinAccount mid end.left)
       → (end.left.refused ≡ false → end.left.ends.tasks.refused ≡ false → AllDone (ends ++ mid.helper ∷ []) → IsPoolReport asked (told_by end.left.note))
       → (end.left.ends.tasks.refused ≡ false → mid.front.world.refused ≡ false)
       → (end.left.ends.tasks.refused ≡ false → end.left.ends.tasks.tally.handed ≡ mid.front.world.tally.handed)
+      → (MadeFor (adds_total (seen_of mid.ending).passes) mid.front.world → end.left.refused ≡ false → end.left.ends.tasks.refused ≡ false → MakesMore (end.left.note.accepted + length end.left.note.direct) end.left.ends.tasks.tally)
       → AreEndsFor (map told_of mid.front.world.posters) end.left.ends.tasks.posters.items → StaysPass mid.front.world.pass end.left.ends.tasks.pass → IsDoneBy mid.front.printer end.left.ends.printer
       → IsPrinterEnd asked ids 0 end.left.ends.printer
       → IsSideEnd asked ids end
-  side_end asked ids stop start pool slots room mid ends worlds end s e is all done stops account ran report refused handed posters pass printer poster = record {
+  side_end asked ids stop start pool slots room mid ends worlds end s e is all done stops account ran report refused handed made posters pass printer poster = record {
     worlds = subst (λ (l : List (TaskEnds N)). AreWorldEnds ids l) (sym is) all;
     tasks = record {
       posters = subst (λ (l : List _). AreEndsFor l end.left.ends.tasks.posters.items) (e.helped.follows.posters ∙ s.world.posters) posters;
@@ -122,6 +135,7 @@ module _ {N : Type 0} where
       handed = λ calm. handed calm ∙ (e.helped.follows.handed (refused calm) ∙ ap (λ t. t.handed) s.world.tally);
     };
     poster = poster;
+    made = made (e.made (made_none start.front.world s.world.tally));
     stopped = record { stops = stops; account = λ on. stop_told asked stop pool start mid end.left e (account on); joined = λ off. join_told asked stop pool start mid end.left e (ran off) };
     report = λ fine tasks none. report fine tasks (All-append (λ (x : EndSeen). All (λ (r : Record). IsDone r.mark) x.records) ends (mid.helper ∷ []) (done (subst NoneRefused is none))
         (All-cons (λ (x : EndSeen). All (λ (r : Record). IsDone r.mark) x.records) mid.helper [] (helped_done start.front.world start.helper mid.front.world mid.helper e.helped (ap (λ (x : EndSeen). x.records) (helper_is asked ids start pool slots room s)) (refused tasks))

@@ -16,8 +16,8 @@ use Rattle.run_threads.specs.declared.gatherer.GatherSlot.{GatherSlot}
 use Rattle.fanout.specs.declared.front.SideEnd.{SideEnd}
 use Rattle.fanout.specs.Fronts.{IsSideEnd}
 
--- What is compared is what so many answered queries come to: the numbers of the cores but for how many were handed over, and how many messages each gathering
--- base's queue had.
+-- What is compared is what so many answered queries come to: the numbers of the cores but for how many were made and handed over, and how many messages each
+-- gathering base's queue had.
 pub record DoAgree (asked : Asking) (counted : Counted) (tally : Counts) (notes : List NoteSeen) : Type 0 where
   pub cores : AreCoresBy tally (core_totals asked.lines asked.shards)
   pub puts : ArePutBy asked.shards counted.by_base.items notes

@@ -1,5 +1,5 @@
 -- The front and the workers of a run, before and after they have run.
-use Rattle.std.specs.Prelude.{◌≡◌, ◌≤◌, List, [], ◌∷◌, false, vec_capacity, All}
+use Rattle.std.specs.Prelude.{◌≡◌, ◌+◌, ◌≤◌, List, [], ◌∷◌, false, length, vec_capacity, All}
 use Rattle.fan_model.specs.Report.{Asking, IsPoolReport}
 use Rattle.fan_model.specs.Tasks.{pool_exec}
 use Rattle.pool_model.specs.Seen.{PoolSeen}
@@ -13,6 +13,7 @@ use Rattle.run_setup.specs.Ids.{RunIds}
 use Rattle.run_setup.specs.Opening.{HasEndRoom}
 use Rattle.run_setup.specs.Slots.{AreWorkers, IsNewWorld, new_printer_poster}
 use Rattle.run_tasks.specs.declared.world.TaskEnds.{TaskEnds}
+use Rattle.run_tasks.specs.Leaving.{MakesMore}
 use Rattle.run_tasks.specs.Seen.{TaskSeen, WorldSeen}
 use Rattle.run_threads.specs.declared.worker.WorkerSlot.{WorkerSlot}
 use Rattle.fanout.specs.declared.front.SideRoom.{SideRoom}
@@ -34,10 +35,12 @@ module _ {N : Type 0} where
   abbrev pub NoneRefused : List (TaskEnds N) → Type 0
   NoneRefused worlds = All (λ (w : TaskEnds N). w.refused ≡ false) worlds
 
-  -- What is left of all worlds, the end of the front's poster; what is told of a pool that was stopped; and where nobody notes want of memory, the report of the pool.
+  -- What is left of all worlds, the end of the front's poster; what is told of a pool that was stopped; where the front notes no want of memory, a core that it began for
+  -- each task that the pool accepted or that the front ran late; and where nobody does, the report of the pool.
   pub record IsSideEnd (asked : Asking) (ids : RunIds) (end : SideEnd N) : Type 0 where
     pub worlds : AreWorldEnds ids end.worlds.items
     pub tasks : AreTaskEnds ids 0 end.left.ends.tasks
     pub poster : IsPrinterEnd asked ids 0 end.left.ends.printer
     pub stopped : IsPoolTold asked end.left.note
+    pub made : end.left.refused ≡ false → end.left.ends.tasks.refused ≡ false → MakesMore (end.left.note.accepted + length end.left.note.direct) end.left.ends.tasks.tally
     pub report : end.left.refused ≡ false → end.left.ends.tasks.refused ≡ false → NoneRefused end.worlds.items → IsPoolReport asked (told_of end.left.note)

@@ -1,8 +1,10 @@
 ghost use Rattle.std.specs.Prelude.{◌≡◌, ◌+◌, List, length};
 ghost use Rattle.core_cells.specs.Seen.{AreAll};
 ghost use Rattle.fan_base.specs.Outside.{shown};
+ghost use Rattle.fan_model.specs.Answered.{answered_in};
 ghost use Rattle.run_printing.specs.Ends.{HasPrinted, IsBaseOf, IsNewBase};
 ghost use Rattle.run_stages.specs.Stages.{AllRan, AllReady};
+ghost use Rattle.run_tasks.specs.Leaving.{MakesMore};
 ghost use Rattle.run_tasks.specs.Worlds.{TaskRan};
 ghost use Rattle.run_threads.specs.Beside.{HasRunAll, MayRunAll};
 ghost use Rattle.run_threads.specs.Slots.{HasGatheredIn, HasWorked, IsReadyToGather, IsReadyToWork};
@@ -69,6 +71,7 @@ pub(crate) fn run_over_cells<
     requires tables { AreTablesOf N.asked tables.items }
     requires dealt { AreAllDealt N.asked tables.items }
     requires opening { tally.handed ≡ 0 }
+    requires begun { MakesMore (length (answered_in N.asked.lines)) tally }
     ensures { IsEndOf N.asked (shown (K.holds sink.old) (K.faults sink.old)) (shown (K.holds sink.new) (K.faults sink.new)) result }
 {
     let workers = plan.knobs.workers;
@@ -105,6 +108,7 @@ fn run_opened<
     requires setup { (ids : RunIds) × (ids.workers ≡ plan.now.knobs.workers) × IsSetup N.asked ids setup }
     requires tables { (tables : List TableSeen) × HaveTables setup.gatherers.items tables × AreAllDealt N.asked tables }
     requires opening { tally.handed ≡ 0 }
+    requires begun { MakesMore (length (answered_in N.asked.lines)) tally }
     ensures { IsEndOf N.asked (shown (K.holds sink.old) (K.faults sink.old)) (shown (K.holds sink.new) (K.faults sink.new)) result }
 {
     let Setup {

@@ -11,6 +11,7 @@ ghost use Rattle.run_ending.specs.Ends.{IsEndOf};
 ghost use Rattle.fanout.specs.Asked.{AreKnobs, IsAskedBy};
 ghost use Rattle.run_desks.specs.Tables.{AreTablesOf};
 ghost use Rattle.run_gathering.specs.Dealt.{AreAllDealt};
+ghost use Rattle.run_tasks.specs.Leaving.{MakesMore};
 ghost use Rattle.fanout.specs.Homes.{AreEnough, cells_of};
 ghost use Rattle.fanout.specs.Plans.{IsPlanned};
 
@@ -28,6 +29,7 @@ use run_ending::FanEnd;
 use run_homes::{
     close_desks, close_reply_homes, close_task_homes, empty_slots, keys_of, new_homes,
 };
+use run_plan::laws::place_by_place;
 use run_plan::stop_place;
 use run_setup::{TaskCellPass, TaskCells};
 use shard_index::Shard;
@@ -228,10 +230,12 @@ fn over_slots<
     requires plan { IsPlanned N.asked plan.now.lines.now plan.now.turns.now plan.now.counted.now plan.now.stop plan.now.knobs }
     requires keys { AreEnough N.asked keys }
     requires nothing { keys.tally.handed ≡ 0 }
+    requires none { MakesMore 0 keys.tally }
     ensures { IsEndOf N.asked (shown (K.holds sink.old) (K.faults sink.old)) (shown (K.holds sink.new) (K.faults sink.new)) result }
 {
     comings_in_order();
     known_turns::<N>();
+    place_by_place();
     match open_desks(rt, plan.turns, keys) {
         Ok(desks) => over_desks(rt, alloc, plan, desks, sink),
         Err(Memory) => FanEnd::refused(alloc),
@@ -260,6 +264,7 @@ fn over_desks<
     requires desks { AreTablesOf N.asked desks.tables.items }
     requires dealt { AreAllDealt N.asked desks.tables.items }
     requires opening { desks.tally.handed ≡ 0 }
+    requires begun { MakesMore (length (answered_in N.asked.lines)) desks.tally }
     ensures { IsEndOf N.asked (shown (K.holds sink.old) (K.faults sink.old)) (shown (K.holds sink.new) (K.faults sink.new)) result }
 {
     let made: MadeTaskHomes<N> = new_homes(alloc, plan.cells());
@@ -334,6 +339,7 @@ fn over_cells<
     requires desks { AreTablesOf N.asked desks.tables.items }
     requires dealt { AreAllDealt N.asked desks.tables.items }
     requires opening { desks.tally.handed ≡ 0 }
+    requires begun { MakesMore (length (answered_in N.asked.lines)) desks.tally }
     ensures { IsEndOf N.asked (shown (K.holds sink.old) (K.faults sink.old)) (shown (K.holds sink.new) (K.faults sink.new)) result }
 {
     let MadeCells { cells, passes } = made;

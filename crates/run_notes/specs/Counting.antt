@@ -13,9 +13,9 @@ use Rattle.run_notes.specs.declared.counting.Counted.{Counted}
 abbrev pub totals_of : Counts → Totals
 totals_of c = record { made = c.made; handed = c.handed; forwarded = c.forwarded; freed = c.freed; reopened = c.reopened }
 
--- As many cores were made, forwarded, freed and used again. How many were handed over isn't compared: each message of a gathering base is one, and each reply of an answered query.
+-- As many cores were forwarded, freed and used again. Two numbers aren't compared. How many were handed over: each message of a gathering base is one, and each reply
+-- of an answered query. How many were made: one for each task, one for each answered query's reply, and one for each that was forwarded.
 pub record AreCoresBy (counts : Counts) (totals : Totals) : Type 0 where
-  pub made : counts.made ≡ totals.made
   pub forwarded : counts.forwarded ≡ totals.forwarded
   pub freed : counts.freed ≡ totals.freed
   pub reopened : counts.reopened ≡ totals.reopened

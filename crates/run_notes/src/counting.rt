@@ -13,7 +13,8 @@ pub struct Counted {
     pub by_base: Vec<u64>,
 }
 
-/// Whether as many cores were made, forwarded, freed and used again as so many answered queries come to. How many were handed over isn't looked at.
+/// Whether as many cores were forwarded, freed and used again as so many answered queries come to. How many were made and handed over isn't
+/// looked at.
 pub fn cores_agree(counted: &Counted, shards: u32, tally: &Tally) -> bool
     requires answered { counted.now.answered ≤ 2 ^ 32 }
     requires tops { counted.now.tops ≤ 2 ^ 32 }
@@ -21,8 +22,7 @@ pub fn cores_agree(counted: &Counted, shards: u32, tally: &Tally) -> bool
     ensures { IsTrue result ↔ AreCoresBy tally.now (totals_by counted.now.answered counted.now.tops shards) }
 {
     let tasks = counted.answered * u64::from(shards);
-    tally.made() == tasks + counted.answered + counted.tops
-        && tally.forwarded() == counted.tops
+    tally.forwarded() == counted.tops
         && tally.freed() == tasks + counted.answered + counted.tops
         && tally.reopened() == tasks
 }

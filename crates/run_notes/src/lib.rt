@@ -16,5 +16,5 @@ mod notes;
 
 pub use counting::{Counted, cores_agree, puts_agree};
 pub use ending::{PoolNotes, end_joined, end_stopped};
-pub use laws::{messages_are_tasks, notes_are_those_of_the_run};
+pub use laws::{accepted_or_late, messages_are_tasks, notes_are_those_of_the_run};
 pub use notes::{DirectRecords, Notes, PoolNote, Records, RunRecords};

@@ -1,5 +1,5 @@
 -- Bases that are closed one by one, and what is left of worlds.
-use Rattle.std.proofs.Common.{◌≡◌, ℕ, suc, ◌+◌, ◌-◌, ◌<◌, List, [], ◌∷◌, ◌++◌, Bool, length, get_or, length-append, map, refl, sym, ap, ◌∙◌, subst, arith}
+use Rattle.std.proofs.Common.{◌≡◌, ℕ, suc, ◌+◌, ◌-◌, ◌<◌, List, [], ◌∷◌, ◌++◌, Bool, false, length, get_or, length-append, map, refl, sym, ap, ◌∙◌, subst, arith}
 use Rattle.std.specs.List.{All}
 use Rattle.std.proofs.lemmas.List.{length-map}
 use Rattle.std.proofs.lemmas.List.Sums.{sum_by-append, sum_by-cons}
@@ -15,6 +15,7 @@ use Rattle.fan_parts.specs.declared.run_name.RunName.{Ghosts}
 use Rattle.run_bases.specs.declared.rows.Column.{Column}
 use Rattle.run_bases.specs.Columns.{IsColumn}
 use Rattle.run_notes.specs.Counting.{AreEmptied, IsEmptied, puts_of}
+use Rattle.run_tasks.specs.Leaving.{MakesMore}
 use Rattle.run_tasks.specs.declared.world.TaskEnds.{TaskEnds}
 use Rattle.run_threads.specs.declared.gatherer.GatherSlot.{GatherSlot}
 use Rattle.run_setup.specs.Closing.{AreColumnsBack, AreGathered, AreTaskEnds, AreWorldEnds, IsFullColumn, IsGatheredSlot, IsPrinterBack, has_refused, merged, merged_with, tally_of}
@@ -150,3 +151,41 @@ module _ {N : Type 0} where
   worlds_hand_none counts [] none each = none
   worlds_hand_none counts (w ∷ ws) none each =
       worlds_hand_none (merged counts w.tally) ws (omega (arith, none, each 0 w (omega arith))) (λ k d below. each (suc k) d (omega (arith, below)))
+
+-- one tally more, of which as many cores were made as forwarded
+made_more : (n : ℕ) (a b : Counts) → MakesMore n a → MakesMore 0 b → MakesMore n (merged a b)
+made_more n a b first second = omega (arith, first, second)
+
+-- the same, with the one that made more behind the others
+made_behind : (n : ℕ) (a b : Counts) → MakesMore 0 a → MakesMore n b → MakesMore n (merged a b)
+made_behind n a b first second = omega (arith, first, second)
+
+module _ {N : Type 0} where
+  worlds_make : (n : ℕ) (counts : Counts) (worlds : List (TaskEnds N)) → MakesMore n counts → ((k : ℕ) (d : TaskEnds N) → k < length worlds → MakesMore 0 (get_or worlds k d).tally)
+      → MakesMore n (merged_with counts (map (λ (w : TaskEnds N). w.tally) worlds))
+  worlds_make n counts [] makes each = makes
+  worlds_make n counts (w ∷ ws) makes each =
+      worlds_make n (merged counts w.tally) ws (made_more n counts w.tally makes (each 0 w (omega arith))) (λ k d below. each (suc k) d (omega (arith, below)))
+
+module _ {N : Type 0} {g : Ghosts N} where
+  bases_make : (n : ℕ) (counts : Counts) (slots : List (GatherSlot N g)) → MakesMore n counts → ((k : ℕ) (d : GatherSlot N g) → k < length slots → MakesMore 0 (slot_tally (get_or slots k d)))
+      → MakesMore n (merged_with counts (map slot_tally slots))
+  bases_make n counts [] makes each = makes
+  bases_make n counts (s ∷ ss) makes each =
+      bases_make n (merged counts (slot_tally s)) ss (made_more n counts (slot_tally s) makes (each 0 s (omega arith))) (λ k d below. each (suc k) d (omega (arith, below)))
+
+  -- Of all tallies of a run the front's alone counts more cores as made than as forwarded.
+  pub all_make : (n : ℕ) (worlds : List (TaskEnds N)) (front : Counts) (slots : List (GatherSlot N g)) (none whole : Counts) → MakesMore 0 none
+      → whole ≡ merged_with none (map (λ (w : TaskEnds N). w.tally) worlds ++ front ∷ map slot_tally slots)
+      → ((k : ℕ) (d : TaskEnds N) → k < length worlds → MakesMore 0 (get_or worlds k d).tally) → MakesMore n front
+      → ((k : ℕ) (d : GatherSlot N g) → k < length slots → MakesMore 0 (slot_tally (get_or slots k d))) → MakesMore n whole
+  all_make n worlds front slots none whole nothing is of_worlds of_front of_bases =
+      let theirs = map (λ (w : TaskEnds N). w.tally) worlds in
+      subst (λ (t : Counts). MakesMore n t) (sym (is ∙ merged-append none theirs (front ∷ map slot_tally slots)))
+      (bases_make n (merged (merged_with none theirs) front) slots (made_behind n (merged_with none theirs) front (worlds_make 0 none worlds nothing of_worlds) of_front) of_bases)
+
+  -- a base's slot, by its stage
+  pub slot_makes : (asked : Asking) (ids : RunIds) (k : ℕ) (slot : GatherSlot N g) → IsGatheredSlot asked ids k slot → slot_refused slot ≡ false → MakesMore 0 (slot_tally slot)
+  slot_makes asked ids k slot is calm =
+      let refused : slot_refused slot ≡ is.stage.refused = ap has_refused is.has in
+      subst (λ (t : Counts). MakesMore 0 t) (sym (ap tally_of is.has)) (is.is.made (sym refused ∙ calm))

@@ -24,7 +24,8 @@ use Rattle.run_gathering.specs.Gathering.{counted, no_counts, raised_times}
 use Rattle.run_notes.specs.Accounts.{AllDone}
 use Rattle.run_stages.specs.Stages.{AllRan, AllReady}
 use Rattle.run_tasks.specs.declared.stage.WorkerStage.{WorkerStage}
-use Rattle.run_tasks.specs.Leaving.{CountsTasks, reopened_times}
+use Rattle.run_tasks.specs.Leaving.{CountsTasks, MakesMore, reopened_times}
+use Rattle.run_tasks.proofs.WorldLemmas.{tasks_make}
 use Rattle.run_tasks.specs.declared.world.TaskEnds.{TaskEnds}
 use Rattle.run_tasks.specs.Seen.{TaskSeen, WorldSeen}
 use Rattle.run_tasks.specs.Worlds.{AreEndsFor, Follows, TaskRan, told_of}
@@ -102,6 +103,19 @@ raised_all (suc n) = ap raised (raised_all n) ∙ omega arith
 handed_each : {J : Type 0} (tally : Counts) (forwards posts : ℕ) (took taken : List (Stamped J)) → taken ≡ [] ++ took → tally ≡ counted (length took) forwards posts no_counts → tally.handed ≡ added 0 (length taken)
 handed_each tally forwards posts took taken all is = ap (λ (t : Counts). t.handed) is ∙ (raised_all (length took) ∙ ap (λ (l : List (Stamped _)). added 0 (length l)) (sym all))
 
+-- as many cores as were forwarded, where there was none before
+made_each : (tally : Counts) (fires forwards posts : ℕ) → tally ≡ counted fires forwards posts no_counts → MakesMore 0 tally
+made_each tally fires forwards posts is =
+    let made : tally.made ≡ raised_times forwards 0 = ap (λ (t : Counts). t.made) is in
+    let forwarded : tally.forwarded ≡ raised_times forwards 0 = ap (λ (t : Counts). t.forwarded) is in
+    omega (arith, made, forwarded, raised_all forwards)
+
+none_make : (tally : Counts) → tally ≡ no_counts → MakesMore 0 tally
+none_make tally is =
+    let made : tally.made ≡ 0 = ap (λ (t : Counts). t.made) is in
+    let forwarded : tally.forwarded ≡ 0 = ap (λ (t : Counts). t.forwarded) is in
+    omega (arith, made, forwarded)
+
 module _ {N : Type 0} {g : Ghosts N} where
   gathered : (asked : Asking) (ids : RunIds) (k : ℕ) (old new : GatherSlot N g) → IsGatherSlot asked ids k old → HasGatheredIn old new → IsGatheredSlot asked ids k new
   gathered asked ids k old new is did =
@@ -120,6 +134,7 @@ module _ {N : Type 0} {g : Ghosts N} where
           empty = did.empty;
           handed = λ calm. handed_each did.stage.tally did.did.forwards (length did.did.posts) did.did.took did.stage.base.queue.taken
               (did.did.taken ∙ ap (λ (b : BaseSeen (GatherJob N)). b.queue.taken ++ did.did.took) (base ids.printer)) (did.did.counts calm);
+          made = λ calm. made_each did.stage.tally (length did.did.took) did.did.forwards (length did.did.posts) (did.did.counts calm);
         };
         no_base = did.spent_base;
         no_printer = did.spent_printer;
@@ -163,6 +178,10 @@ module _ {N : Type 0} where
         (did.end_pool ∙ ap (λ (p : WorkerSeen). p.pool) pass, did.marks),
       )
 
+  worked_made : (ids : RunIds) (pool : PoolId) (k : ℕ) (slot : WorkerSlot TaskSeen (WorldSeen N)) (stage : WorkerStage N) → IsWorker ids pool k slot → IsStageOf slot stage → stage.ends.refused ≡ false → MakesMore 0 stage.ends.tally
+  worked_made ids pool k slot stage is did calm =
+      tasks_make 0 (length stage.end.records) slot.world.tally stage.ends.tally (did.tally calm) (none_make slot.world.tally is.is_new.tally)
+
   -- what a worker left, at its place
   left-at : (ids : RunIds) (pool : PoolId) (slots : List (WorkerSlot TaskSeen (WorldSeen N))) (ends : List EndSeen) (worlds : List (TaskEnds N)) → AreWorkers ids pool slots
       → AreEndsOf slots ends worlds → (k : ℕ) (e : EndSeen) (w : TaskEnds N) → k < ids.workers
@@ -178,6 +197,11 @@ module _ {N : Type 0} where
     each = λ k w below.
         let e = some-item ends k (omega (arith, below, of.as_many_ends, are.as_many)) in
         (left-at ids pool slots ends worlds are of k e w below).0;
+    made = λ k w below calm.
+        let within : k < length slots = omega (arith, below, are.as_many) in
+        let d = some-item slots k within in
+        let e = some-item ends k (omega (arith, below, of.as_many_ends, are.as_many)) in
+        worked_made ids pool k (get_or slots k d) (record { end = get_or ends k e; ends = get_or worlds k w }) (are.each k d below) (of.each k d e w within) calm;
   }
 
   pub all-ends : (ids : RunIds) (pool : PoolId) (slots : List (WorkerSlot TaskSeen (WorldSeen N))) (ends : List EndSeen) (worlds : List (TaskEnds N)) → AreWorkers ids pool slots → AreEndsOf slots ends worlds → AreAllEnds pool ids.workers ends

@@ -18,6 +18,7 @@ use Rattle.run_gathering.specs.declared.looping.GatherStage.{GatherStage}
 use Rattle.run_gathering.specs.Gathering.{no_counts}
 use Rattle.run_printing.specs.declared.stage.PrintStage.{PrintStage}
 use Rattle.run_tasks.specs.declared.world.TaskEnds.{TaskEnds}
+use Rattle.run_tasks.specs.Leaving.{MakesMore}
 use Rattle.run_tasks.specs.Seen.{TaskSeen, WorldSeen}
 use Rattle.run_tasks.specs.Worlds.{AreEndsFor}
 use Rattle.run_threads.specs.declared.gatherer.GatherSlot.{GatherSlot}
@@ -53,13 +54,14 @@ module _ {N : Type 0} where
     pub pass : IsCellPass ids ends.pass
     pub handed : ends.refused ≡ false → ends.tally.handed ≡ 0
 
-  -- what is left of the workers' worlds, by worker
+  -- What is left of the workers' worlds, by worker. None of them began a core, as far as it notes no want of memory.
   pub record AreWorldEnds (ids : RunIds) (worlds : List (TaskEnds N)) : Type 0 where
     pub as_many : length worlds ≡ ids.workers
     pub each : (k : ℕ) (d : TaskEnds N) → k < ids.workers → AreTaskEnds ids (ids.workers - k) (slice_index_or worlds k d)
+    pub made : (k : ℕ) (d : TaskEnds N) → k < ids.workers → (slice_index_or worlds k d).refused ≡ false → MakesMore 0 (slice_index_or worlds k d).tally
 
   -- the stage of a gathering base that has run: it is the base that was opened, and where it notes no want of memory, nothing is left in its queue and
-  -- its agenda, and for each message that it took one core was counted as handed over
+  -- its agenda, for each message that it took one core was counted as handed over, and as many cores were made as were forwarded
   pub record IsGathered (asked : Asking) (ids : RunIds) (k : ℕ) (stage : GatherStage N) : Type 0 where
     pub exec : stage.base.agenda.exec ≡ exec_at 1 k
     pub queue : (q : QueueId) → stage.base.queue.queue ≡ slice_index_or ids.queues k q
@@ -68,6 +70,7 @@ module _ {N : Type 0} where
     pub dry : stage.refused ≡ false → IsDry stage.base.queue
     pub empty : stage.refused ≡ false → held_by stage.base.agenda ≡ []
     pub handed : stage.refused ≡ false → stage.tally.handed ≡ added 0 (length stage.base.queue.taken)
+    pub made : stage.refused ≡ false → MakesMore 0 stage.tally
 
 module _ {N : Type 0} {g : Ghosts N} where
   -- its slot

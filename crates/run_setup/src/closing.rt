@@ -1,10 +1,11 @@
-ghost use Rattle.std.specs.Prelude.{◌≡◌, false, length};
+ghost use Rattle.std.specs.Prelude.{◌≡◌, ℕ, false, length};
 ghost use Rattle.fan_base.specs.Outside.{Shown};
 ghost use Rattle.query_model.specs.Order.{replies_of};
 ghost use Rattle.core_cells.specs.Seen.{AreAll};
 ghost use Rattle.core_word.specs.Count.{added};
 ghost use Rattle.run_notes.specs.Counting.{AreEmptied, puts_of};
 ghost use Rattle.run_printing.specs.Ends.{HasPrinted, IsDone, IsWhole, LacksSome, Wrote};
+ghost use Rattle.run_tasks.specs.Leaving.{MakesMore};
 ghost use Rattle.run_setup.specs.Ids.{RunIds};
 ghost use Rattle.run_gathering.specs.Gathering.{no_counts};
 ghost use Rattle.run_setup.specs.Closing.{IsAllOf, merged_with, some_refused, tallies_of};
@@ -65,6 +66,7 @@ pub fn close_run<'t, 'd, 'r: 'd, 'i: 'r, N: RunName, R: Wait>(
     ensures emptied { result.refused ≡ false → AreEmptied result.notes.items }
     ensures tally { result.refused ≡ false → result.tally ≡ merged_with no_counts (tallies_of gatherers.entry.items worlds.entry.items front.entry) }
     ensures handed { result.refused ≡ false → result.tally.handed ≡ added 0 (puts_of result.notes.items) }
+    ensures made { (n : ℕ) → result.refused ≡ false → MakesMore n front.entry.tally → MakesMore n result.tally }
     ensures refused { result.refused ≡ some_refused gatherers.entry.items worlds.entry.items front.entry }
     ensures passes { (ids : RunIds) → IsAllOf N.asked ids back.entry gatherers.entry.items printer worlds.entry.items front.entry poster
         → AreAll ids.cells result.passes.items }

@@ -1,10 +1,12 @@
-use Rattle.std.proofs.Common.{length, ◌≡◌, ◌≤◌, ◌^◌, ap, sym, ◌∙◌, subst}
+use Rattle.std.proofs.Common.{length, ℕ, ◌≡◌, ◌+◌, ◌≤◌, ◌^◌, ap, sym, ◌∙◌, subst}
+use Rattle.std.proofs.lemmas.List.{length-map}
 use Rattle.core_word.specs.Count.{added}
-use Rattle.fan_model.specs.Answered.{answered_in}
+use Rattle.fan_model.specs.Answered.{answered_in, tops_in}
 use Rattle.query_model.specs.Order.{replies_of}
 use Rattle.run_notes.specs.Counting.{ArePutBy, puts_of, totals_of}
+use Rattle.run_notes.specs.Told.{run_of_direct, told_of}
 use Rattle.run_printing.specs.Ends.{IsWhole}
-use Rattle.fanout.proofs.Totals.{all_cores, handed_whole, held_true, printer_note, reported}
+use Rattle.fanout.proofs.Totals.{all_cores, forwarded_are, handed_whole, held_true, made_whole, printer_note, reported}
 use Rattle.fanout.proofs.ending.put_together.Goals as goal
 
 pub returns : goal.returns
@@ -31,7 +33,17 @@ returns g c = λ start now printed.
     let handed = ap (λ t. t.handed) c.merge-tally.ensures ∙ (ap (λ t. added t.handed result.print.tally.handed) c.merge.ensures
     ∙ handed_whole c.args.opening.handed result.tally.handed result.print.tally.handed (puts_of result.notes.items) (length (answered_in asked.lines)) asked.shards
     c.requires.opening (closed.handed all.3) (ap (λ t. t.handed) whole.tally) put few c.requires.plan.countable.few_shards) in
-    reported asked _ c.args.end.left.note _ c.of_run.ensures.pool (ready.side.report all.2 front worlds) (c.of_run.ensures.queues ∙ queues)
+    let note = c.args.end.left.note in
+    let report = ready.side.report all.2 front worlds in
+    let tasks = ap (λ (late : ℕ). note.accepted + late) (sym (length-map note.direct run_of_direct)) ∙ c.accepted_or_late.ensures asked (told_of note) report in
+    let few_tops = subst (λ n. n ≤ 2 ^ 32) c.requires.plan.counts.tops c.requires.plan.few.tops in
+    let forwarded = sym (ap (λ t. t.forwarded) c.merge-tally.ensures ∙ ap (λ t. added t.forwarded result.print.tally.forwarded) c.merge.ensures)
+    ∙ forwarded_are asked.lines asked.shards c.merge-tally.result agree.cores in
+    let made = ap (λ t. t.made) c.merge-tally.ensures ∙ (ap (λ t. added t.made result.print.tally.made) c.merge.ensures
+    ∙ made_whole c.args.opening result.tally result.print.tally (length (answered_in asked.lines)) asked.shards (note.accepted + length note.direct) (tops_in (answered_in asked.lines))
+    c.requires.begun (closed.made _ all.3 (ready.side.made all.2 front)) (ap (λ t. t.made) whole.tally) (ap (λ t. t.forwarded) whole.tally)
+    forwarded tasks few c.requires.plan.countable.few_shards few_tops) in
+    reported asked _ note _ c.of_run.ensures.pool report (c.of_run.ensures.queues ∙ queues)
     (c.notes_are_those_of_the_run.ensures asked.lines asked.shards asked.bases c.args.plan.now.counted.now result.notes.items result.print.queue c.requires.plan.counts
     puts (closed.emptied all.3) (printer_note asked result.print.queue result.print.tally whole many))
-    (ap totals_of c.of_run.ensures.cores ∙ all_cores asked.lines asked.shards c.merge-tally.result agree.cores handed))
+    (ap totals_of c.of_run.ensures.cores ∙ all_cores asked.lines asked.shards c.merge-tally.result agree.cores made handed))

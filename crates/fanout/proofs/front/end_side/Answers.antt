@@ -55,5 +55,5 @@ returns g c ids start old s first ran =
     let pool = c.args.pool.id in
     let poster = poster_queue asked ids c.args.stop start c.args.pool old c.args.room c.args.mid left s first second.printer in
     side_end asked ids c.args.stop start c.args.pool old c.args.room c.args.mid c.worker_ends-ends.result.ends.items c.worker_ends-ends.result.worlds.items _ s first refl
-    (closed.worlds ids pool old _ _ s.workers_are ends) (closed.done ids pool old _ _ s.workers_are ends) second.stopped second.account second.ran second.report second.refused second.handed second.posters second.pass second.printer
+    (closed.worlds ids pool old _ _ s.workers_are ends) (closed.done ids pool old _ _ s.workers_are ends) second.stopped second.account second.ran second.report second.refused second.handed second.made second.posters second.pass second.printer
     (closed.poster ids left.ends.printer poster.0 poster.1)

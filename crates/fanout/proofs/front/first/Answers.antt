@@ -8,6 +8,7 @@ returns g c = record {
   passes = c.first_phase.ensures.passes;
   stops = c.first_phase.ensures.stops;
   helped = c.first_phase.ensures.helped;
+  made = c.first_phase.ensures.made;
   front = c.first_phase.ensures.front;
   printer = c.first_phase.ensures.printer;
 }

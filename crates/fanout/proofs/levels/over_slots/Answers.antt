@@ -2,6 +2,7 @@ use Rattle.std.proofs.Common.{List, ℕ, ◌≤◌, ◌∙◌, ap, length, sym, 
 use Rattle.query_model.specs.Order.{Asked}
 use Rattle.fan_model.specs.Answered.{tops_in}
 use Rattle.run_gathering.specs.Dealt.{AreDealt}
+use Rattle.fanout.proofs.Totals.{opening_made}
 use Rattle.fanout.proofs.levels.over_slots.Goals as goal
 
 pub open_desks-requires-clause-keys : goal.open_desks-requires-clause-keys
@@ -21,6 +22,12 @@ over_desks-requires-clause-dealt g c κs within =
 
 pub over_desks-requires-clause-opening : goal.over_desks-requires-clause-opening
 over_desks-requires-clause-opening g c κs within = ap (λ t. t.handed) c.in-Ok.ensures.counted.are ∙ c.requires.nothing
+
+pub over_desks-requires-clause-begun : goal.over_desks-requires-clause-begun
+over_desks-requires-clause-begun g c κs within =
+    let asked = g.N.RunName.asked in
+    let turns = c.args.plan.now.turns.now in
+    opening_made asked (length turns) c.args.keys.tally _ (c.place_by_place.ensures.all asked.lines turns c.requires.plan.turns_are) c.requires.none c.in-Ok.ensures.counted
 
 pub returns-in-Err : goal.returns-in-Err
 returns-in-Err g c = c.refused.ensures _ _

@@ -7,7 +7,7 @@ use Rattle.fan_model.specs.Tasks.{printer_exec}
 use Rattle.run_gathering.specs.Gathering.{no_counts}
 use Rattle.run_tasks.specs.declared.world.TaskEnds.{TaskEnds}
 use Rattle.run_setup.specs.Closing.{merged, merged_with}
-use Rattle.run_setup.proofs.CollectLemmas.{all-passes, columns-start, merged-append, none_both, printer-start, slot_refused, slot_tally, worlds_hand_none}
+use Rattle.run_setup.proofs.CollectLemmas.{all-passes, all_make, columns-start, merged-append, none_both, printer-start, slot_makes, slot_refused, slot_tally, worlds_hand_none}
 use Rattle.run_setup.proofs.SlotLemmas.{neither, none-of}
 use Rattle.run_setup.proofs.closing.close_run.Goals as goal
 
@@ -89,6 +89,19 @@ returns-clause-handed g c = λ calm.
     ∙ worlds_hand_none c.new.result.tally c.args.worlds.items begun (λ k d below. (r.1.worked.each k d (omega (arith, below, r.1.worked.as_many))).handed (each k d below)) in
     let of_front = ap (λ (t : Counts). t.handed) c.put.ensures.tally ∙ none_both c.put_all.new.self.counted.tally.handed c.args.front.tally.handed of_worlds (r.1.front_ended.handed before.1) in
     c.close_all.ensures.handed both.1 of_front
+
+pub returns-clause-made : goal.returns-clause-made
+returns-clause-made g c = λ n calm of_front.
+    let r = c.requires.all in
+    let worlds = list_any (λ (w : TaskEnds g.row.N.Denot). w.refused) c.args.worlds.items in
+    let both = neither c.put.new.self.counted.refused (list_any slot_refused c.args.gatherers.items) (sym c.close_all.ensures.refused ∙ calm) in
+    let theirs = c.put_all.ensures.refused ∙ ap (λ (b : Bool). b || worlds) c.new.ensures.refused in
+    let before = neither worlds c.args.front.refused (sym (c.put.ensures.refused ∙ ap (λ (b : Bool). b || c.args.front.refused) theirs) ∙ both.0) in
+    let of_worlds = none-of (λ (w : TaskEnds g.row.N.Denot). w.refused) c.args.worlds.items before.0 in
+    let of_bases = none-of slot_refused c.args.gatherers.items both.1 in
+    all_make n c.args.worlds.items c.args.front.tally c.args.gatherers.items no_counts _ (omega arith) (returns-clause-tally g c calm)
+    (λ k d below. r.1.worked.made k d (omega (arith, below, r.1.worked.as_many)) (of_worlds k d below)) of_front
+    (λ k d below. slot_makes g.N.RunName.asked r.0 k _ (r.1.gathered.each k d (omega (arith, below, r.1.gathered.as_many))) (of_bases k d below))
 
 pub returns-clause-refused : goal.returns-clause-refused
 returns-clause-refused g c =
