@@ -1,12 +1,15 @@
 -- How steps of a gathering base add up.
-use Rattle.std.proofs.Common.{◌≡◌, ℕ, zero, suc, ◌+◌, true, List, [], ◌∷◌, ◌++◌, length, refl, sym, ap, ◌∙◌, subst, arith}
+use Rattle.std.proofs.Common.{◌≡◌, ℕ, zero, suc, ◌+◌, true, false, List, [], ◌∷◌, ◌++◌, length, refl, sym, ap, ◌∙◌, subst, arith}
 use Rattle.std.proofs.lemmas.List.{append-nil, append_assoc, length-append}
 use Rattle.core_word.specs.Count.{Counts, raised}
+use Rattle.event_base.specs.Looping.{count_of_callbacks}
+use Rattle.event_base.specs.Seen.{AgendaSeen}
+use Rattle.fan_parts.specs.declared.jobs.GatherJob.{GatherJob}
 use Rattle.fan_parts.specs.declared.jobs.PrintJob.{PrintJob}
 use Rattle.fan_parts.specs.Seen.{PosterSeen}
 use Rattle.notify_queue.specs.Ends.{with_put}
 use Rattle.run_gathering.specs.Seen.{GatheringSeen}
-use Rattle.run_gathering.specs.Gathering.{raised_times, counted, GathersBy}
+use Rattle.run_gathering.specs.Gathering.{raised_times, counted, GathersBy, HoldsFor}
 
 raised_join : (a b n : ℕ) → raised_times a (raised_times b n) ≡ raised_times (a + b) n
 raised_join zero b n = let e : b ≡ 0 + b = omega arith in ap (λ (k : ℕ). raised_times k n) e
@@ -70,39 +73,46 @@ module _ {N : Type 0} where
       → printer ≡ record { sender = with_put inside.printer.sender job; exec = inside.printer.exec }
       → t ≡ record inside.tally { freed = raised inside.tally.freed }
       → (posts : List (PrintJob N)) × GathersBy 0 0 posts now (record { printer = printer; tally = t; refused = inside.refused; waiting = inside.waiting })
+      × (inside.refused ≡ false → length posts ≡ 1)
   posted inside now printer t job is put freed = (
     job ∷ [],
     subst (λ (a : GatheringSeen N). GathersBy 0 0 (job ∷ []) a (record { printer = printer; tally = t; refused = inside.refused; waiting = inside.waiting })) is
         (subst (λ (q : PosterSeen (PrintJob N)). GathersBy 0 0 (job ∷ []) inside (record { printer = q; tally = t; refused = inside.refused; waiting = inside.waiting })) (sym put)
         (subst (λ (u : Counts). GathersBy 0 0 (job ∷ []) inside (record { printer = record { sender = with_put inside.printer.sender job; exec = inside.printer.exec }; tally = u; refused = inside.refused; waiting = inside.waiting })) (sym freed) (posting inside job))),
+    λ calm. refl,
   )
 
   -- its post was refused
   pub unposted : (inside now : GatheringSeen N) (printer : PosterSeen (PrintJob N)) (t : Counts) → inside ≡ now → printer ≡ inside.printer
       → (posts : List (PrintJob N)) × GathersBy 0 0 posts now (record { printer = printer; tally = t; refused = true; waiting = inside.waiting })
+      × (true ≡ false → length posts ≡ 1)
   unposted inside now printer t is same = (
     [],
     subst (λ (a : GatheringSeen N). GathersBy 0 0 [] a (record { printer = printer; tally = t; refused = true; waiting = inside.waiting })) is
         (subst (λ (q : PosterSeen (PrintJob N)). GathersBy 0 0 [] inside (record { printer = q; tally = t; refused = true; waiting = inside.waiting })) (sym same) (refusing 0 0 inside t)),
+    λ calm. absurd cc,
   )
 
-  -- a fire of a task was unpacked
-  pub fired : (inside now : GatheringSeen N) (t : Counts) → inside ≡ now → t ≡ record inside.tally { handed = raised inside.tally.handed }
+  -- a fire of a task was unpacked, and nothing was scheduled
+  pub fired : (inside now : GatheringSeen N) (t : Counts) (a : AgendaSeen (GatherJob N)) → inside ≡ now → t ≡ record inside.tally { handed = raised inside.tally.handed }
       → (forwards : ℕ) × (posts : List (PrintJob N)) × GathersBy 1 forwards posts now (record { printer = inside.printer; tally = t; refused = inside.refused; waiting = inside.waiting })
-  fired inside now t is handed = (
+      × HoldsFor forwards posts (now, a) (record { printer = inside.printer; tally = t; refused = inside.refused; waiting = inside.waiting }, a)
+  fired inside now t a is handed = (
     0,
     [],
     subst (λ (a : GatheringSeen N). GathersBy 1 0 [] a (record { printer = inside.printer; tally = t; refused = inside.refused; waiting = inside.waiting })) is
         (subst (λ (u : Counts). GathersBy 1 0 [] inside (record { printer = inside.printer; tally = u; refused = inside.refused; waiting = inside.waiting })) (sym handed) (tallied 1 0 inside)),
+    λ calm. (omega arith, omega arith),
   )
 
-  -- a reply's core was forwarded, and nothing was posted then
-  pub forwarded : (inside now next : GatheringSeen N) (t : Counts) → inside ≡ now
+  -- a reply's core was forwarded, nothing was posted then, and a callback more is held
+  pub forwarded : (inside now next : GatheringSeen N) (t : Counts) (a b : AgendaSeen (GatherJob N)) → inside ≡ now
       → t ≡ record inside.tally { made = raised inside.tally.made; forwarded = raised inside.tally.forwarded; freed = raised inside.tally.freed }
       → GathersBy 0 0 [] (record { printer = inside.printer; tally = t; refused = inside.refused; waiting = inside.waiting }) next
-      → (forwards : ℕ) × (posts : List (PrintJob N)) × GathersBy 0 forwards posts now next
-  forwarded inside now next t is counts second =
+      → (next.refused ≡ false → count_of_callbacks b ≡ count_of_callbacks a + 1)
+      → (forwards : ℕ) × (posts : List (PrintJob N)) × GathersBy 0 forwards posts now next × HoldsFor forwards posts (now, a) (next, b)
+  forwarded inside now next t a b is counts second held =
       let mid : GatheringSeen N = record { printer = inside.printer; tally = t; refused = inside.refused; waiting = inside.waiting } in
       let first : GathersBy 0 1 [] inside mid =
       subst (λ (u : Counts). GathersBy 0 1 [] inside (record { printer = inside.printer; tally = u; refused = inside.refused; waiting = inside.waiting })) (sym counts) (tallied 0 1 inside) in
-      (1, [], subst (λ (a : GatheringSeen N). GathersBy 0 1 [] a next) is (join 0 1 0 0 [] [] inside mid next first second))
+      (1, [], subst (λ (a : GatheringSeen N). GathersBy 0 1 [] a next) is (join 0 1 0 0 [] [] inside mid next first second), λ calm. (omega arith, held calm))

@@ -1,5 +1,5 @@
 -- What a gathering base does.
-use Rattle.std.specs.Prelude.{◌≡◌, ◌⊎◌, ℕ, zero, suc, ◌+◌, false, List, [], ◌++◌, length, nat_lt, if◌then◌else◌}
+use Rattle.std.specs.Prelude.{◌≡◌, ◌⊎◌, ℕ, zero, suc, ◌+◌, ◌≤◌, false, List, [], ◌++◌, length, nat_lt, if◌then◌else◌}
 use Rattle.std.specs.List.{All, sum_by}
 use Rattle.fan_base.specs.declared.number.JobId.{JobId}
 use Rattle.fan_base.specs.declared.number.Mark.{Mark}
@@ -72,6 +72,11 @@ module _ {N : Type 0} where
   abbrev pub KeepsWaiting : ℕ → ℕ → Place (GatheringSeen N) (GatherJob N) → Place (GatheringSeen N) (GatherJob N) → Type 0
   KeepsWaiting fires turns p q = q.0.refused ≡ false → q.0.waiting + (turns + count_of_callbacks p.1) ≡ p.0.waiting + (fires + count_of_callbacks q.1)
 
+  -- Over one turn one reply was posted, or one reply's core was forwarded, or neither, and for each core that was forwarded one callback more is held, for its
+  -- scoring. Nothing is said where the last world notes a refusal.
+  abbrev pub HoldsFor : ℕ → List (PrintJob N) → Place (GatheringSeen N) (GatherJob N) → Place (GatheringSeen N) (GatherJob N) → Type 0
+  HoldsFor forwards posts p q = q.0.refused ≡ false → (length posts + forwards ≤ 1) × (count_of_callbacks q.1 ≡ count_of_callbacks p.1 + forwards)
+
   -- The base took these messages; as many fires came in as there are among them, some replies' cores were forwarded, and these replies were posted.
   pub record TookIn (w : GatheringSeen N) (old : BaseSeen (GatherJob N)) (v : GatheringSeen N) (new : BaseSeen (GatherJob N)) : Type 0 where
     pub took : List (Stamped (GatherJob N))
@@ -86,11 +91,13 @@ module _ {N : Type 0} where
   abbrev pub Schedules : AgendaSeen (GatherJob N) → AgendaSeen (GatherJob N) → Type 0
   Schedules old new = (new ≡ old) ⊎ ((scoring : _) × (new ≡ with_in_loop old (gather.Score scoring)))
 
-  -- What a run of the job with this id does.
+  -- What a run of the job with this id does. A scoring posts its reply.
   pub record Runs (id : JobId) (before : Place (GatheringSeen N) (GatherJob N)) (m : Mark) (after : Place (GatheringSeen N) (GatherJob N)) : Type 0 where
     pub forwards : ℕ
     pub posts : List (PrintJob N)
     pub by : GathersBy (fires_at id) forwards posts before.0 after.0
     pub done : after.0.refused ≡ false → IsDone m
     pub agenda : Schedules before.1 after.1
+    pub held : HoldsFor forwards posts before after
+    pub scored : after.0.refused ≡ false → fires_at id ≡ 0 → length posts ≡ 1
     pub waits : KeepsWaiting (fires_at id) 1 before after

@@ -1,8 +1,9 @@
 ghost use Rattle.std.specs.Prelude.{◌≡◌, ◌+◌, ℕ, List, [], false, length};
 ghost use Rattle.event_base.specs.Calls.{IsReached};
+ghost use Rattle.event_base.specs.Looping.{count_of_callbacks};
 ghost use Rattle.fan_parts.specs.declared.jobs.PrintJob.{PrintJob};
 ghost use Rattle.fan_parts.specs.Heads.{gather_head};
-ghost use Rattle.run_gathering.specs.Gathering.{GathersBy, Schedules, KeepsWaiting};
+ghost use Rattle.run_gathering.specs.Gathering.{GathersBy, HoldsFor, Schedules, KeepsWaiting};
 
 use crate::merge::{Gathered, gather_parts};
 use crate::world::Gathering;
@@ -49,7 +50,8 @@ fn take_part<'d, 'r: 'd, 'i: 'r, N: RunName, R: Wait>(
     agenda: &mut GatherAgenda<N>,
     fire: TaskFire<N>,
 )
-    ensures did { (forwards : ℕ) × (posts : List (PrintJob N)) × GathersBy 1 forwards posts world.old world.new }
+    ensures did { (forwards : ℕ) × (posts : List (PrintJob N)) × GathersBy 1 forwards posts world.old world.new
+        × HoldsFor forwards posts (world.old, agenda.old) (world.new, agenda.new) }
     ensures agenda { Schedules agenda.old agenda.new }
     ensures waits { KeepsWaiting 0 0 (world.old, agenda.old) (world.new, agenda.new) }
     ensures calls { IsReached gather_head agenda.old agenda.new }
@@ -75,7 +77,8 @@ fn complete<'d, 'r: 'd, 'i: 'r, N: RunName, R: Wait>(
     end: End<'r, 'i, N>,
 )
     requires { length parts ≡ N.asked.shards }
-    ensures did { (forwards : ℕ) × (posts : List (PrintJob N)) × GathersBy 0 forwards posts world.old world.new }
+    ensures did { (forwards : ℕ) × (posts : List (PrintJob N)) × GathersBy 0 forwards posts world.old world.new
+        × HoldsFor forwards posts (world.old, agenda.old) (world.new, agenda.new) }
     ensures agenda { Schedules agenda.old agenda.new }
     ensures waits { KeepsWaiting 0 0 (world.old, agenda.old) (world.new, agenda.new) }
     ensures calls { IsReached gather_head agenda.old agenda.new }
@@ -123,6 +126,7 @@ fn schedule<'d, 'r: 'd, 'i: 'r, N: RunName>(
 )
     ensures did { GathersBy 0 0 [] world.old world.new }
     ensures agenda { Schedules agenda.old agenda.new }
+    ensures held { world.new.refused ≡ false → count_of_callbacks agenda.new ≡ count_of_callbacks agenda.old + 1 }
     ensures waits { KeepsWaiting 0 0 (world.old, agenda.old) (world.new, agenda.new) }
     ensures calls { IsReached gather_head agenda.old agenda.new }
 {
@@ -152,7 +156,7 @@ fn schedule<'d, 'r: 'd, 'i: 'r, N: RunName>(
 /// The next of the scorings that are scheduled is made. None waits only where a message is, or was, a scoring job, which never comes: then want
 /// of memory is noted.
 fn score_next<'d, 'r: 'd, 'i: 'r, N: RunName, R: Wait>(rt: &R, world: &mut Gathering<'d, 'r, 'i, N>)
-    ensures did { (posts : List (PrintJob N)) × GathersBy 0 0 posts world.old world.new }
+    ensures did { (posts : List (PrintJob N)) × GathersBy 0 0 posts world.old world.new × (world.new.refused ≡ false → length posts ≡ 1) }
     ensures waits { world.new.refused ≡ false → world.new.waiting + 1 ≡ world.old.waiting }
 {
     match world.scorings.pop_front() {
@@ -167,7 +171,7 @@ fn score<'d, 'r: 'd, 'i: 'r, N: RunName, R: Wait>(
     world: &mut Gathering<'d, 'r, 'i, N>,
     scoring: Scoring<'i, N>,
 )
-    ensures did { (posts : List (PrintJob N)) × GathersBy 0 0 posts world.old world.new }
+    ensures did { (posts : List (PrintJob N)) × GathersBy 0 0 posts world.old world.new × (world.new.refused ≡ false → length posts ≡ 1) }
     ensures waiting { world.new.waiting ≡ world.old.waiting }
 {
     let (inner, ask, place, ranking) = scoring.into_parts();

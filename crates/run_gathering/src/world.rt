@@ -1,4 +1,4 @@
-ghost use Rattle.std.specs.Prelude.{◌≡◌, true, false, List};
+ghost use Rattle.std.specs.Prelude.{◌≡◌, true, false, List, length};
 ghost use Rattle.core_word.specs.declared.view.Sight.TheVariants as seen;
 ghost use Rattle.fan_model.specs.Tasks.{printer_exec};
 ghost use Rattle.fan_parts.specs.declared.jobs.PrintJob.{PrintJob};
@@ -93,7 +93,7 @@ impl<'d, 'r: 'd, 'i: 'r, N: RunName> Gathering<'d, 'r, 'i, N> {
         outcome: Try<PlacedReply<N>>,
     )
         requires { producer.sight ≡ seen.CallbackLeft }
-        ensures did { (posts : List (PrintJob N)) × GathersBy 0 0 posts self.old self.new }
+        ensures did { (posts : List (PrintJob N)) × GathersBy 0 0 posts self.old self.new × (self.new.refused ≡ false → length posts ≡ 1) }
         ensures waiting { self.new.waiting ≡ self.old.waiting }
     {
         let fire = fulfil_awaited(producer, outcome, &mut self.tally);
