@@ -23,14 +23,14 @@ pub(crate) fn prio_at(lines: &Lines, place: usize) -> Prio
     }
 }
 
-/// The priority at which a pool with three queues puts a task into the queue of this one.
+/// The priority at which a task is added to the pool: the lowest, the middle or the highest one, as Folly's executors name them.
 pub(crate) fn priority_of(prio: Prio) -> i8
     ensures { result ≡ pool_priority prio }
 {
     match prio {
-        Prio::Lo => -1,
+        Prio::Lo => i8::MIN,
         Prio::Mid => 0,
-        Prio::Hi => 1,
+        Prio::Hi => i8::MAX,
     }
 }
 
