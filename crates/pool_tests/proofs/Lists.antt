@@ -1,11 +1,12 @@
 -- What is known of each element of a list, and of what is made of them.
 use Rattle.std.proofs.Common.{◌≡◌, ◌+◌, ◌≤◌, ℕ, zero, suc, List, [], ◌∷◌, ◌++◌, Option, Some, None, IfSome, MatchOption, All, Contains, length, length-append, map, ap, refl, subst, ◌∙◌, option_to_list, sym, arith}
 use Rattle.std.proofs.lemmas.List.{length-map, get_or-map}
-use Rattle.std.proofs.lemmas.List.Elements.{All-head, All-nil, All-push, All-contains, All-map, All-weaker}
-use Rattle.pool_model.specs.Passes.{AreAllEnds}
-use Rattle.pool_model.specs.Seen.{PoolId, PoolSeen, EndSeen}
+use Rattle.std.proofs.lemmas.List.Elements.{All-cons, All-head, All-nil, All-push, All-tail, All-contains, All-map, All-weaker}
+use Rattle.std.specs.Prelude.{◌<◌, slice_index_or}
+use Rattle.pool_model.specs.Passes.{AreAllEnds, AreNumbered, adds_of}
+use Rattle.pool_model.specs.Seen.{PoolId, PoolSeen, PassSeen, EndSeen}
 use Rattle.prio_pool.specs.Made.{new_workers, new_ends}
-use Rattle.pool_tests.specs.Ending.{IsHelper}
+use Rattle.pool_tests.specs.Ending.{IsHelper, IsPassOf}
 
 pub none_left : {X : Type 0} (all rest : List X) (x : X) → all ≡ rest ++ x ∷ [] → length all ≡ 1 → length rest ≡ 0
 none_left all rest x is one = omega (arith, one, ap length is, length-append rest (x ∷ []))
@@ -75,3 +76,36 @@ all_ended end pool workers slots ends all from count whole =
       of_pool = All-weaker (λ e. Contains (map end slots) (Some e)) OfPool (λ e is. All-contains Has (map end slots) (Some e) found is) ends from;
       count_is = count ∙ whole;
     }
+
+-- The passes of two adders, in the order of their numbers.
+pub two_numbered : (pool : PoolSeen) (a b : ℕ) (p q : PassSeen) (l : List PassSeen) → pool.adders ≡ 2 → IsPassOf pool 0 a p → IsPassOf pool 1 b q → l ≡ p ∷ q ∷ []
+    → AreNumbered pool.id pool.adders l
+two_numbered pool a b p q l two first second is = subst (λ (xs : List PassSeen). AreNumbered pool.id pool.adders xs) (sym is) (record { count = sym two; each = each })
+  where
+    each : (k : ℕ) (d : PassSeen) → k < length (p ∷ q ∷ []) → ((slice_index_or (p ∷ q ∷ []) k d).pool ≡ pool.id) × ((slice_index_or (p ∷ q ∷ []) k d).number ≡ k)
+    each zero d lt = (first.of_pool, first.number_is)
+    each (suc zero) d lt = (second.of_pool, second.number_is)
+    each (suc (suc k)) d lt = absurd (omega (arith, lt))
+
+-- The ends of two helpers.
+pub two_ends : (pool : PoolSeen) (e f : EndSeen) (l : List EndSeen) → pool.helpers ≡ 2 → e.pool ≡ pool.id → f.pool ≡ pool.id → l ≡ e ∷ f ∷ [] → AreAllEnds pool.id pool.helpers l
+two_ends pool e f l two one other is =
+    let OfPool : EndSeen → Type 0 = λ x. x.pool ≡ pool.id in
+    record {
+      of_pool = subst (All OfPool) (sym is) (All-cons OfPool e (f ∷ []) one (All-cons OfPool f [] other (All-nil OfPool)));
+      count_is = ap length is ∙ sym two;
+    }
+
+-- The passes of a new pool's two adders have added nothing.
+pub two_new : (pool : PoolSeen) (l new : List PassSeen) (p q : PassSeen) → l ≡ new → l ≡ p ∷ q ∷ [] → All (λ x. (x.pool ≡ pool.id) × (adds_of x ≡ [])) new → AreNumbered pool.id 2 new
+    → IsPassOf pool 0 0 p × IsPassOf pool 1 0 q
+two_new pool l new p q is both unused numbered =
+    let Unused : PassSeen → Type 0 = λ x. (x.pool ≡ pool.id) × (adds_of x ≡ []) in
+    let same : new ≡ p ∷ q ∷ [] = sym is ∙ both in
+    let all : All Unused (p ∷ q ∷ []) = subst (All Unused) same unused in
+    let order : AreNumbered pool.id 2 (p ∷ q ∷ []) = subst (AreNumbered pool.id 2) same numbered in
+    let first = All-head Unused p (q ∷ []) all in
+    let second = All-head Unused q [] (All-tail Unused p (q ∷ []) all) in (
+      record { of_pool = first.0; number_is = (order.each 0 p (omega arith)).1; added = ap length first.1 },
+      record { of_pool = second.0; number_is = (order.each 1 p (omega arith)).1; added = ap length second.1 },
+    )

@@ -23,6 +23,12 @@ pub record IsAdding (pool : PoolSeen) (owner : OwnerSeen) (keep : TokenSeen) (pa
   pub added : length (adds_of pass) ≡ tasks
   pub helps : IsHelper pool helper
 
+-- The pass of this pool's adder with this number, with which so many tasks are added.
+pub record IsPassOf (pool : PoolSeen) (number tasks : ℕ) (pass : PassSeen) : Type 0 where
+  pub of_pool : pass.pool ≡ pool.id
+  pub number_is : pass.number ≡ number
+  pub added : length (adds_of pass) ≡ tasks
+
 -- The end of this pool has begun, with the passes of all its adders.
 pub record IsEnding (pool : PoolSeen) (e : EndingSeen) : Type 0 where
   pub of_pool : e.pool ≡ pool.id

@@ -20,6 +20,7 @@ use std::sync::Wait;
 mod kept;
 mod queue;
 mod threads;
+mod two;
 
 // It notes its id in the world, and is done with its number.
 #[derive(Clone, Copy)]
