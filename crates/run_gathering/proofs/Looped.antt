@@ -65,4 +65,5 @@ module _ {N : Type 0} where
         };
         fires = each;
         counts = λ calm. moved.by.tally calm ∙ ap (λ (k : ℕ). counted k moved.forwards (length moved.posts) no_counts) (each calm);
+        answers = λ calm. moved.by.answers calm;
       }

@@ -1,8 +1,10 @@
 -- What a gathering base does.
-use Rattle.std.specs.Prelude.{◌≡◌, ◌⊎◌, ℕ, zero, suc, ◌+◌, ◌≤◌, false, List, [], ◌++◌, length, nat_lt, if◌then◌else◌}
+use Rattle.std.specs.Prelude.{◌≡◌, ◌⊎◌, ℕ, zero, suc, ◌+◌, ◌≤◌, false, List, [], ◌∷◌, ◌++◌, length, nat_lt, if◌then◌else◌}
 use Rattle.std.specs.List.{All, sum_by}
 use Rattle.fan_base.specs.declared.number.JobId.{JobId}
 use Rattle.fan_base.specs.declared.number.Mark.{Mark}
+use Rattle.fan_base.specs.declared.outcome.Try.{Try}
+use Rattle.fan_base.specs.declared.outcome.Try.TheVariants as try
 use Rattle.job_trait.specs.Marks.{IsDone}
 use Rattle.core_word.specs.Count.{Counts, raised}
 use Rattle.event_base.specs.Calls.{with_in_loop}
@@ -13,7 +15,9 @@ use Rattle.event_base.specs.Turns.{Place}
 use Rattle.fan_parts.specs.declared.jobs.GatherJob.{GatherJob}
 use Rattle.fan_parts.specs.declared.jobs.GatherJob.TheVariants as gather
 use Rattle.fan_parts.specs.declared.jobs.PrintJob.{PrintJob}
+use Rattle.fan_parts.specs.declared.jobs.PrintJob.TheVariants as print
 use Rattle.fan_parts.specs.Heads.{first_scoring, gather_head}
+use Rattle.fan_parts.specs.Seen.{PlacedSeen}
 use Rattle.run_gathering.specs.Seen.{GatheringSeen}
 
 abbrev pub no_counts : Counts
@@ -39,18 +43,42 @@ counted fires forwards posts counts = record {
 abbrev pub fires_at : JobId → ℕ
 fires_at id = if nat_lt id.0 first_scoring then 1 else 0
 
+-- a value, and no fault
+abbrev pub IsValue : {T : Type 0} → Try T → Type 0
+IsValue (try.Value value) = Unit {0}
+IsValue try.Broken = ⊥
+IsValue try.Memory = ⊥
+IsValue (try.Cancelled number) = ⊥
+
 module _ {N : Type 0} where
+  -- a reply that fired with its answer
+  abbrev pub HasAnswer : PrintJob N → Type 0
+  HasAnswer (print.Replied fire) = IsValue fire.outcome
+  HasAnswer (print.Cancelled reply) = ⊥
+
+  -- a reply that fired with this outcome
+  abbrev pub FiredWith : Try PlacedSeen → PrintJob N → Type 0
+  FiredWith outcome (print.Replied fire) = fire.outcome ≡ outcome
+  FiredWith outcome (print.Cancelled reply) = ⊥
+
   -- what was put to the printer's base
   abbrev pub sent_by : GatheringSeen N → List (PrintJob N)
   sent_by w = w.printer.sender.sent
 
   -- So many fires came in, so many replies' cores were forwarded, and these replies were put to the printer's base. Where no memory was refused up to the
-  -- end, none was before, and the tally counts exactly this.
+  -- end, none was before, the tally counts exactly this, and each of the replies has its answer.
   pub record GathersBy (fires forwards : ℕ) (posts : List (PrintJob N)) (old new : GatheringSeen N) : Type 0 where
     pub sent : sent_by new ≡ sent_by old ++ posts
     pub same : (new.printer.sender.queue ≡ old.printer.sender.queue) × (new.printer.sender.number ≡ old.printer.sender.number) × (new.printer.exec ≡ old.printer.exec)
     pub known : new.refused ≡ false → old.refused ≡ false
     pub tally : new.refused ≡ false → new.tally ≡ counted fires forwards (length posts) old.tally
+    pub answers : new.refused ≡ false → All HasAnswer posts
+
+  -- A fire with this outcome, and nothing else, was put to the printer's base.
+  pub record PutsFire (outcome : Try PlacedSeen) (old new : GatheringSeen N) : Type 0 where
+    pub job : PrintJob N
+    pub sent : sent_by new ≡ sent_by old ++ job ∷ []
+    pub fired : FiredWith outcome job
 
   -- how many of these messages are fires of tasks
   abbrev pub fires_among : List (Stamped (GatherJob N)) → ℕ

@@ -1,13 +1,18 @@
-ghost use Rattle.std.specs.Prelude.{◌≡◌, ◌+◌, ℕ, List, [], false, length};
+ghost use Rattle.std.specs.Prelude.{◌≡◌, ◌+◌, ℕ, List, [], true, false, IfNone, IfSome, length};
+ghost use Rattle.core_word.specs.Count.{raised};
 ghost use Rattle.event_base.specs.Calls.{IsReached};
 ghost use Rattle.event_base.specs.Looping.{count_of_callbacks};
 ghost use Rattle.fan_parts.specs.declared.jobs.PrintJob.{PrintJob};
 ghost use Rattle.fan_parts.specs.Heads.{gather_head};
+ghost use Rattle.run_gathering.specs.Awaited.{AwaitsNone};
+ghost use Rattle.run_gathering.specs.Bringing.{HasAllParts, IsBrought};
 ghost use Rattle.run_gathering.specs.Gathering.{GathersBy, HoldsFor, Schedules, KeepsWaiting};
 
 use crate::merge::{Gathered, gather_parts};
+use crate::table::PartTable;
 use crate::world::Gathering;
-use collect_ops::{Arrived, Listed};
+use collect_ops::{AllArrived, Arrived, Listed};
+use core_word::Tally;
 use event_base::{Agenda, LoopJob, calls_in_a_row};
 use fan_base::{Fault, Mark, Refused, Try};
 use fan_parts::{
@@ -18,6 +23,8 @@ use std::alloc::AllocFailed;
 use std::sync::Wait;
 
 type GatherAgenda<N> = Agenda<GatherJob<N>>;
+
+type PartArrived<'d, 'r, 'i, N> = AllArrived<'d, Part<N>, End<'r, 'i, N>>;
 
 impl<'d, 'r: 'd, 'i: 'r, N: RunName> LoopJob<Gathering<'d, 'r, 'i, N>> for GatherJob<N> {
     ghost use Rattle.run_gathering.specs.Gathering.{Runs};
@@ -57,14 +64,30 @@ fn take_part<'d, 'r: 'd, 'i: 'r, N: RunName, R: Wait>(
     ensures calls { IsReached gather_head agenda.old agenda.new }
 {
     calls_in_a_row::<GatherJob<N>>();
-    let (_no, outcome, callback) = fire.unpack(&mut world.tally);
-    let Some(part) = world.table.take(callback.number(), callback.shard()) else {
-        return;
-    };
-    match part.into_arrival().arrive(outcome) {
-        Arrived::Complete(parts, end, _done) => complete(rt, world, agenda, parts, end),
-        Arrived::Back(_, _) => unreachable!(),
-        Arrived::More(_receipt) => {}
+    match bring_part(&mut world.table, fire, &mut world.tally) {
+        Some(Arrived::Complete(parts, end, _done)) => complete(rt, world, agenda, parts, end),
+        Some(Arrived::Back(_, _)) => unreachable!(),
+        Some(Arrived::More(_receipt)) => {}
+        None => {}
+    }
+}
+
+/// The outcome of a fire arrives at its desk, by the arrival that the table has for the fire's query and shard. None where the table has none: then
+/// the outcome is let go.
+fn bring_part<'d, 'r: 'd, 'i: 'r, N: RunName>(
+    table: &mut PartTable<'d, 'r, 'i, N>,
+    fire: TaskFire<N>,
+    tally: &mut Tally,
+) -> Option<PartArrived<'d, 'r, 'i, N>>
+    ensures arrived { IfSome result (λ arrived. IsBrought fire.callback.number fire.callback.shard fire.outcome table.old table.new arrived) }
+    ensures none { IfNone result (AwaitsNone fire.callback.number fire.callback.shard table.old table.new) }
+    ensures all { IfSome result (λ arrived. HasAllParts N.asked.shards arrived) }
+    ensures tally { tally.new ≡ record tally.old { handed = raised tally.old.handed } }
+{
+    let (_no, outcome, callback) = fire.unpack(tally);
+    match table.take(callback.number(), callback.shard()) {
+        Some(part) => Some(part.into_arrival().arrive(outcome)),
+        None => None,
     }
 }
 
@@ -100,19 +123,18 @@ fn complete<'d, 'r: 'd, 'i: 'r, N: RunName, R: Wait>(
     }
 }
 
-/// Notes want of memory, and gives the fault as an outcome.
+/// Notes that a reply has no answer, and gives the fault as its outcome. It is want of memory: the others never come.
 fn refusal<'d, 'r: 'd, 'i: 'r, N: RunName>(
     world: &mut Gathering<'d, 'r, 'i, N>,
     fault: Fault,
 ) -> Try<PlacedReply<N>>
     ensures did { GathersBy 0 0 [] world.old world.new }
     ensures waiting { world.new.waiting ≡ world.old.waiting }
+    ensures noted { world.new.refused ≡ true }
 {
+    world.refused = true;
     match fault {
-        Fault::Memory => {
-            world.refused = true;
-            Try::Memory
-        }
+        Fault::Memory => Try::Memory,
         Fault::Broken => Try::Broken,
         Fault::Cancelled(number) => Try::Cancelled(number),
     }

@@ -1,11 +1,11 @@
-ghost use Rattle.std.specs.Prelude.{◌≡◌, [], false, length};
+ghost use Rattle.std.specs.Prelude.{◌≡◌, ℕ, [], false, IfSome, length};
 ghost use Rattle.notify_queue.specs.Ends.{AreAllEnds, IsDry};
 ghost use Rattle.event_base.specs.Closing.{AreOn, held_by};
-ghost use Rattle.event_base.specs.Looping.{HoldsNoCallback};
+ghost use Rattle.event_base.specs.Looping.{HoldsNoCallback, IsLoop};
 ghost use Rattle.fan_model.specs.Tasks.{printer_exec};
 ghost use Rattle.fan_parts.specs.Heads.{gather_head};
 ghost use Rattle.run_gathering.specs.Dealt.{AwaitsAll};
-ghost use Rattle.run_gathering.specs.Gathering.{HoldsScorings, TookIn};
+ghost use Rattle.run_gathering.specs.Gathering.{HoldsScorings, Runs, TookIn};
 ghost use Rattle.run_gathering.specs.Stages.{CameTo, IsSameBase};
 
 use crate::table::PartTable;
@@ -92,7 +92,7 @@ fn until_closed<'d, 'r: 'd, 'i: 'r, N: RunName + 'static, R: Wait>(
     unreachable!()
 }
 
-/// One loop of the base.
+/// One loop of the base, and why it ended. None: a round found no memory.
 fn loop_once_more<'d, 'r: 'd, 'i: 'r, N: RunName + 'static, R: Wait>(
     rt: &R,
     base: &mut GatherBase<N>,
@@ -102,6 +102,7 @@ fn loop_once_more<'d, 'r: 'd, 'i: 'r, N: RunName + 'static, R: Wait>(
     ensures did { TookIn world.old base.old world.new base.new }
     ensures base { IsSameBase base.old base.new }
     ensures closed { result ≡ Some Why.Closed → IsDry base.new.queue × HoldsNoCallback base.new.agenda }
+    ensures whole { IfSome result (λ why. (rounds : ℕ) × IsLoop gather_head Runs rounds why world.old base.old world.new base.new) }
 {
     rounds_keep_the_base::<Gathering<'d, 'r, 'i, N>, GatherJob<N>>();
     match base.loop_until_closed(rt, world) {

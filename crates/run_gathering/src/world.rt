@@ -2,7 +2,7 @@ ghost use Rattle.std.specs.Prelude.{◌≡◌, true, false, List, length};
 ghost use Rattle.core_word.specs.declared.view.Sight.TheVariants as seen;
 ghost use Rattle.fan_model.specs.Tasks.{printer_exec};
 ghost use Rattle.fan_parts.specs.declared.jobs.PrintJob.{PrintJob};
-ghost use Rattle.run_gathering.specs.Gathering.{GathersBy, no_counts};
+ghost use Rattle.run_gathering.specs.Gathering.{GathersBy, IsValue, PutsFire, no_counts};
 
 use crate::table::PartTable;
 use core_word::{Producer, Tally};
@@ -85,15 +85,18 @@ impl<'d, 'r: 'd, 'i: 'r, N: RunName> Gathering<'d, 'r, 'i, N> {
         (printer, tally, refused)
     }
 
-    /// Fulfils a core whose callback waits, frees it, and posts the fire to the printer's base.
+    /// Fulfils a core whose callback waits with this outcome, which is a value where no refusal is noted, frees it, and posts the fire to the
+    /// printer's base.
     pub(crate) fn fulfil<P, R: Wait>(
         &mut self,
         rt: &R,
         producer: Producer<'_, PlacedReply<N>, ReplyCallback<N>, P>,
         outcome: Try<PlacedReply<N>>,
     )
-        requires { producer.sight ≡ seen.CallbackLeft }
+        requires awaited { producer.sight ≡ seen.CallbackLeft }
+        requires answer { self.old.refused ≡ false → IsValue outcome }
         ensures did { (posts : List (PrintJob N)) × GathersBy 0 0 posts self.old self.new × (self.new.refused ≡ false → length posts ≡ 1) }
+        ensures fire { self.new.refused ≡ false → PutsFire outcome self.old self.new }
         ensures waiting { self.new.waiting ≡ self.old.waiting }
     {
         let fire = fulfil_awaited(producer, outcome, &mut self.tally);

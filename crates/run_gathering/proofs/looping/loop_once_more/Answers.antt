@@ -37,3 +37,6 @@ returns-in-Err-clause-did g c = cut_loop_took _ _ _ _ _ c.requires c.in-Err.ensu
 
 pub returns-in-Err-clause-base : goal.returns-in-Err-clause-base
 returns-in-Err-clause-base g c = same_base 0 _ _ (c.rounds_keep_the_base.ensures.cut_loop _ _ _ _ _ c.in-Err.ensures.memory)
+
+pub returns-in-Ok-clause-whole : goal.returns-in-Ok-clause-whole
+returns-in-Ok-clause-whole g c = (_, c.in-Ok.ensures.ok)
