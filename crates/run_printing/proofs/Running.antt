@@ -1,7 +1,7 @@
 -- Messages that ran one after another, and what became of them.
 use Rattle.std.proofs.Common.{◌≡◌, ℕ, suc, ◌+◌, ◌≤◌, min, Bool, true, false, ◌||◌, cond, Option, List, [], ◌∷◌, ◌++◌, length, refl, sym, ap, ◌∙◌, subst, arith, append_assoc, append-nil}
 use Rattle.std.proofs.lemmas.List.{length-map}
-use Rattle.std.specs.Bool.{OnTrue}
+use Rattle.std.specs.Bool.{OnFalse, OnTrue}
 use Rattle.std.specs.List.{list_any}
 use Rattle.std.proofs.lemmas.List.Sums.{sum_by-cons}
 use Rattle.fan_base.specs.Outside.{last_count}
@@ -13,13 +13,15 @@ use Rattle.job_trait.specs.declared.job.Head.{Head}
 use Rattle.notify_queue.specs.declared.stamp.Stamped.{Stamped}
 use Rattle.notify_queue.specs.Ends.{IsDry}
 use Rattle.event_base.specs.Seen.{AgendaSeen, BaseSeen}
+use Rattle.event_base.specs.declared.round.RoundMemory.{RoundMemory}
 use Rattle.event_base.specs.Closing.{held_by}
+use Rattle.event_base.specs.Looping.{IsCutLoop}
 use Rattle.event_base.specs.Laws.{IsIdle, LeaveTheAgenda, RunsMessages}
 use Rattle.event_base.specs.Turns.{LeavesAgenda, Place, Turn, TurnsThrough}
 use Rattle.reply_order.specs.Orders.{next_of}
 use Rattle.reply_printer.specs.Printing.{Placed, Prints}
 use Rattle.run_printing.specs.declared.world.PrintWorld.{PrintWorld}
-use Rattle.run_printing.specs.Ends.{HasPrinted, IsNewBase}
+use Rattle.run_printing.specs.Ends.{HasPrinted, IsNewBase, WasCut}
 use Rattle.run_printing.specs.Events.{Event, counted, fired_in, given_by, given_in, has_failed, has_fired, with_handed}
 use Rattle.run_printing.specs.Worlds.{HasSameLoans, IsNewWorld, RunsEvent, RunsEvents, RunsOnBase, sink_of}
 
@@ -64,14 +66,14 @@ module _ {K : Type 0} (lines : List Line) (holds : K → Option (List ℕ)) (fau
   one_more : (events : List Event) (p m q : PrintWorld K) → (first : RunsEvent lines holds faults p m) → RunsEvents lines holds faults events m q
       → RunsEvents lines holds faults (first.event ∷ events) p q
   one_more events p m q first rest = record {
-    are_of = (first.is_of, rest.are_of);
+    are_of = (first.ran.is_of, rest.are_of);
     prints = λ given start h.
         subst (λ (g : List Placed). Prints lines g q.printer.now start (sink_of holds faults q)) (append_assoc given (given_by first.event) (given_in events))
-        (rest.prints (given ++ given_by first.event) start (first.did.prints given start h));
-    waits = λ before. rest.waits (first.did.waits before);
-    missed = rest.missed ∙ (ap (λ (b : Bool). b || list_any has_failed events) first.did.missed ∙ or_or p.missed (has_failed first.event) (list_any has_failed events));
-    same = record { printer = rest.same.printer ∙ first.did.same.printer; sink = rest.same.sink ∙ first.did.same.sink; tally = rest.same.tally ∙ first.did.same.tally };
-    tally = rest.tally ∙ (ap (λ (t : Counts). with_handed t (fired_in events)) first.tally
+        (rest.prints (given ++ given_by first.event) start (first.ran.did.prints given start h));
+    waits = λ before. rest.waits (first.ran.did.waits before);
+    missed = rest.missed ∙ (ap (λ (b : Bool). b || list_any has_failed events) first.ran.did.missed ∙ or_or p.missed (has_failed first.event) (list_any has_failed events));
+    same = record { printer = rest.same.printer ∙ first.ran.did.same.printer; sink = rest.same.sink ∙ first.ran.did.same.sink; tally = rest.same.tally ∙ first.ran.did.same.tally };
+    tally = rest.tally ∙ (ap (λ (t : Counts). with_handed t (fired_in events)) first.ran.tally
         ∙ (event_handed first.event p.tally.now (fired_in events)
         ∙ ap (with_handed p.tally.now) (sym (sum_by-cons (λ (e : Event). cond (has_fired e) 1 0) first.event events))));
   }
@@ -97,7 +99,7 @@ module _ {J K : Type 0} (lines : List Line) (holds : K → Option (List ℕ)) (f
   became head p q (t ∷ ts) few all =
       let first : RunsEvent lines holds faults p.0 all.0.0 = all.1.ran.ran in
       let within : all.0.0.tally.now.handed ≤ last_count =
-      subst (λ (c : Counts). c.handed ≤ last_count) (sym first.tally) (few_counted first.event p.0.tally.now few) in
+      subst (λ (c : Counts). c.handed ≤ last_count) (sym first.ran.tally) (few_counted first.event p.0.tally.now few) in
       let rest = became head all.0 q ts within all.2 in
       record {
         events = first.event ∷ rest.events;
@@ -146,6 +148,25 @@ module _ {J K : Type 0} (head : J → Head) (lines : List Line) (holds : K → O
         none_held = ap (λ (a : AgendaSeen J). held_by a) all.agenda ∙ new_holds_nothing old new_base;
         closed = dry;
       }
+
+-- what is told of a flag that doesn't stand, and what follows from it
+pub on_false : {P Q : Type 0} (b : Bool) → (P → Q) → OnFalse b P → OnFalse b Q
+on_false true follows p = p
+on_false false follows p = follows p
+
+-- a base that was cut, run from a new world to this one, with what stands in that world as its stage
+pub was_cut : {J K : Type 0} (head : J → Head) (lines : List Line) (holds : K → Option (List ℕ)) (faults : K → ℕ) (w v : PrintWorld K) (old new : BaseSeen J) (closed : Bool) → IsNewWorld w
+    → ((fault : RoundMemory) × IsCutLoop head (ran lines holds faults) fault w old v new)
+    → WasCut head lines holds faults w.sink.now v.sink.now old (record { base = new; printer = v.printer.now; tally = v.tally.now; missed = v.missed; closed = closed })
+was_cut head lines holds faults w v old new closed fresh cut = record {
+  fault = cut.0;
+  start = w;
+  end = v;
+  is_new = fresh;
+  sink = (refl, refl);
+  kept = (refl, refl, refl);
+  cut = cut.1;
+}
 
 -- what is told of a flag that stands
 pub on_true : {P : Type 0} (b : Bool) → OnTrue b P → b ≡ true → P

@@ -1,15 +1,18 @@
 -- What becomes of one message.
 use Rattle.std.proofs.Common.{◌≡◌, ℕ, Bool, true, false, ◌||◌, Option, List, [], ◌∷◌, ◌++◌, refl, sym, ◌∙◌, subst, append-nil}
 use Rattle.std.proofs.lemmas.List.Elements.{All-cons, All-nil}
+use Rattle.fan_base.specs.declared.outcome.Try.{Try}
+use Rattle.fan_base.specs.declared.outcome.Try.TheVariants as try
 use Rattle.query_model.specs.declared.line.Line.{Line}
 use Rattle.query_model.specs.declared.reply.Reply.{Reply}
 use Rattle.query_model.specs.declared.reply.Reply.TheVariants as reply
 use Rattle.core_word.specs.Count.{Counts, raised}
 use Rattle.fan_model.specs.Places.{IsReplyAt}
+use Rattle.fan_parts.specs.Seen.{PlacedSeen}
 use Rattle.reply_printer.specs.Printing.{KeepsPrinting, Placed, Prints}
 use Rattle.run_printing.specs.declared.world.PrintWorld.{PrintWorld}
-use Rattle.run_printing.specs.Events.{Event, IsOf, counted, has_fired}
-use Rattle.run_printing.specs.Worlds.{IsUpToDate, LeavesCounts, PrintsEvent, RunsEvent, sink_of}
+use Rattle.run_printing.specs.Events.{Event, IsOf, counted, event_of, has_fired}
+use Rattle.run_printing.specs.Worlds.{IsUpToDate, LeavesCounts, PrintsEvent, RunsAs, sink_of}
 
 or_false : (b : Bool) → b ≡ b || false
 or_false true = refl
@@ -23,6 +26,13 @@ fired_counted : (e : Event) (t : Counts) → has_fired e ≡ true → record t {
 fired_counted (Event.answered place number answer) t fired = refl
 fired_counted Event.failed t fired = refl
 fired_counted (Event.cancelled place number) t fired = absurd cc
+
+-- a core that fired has fired
+pub event_of_fired : (outcome : Try PlacedSeen) → has_fired (event_of outcome) ≡ true
+event_of_fired (try.Value reply) = refl
+event_of_fired try.Broken = refl
+event_of_fired try.Memory = refl
+event_of_fired (try.Cancelled number) = refl
 
 module _ {K : Type 0} (lines : List Line) (holds : K → Option (List ℕ)) (faults : K → ℕ) (p q : PrintWorld K) where
   prints_one : (place number : ℕ) (answer : Reply) → IsReplyAt lines place number answer
@@ -44,9 +54,8 @@ module _ {K : Type 0} (lines : List Line) (holds : K → Option (List ℕ)) (fau
 
   pub cancelled : (place number : ℕ) → IsReplyAt lines place number reply.Cancelled
       → KeepsPrinting ((place, (number, reply.Cancelled)) ∷ []) p.printer.now q.printer.now (sink_of holds faults p) (sink_of holds faults q)
-      → IsUpToDate q.printer.now → LeavesCounts p q → RunsEvent lines holds faults p q
+      → IsUpToDate q.printer.now → LeavesCounts p q → RunsAs lines holds faults (Event.cancelled place number) p q
   cancelled place number at keeps waits same = record {
-    event = Event.cancelled place number;
     is_of = at;
     did = record { prints = prints_one place number reply.Cancelled at keeps; waits = λ before. waits; missed = same.missed ∙ or_false p.missed; same = same.same };
     tally = same.tally;
@@ -54,8 +63,8 @@ module _ {K : Type 0} (lines : List Line) (holds : K → Option (List ℕ)) (fau
 
   -- a core fired, and this became of it
   pub fired : (event : Event) → IsOf lines event → has_fired event ≡ true → PrintsEvent lines holds faults event p q
-      → q.tally.now ≡ record p.tally.now { handed = raised p.tally.now.handed } → RunsEvent lines holds faults p q
-  fired event is_of has did tally = record { event = event; is_of = is_of; did = did; tally = tally ∙ fired_counted event p.tally.now has }
+      → q.tally.now ≡ record p.tally.now { handed = raised p.tally.now.handed } → RunsAs lines holds faults event p q
+  fired event is_of has did tally = record { is_of = is_of; did = did; tally = tally ∙ fired_counted event p.tally.now has }
 
 -- a reply is missing
 pub missed : {K : Type 0} (lines : List Line) (holds : K → Option (List ℕ)) (faults : K → ℕ) (p : PrintWorld K)

@@ -1,5 +1,5 @@
 -- What the printer's stage has done once its base is closed, and how it ends.
-use Rattle.std.specs.Prelude.{◌≡◌, ◌≢◌, ◌⊎◌, ℕ, true, false, List, [], length}
+use Rattle.std.specs.Prelude.{◌≡◌, ◌≢◌, ◌⊎◌, ℕ, true, false, Option, List, [], length}
 use Rattle.std.specs.List.{All, AllByRecursion, list_any}
 use Rattle.fan_base.specs.Outside.{FaultsRose, Shown}
 use Rattle.fan_base.specs.declared.number.ExecId.{ExecId}
@@ -9,7 +9,10 @@ use Rattle.core_word.specs.Count.{Counts}
 use Rattle.notify_queue.specs.declared.stamp.Stamped.{Stamped}
 use Rattle.notify_queue.specs.Ends.{IsDry, Sending}
 use Rattle.notify_queue.specs.Stamps.{messages_of}
+use Rattle.job_trait.specs.declared.job.Head.{Head}
+use Rattle.event_base.specs.declared.round.RoundMemory.{RoundMemory}
 use Rattle.event_base.specs.Closing.{held_by}
+use Rattle.event_base.specs.Looping.{IsCutLoop}
 use Rattle.event_base.specs.Seen.{BaseSeen, NoteSeen, new_base}
 use Rattle.reply_order.specs.Orders.{next_of}
 use Rattle.fan_model.specs.Answered.{answered_in}
@@ -19,7 +22,8 @@ use Rattle.reply_printer.specs.Printing.{GoesOn, Prints, text_of}
 use Rattle.run_printing.specs.declared.stage.PrintStage.{PrintStage}
 use Rattle.run_printing.specs.declared.stage.PrintOutcome.{PrintOutcome}
 use Rattle.run_printing.specs.declared.stage.PrintOutcome.TheVariants as outcome
-use Rattle.run_printing.specs.Worlds.{IsUpToDate}
+use Rattle.run_printing.specs.declared.world.PrintWorld.{PrintWorld}
+use Rattle.run_printing.specs.Worlds.{IsNewWorld, IsUpToDate, RunsOnBase}
 use Rattle.run_printing.specs.Events.{Event, IsOf, fired_in, given_in, has_failed, no_counts, with_handed}
 
 module _ {J : Type 0} where
@@ -47,6 +51,18 @@ module _ {J : Type 0} (lines : List Line) where
     pub tally : stage.tally ≡ with_handed no_counts (fired_in events)
     pub none_held : held_by stage.base.agenda ≡ []
     pub closed : stage.closed ≡ true → IsDry stage.base.queue
+
+module _ {J K : Type 0} (head : J → Head) (lines : List Line) (holds : K → Option (List ℕ)) (faults : K → ℕ) where
+  -- Why a base was not closed: from a new printer on it made rounds, behind each of which there was a reason to go on, and then one found no memory and has not begun.
+  -- Of the sink before and now, the base before, and the stage.
+  pub record WasCut (first last : K) (old : BaseSeen J) (stage : PrintStage J) : Type 0 where
+    pub fault : RoundMemory
+    pub start : PrintWorld K
+    pub end : PrintWorld K
+    pub is_new : IsNewWorld start
+    pub sink : (start.sink.now ≡ first) × (end.sink.now ≡ last)
+    pub kept : (stage.printer ≡ end.printer.now) × (stage.tally ≡ end.tally.now) × (stage.missed ≡ end.missed)
+    pub cut : IsCutLoop head (λ id p mark q. RunsOnBase lines holds faults p q) fault start old end stage.base
 
 -- what the sink gained
 abbrev pub Wrote : List Line → Shown → Shown → PrintOutcome → Type 0

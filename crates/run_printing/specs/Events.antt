@@ -2,12 +2,20 @@
 use Rattle.std.specs.Prelude.{◌≡◌, ℕ, ◌+◌, min, Bool, true, false, List, [], ◌∷◌}
 use Rattle.std.specs.List.{count_by, flat_map}
 use Rattle.fan_base.specs.Outside.{last_count}
+use Rattle.fan_base.specs.declared.number.Mark.{Mark}
+use Rattle.fan_base.specs.declared.outcome.Try.{Try}
+use Rattle.fan_base.specs.declared.outcome.Try.TheVariants as try
 use Rattle.query_model.specs.declared.line.Line.{Line}
 use Rattle.query_model.specs.declared.reply.Reply.{Reply}
 use Rattle.query_model.specs.declared.reply.Reply.TheVariants as reply
 use Rattle.core_word.specs.Count.{Counts, raised}
 use Rattle.fan_model.specs.Laws.{tells}
 use Rattle.fan_model.specs.Places.{IsReplyAt}
+use Rattle.fan_parts.specs.Seen.{PlacedSeen}
+use Rattle.fan_parts.specs.declared.jobs.PrintJob.{PrintJob}
+use Rattle.fan_parts.specs.declared.jobs.PrintJob.TheVariants as job
+use Rattle.reply_printer.specs.declared.printer.Progress.{Progress}
+use Rattle.reply_printer.specs.declared.printer.Progress.TheVariants as progress
 use Rattle.reply_printer.specs.Printing.{Placed}
 
 -- A message that ran: a core that fired with the answer at a place to the query with a number, one that fired without a value, or a query that was
@@ -16,6 +24,31 @@ pub data Event : Type 0 where
   answered : ℕ → ℕ → Reply → Event
   failed : Event
   cancelled : ℕ → ℕ → Event
+
+-- what becomes of a core that fired with an outcome: its answer, where it has one
+abbrev pub event_of : Try PlacedSeen → Event
+event_of (try.Value reply) = Event.answered reply.place reply.number reply.reply
+event_of try.Broken = Event.failed
+event_of try.Memory = Event.failed
+event_of (try.Cancelled number) = Event.failed
+
+-- what becomes of a message
+abbrev pub event_by : {N : Type 0} → PrintJob N → Event
+event_by (job.Replied fire) = event_of fire.outcome
+event_by (job.Cancelled reply) = Event.cancelled reply.place reply.number
+
+-- the mark of a reply that was given to a printer: want of memory where that printer has found none
+abbrev pub mark_of : Progress → Mark
+mark_of progress.Memory = Mark.Memory
+mark_of progress.Writing = Mark.Done 0
+mark_of progress.WriteFault = Mark.Done 0
+mark_of progress.Repeated = Mark.Done 0
+
+-- the mark of a message, by what became of it and how far the printer is then
+abbrev pub mark_by : Event → Progress → Mark
+mark_by (Event.answered place number reply) now = mark_of now
+mark_by Event.failed now = Mark.Memory
+mark_by (Event.cancelled place number) now = mark_of now
 
 -- what the printer was given for it
 abbrev pub given_by : Event → List Placed

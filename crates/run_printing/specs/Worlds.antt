@@ -45,12 +45,16 @@ module _ {K : Type 0} (lines : List Line) (holds : K → Option (List ℕ)) (fau
     pub missed : q.missed ≡ p.missed || has_failed event
     pub same : HasSameLoans p q
 
-  -- a message ran: what became of it, and a core that fired was counted
-  pub record RunsEvent (p q : PrintWorld K) : Type 0 where
-    pub event : Event
+  -- a message ran, this became of it, and a core that fired was counted
+  pub record RunsAs (event : Event) (p q : PrintWorld K) : Type 0 where
     pub is_of : IsOf lines event
     pub did : PrintsEvent event p q
     pub tally : q.tally.now ≡ counted event p.tally.now
+
+  -- a message ran, and this became of it
+  pub record RunsEvent (p q : PrintWorld K) : Type 0 where
+    pub event : Event
+    pub ran : RunsAs event p q
 
   -- messages ran one after another
   pub record RunsEvents (events : List Event) (p q : PrintWorld K) : Type 0 where

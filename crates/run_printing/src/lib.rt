@@ -12,6 +12,7 @@
 //! name of the clause:
 //!
 //! - `print_replies`, `printed`: each message that was taken ran once; what the printer was given, wrote and holds; what was counted.
+//!   `cut`: where the base is not closed, a round found no memory and has not begun.
 //! - `close_printing`, `wrote`: on Done the sink gained exactly the lines of all replies; else a front of them, with its cause. `whole`: on Done
 //!   and WriteFault the note has one message for each query and none left, and each answered query was counted as handed over.
 //!

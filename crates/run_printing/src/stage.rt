@@ -1,11 +1,13 @@
 ghost use Rattle.std.specs.Prelude.{◌≡◌, [], length};
-ghost use Rattle.std.specs.Bool.{OnTrue};
+ghost use Rattle.std.specs.Bool.{OnFalse, OnTrue};
 ghost use Rattle.fan_base.specs.Outside.{Shown, shown};
 ghost use Rattle.query_model.specs.Order.{replies_of};
 ghost use Rattle.notify_queue.specs.Ends.{AreAllEnds, IsDry};
+ghost use Rattle.event_base.specs.declared.round.RoundMemory.{RoundMemory};
+ghost use Rattle.event_base.specs.Looping.{IsCutLoop};
 ghost use Rattle.event_base.specs.Laws.{IsIdle, LeaveTheAgenda, RunsMessages};
 ghost use Rattle.fan_model.specs.Tasks.{printer_exec};
-ghost use Rattle.run_printing.specs.Ends.{AreAllTaken, EndsAs, HasPrinted, IsBaseOf, IsDone, IsNewBase, IsWhole, LacksSome, Wrote};
+ghost use Rattle.run_printing.specs.Ends.{AreAllTaken, EndsAs, HasPrinted, IsBaseOf, IsDone, IsNewBase, IsWhole, LacksSome, WasCut, Wrote};
 ghost use Rattle.run_printing.specs.Worlds.{IsNewWorld, sink_of};
 
 use crate::world::PrintWorld;
@@ -16,6 +18,7 @@ use event_base::{
 use fan_base::Sink;
 use fan_model::laws::answers_in_order;
 use fan_parts::{PrintJob, RunName, spend_print_job};
+use job_trait::Headed;
 use notify_queue::SenderEnd;
 use reply_printer::laws::{a_new_printer_prints, each_reply_was_given_once, what_is_written};
 use reply_printer::{Printer, Progress};
@@ -62,6 +65,7 @@ pub fn print_replies<N: RunName, K: Sink, R: Wait>(
     requires { IsNewBase base }
     ensures printed { HasPrinted N.asked.lines (shown (K.holds sink.old) (K.faults sink.old)) (shown (K.holds sink.new) (K.faults sink.new)) result }
     ensures base { IsBaseOf base result.base }
+    ensures cut { OnFalse result.closed (WasCut ⟦<PrintJob<N> as Headed>⟧.head N.asked.lines K.holds K.faults sink.old sink.new base result) }
 {
     let mut base = base;
     let mut printer = Printer::new(alloc);
@@ -101,6 +105,8 @@ fn print_all<N: RunName, K: Sink, R: Wait>(
     ensures printed { HasPrinted N.asked.lines (sink_of K.holds K.faults world.old) (sink_of K.holds K.faults world.new)
         (record { base = base.new; printer = world.new.printer.now; tally = world.new.tally.now; missed = world.new.missed; closed = result }) }
     ensures base { IsBaseOf base.old base.new }
+    ensures cut { OnFalse result (WasCut ⟦<PrintJob<N> as Headed>⟧.head N.asked.lines K.holds K.faults world.old.sink.now world.new.sink.now base.old
+        (record { base = base.new; printer = world.new.printer.now; tally = world.new.tally.now; missed = world.new.missed; closed = result })) }
     ensures same_printer { world.new.printer.ghost_name ≡ world.old.printer.ghost_name }
     ensures same_tally { world.new.tally.ghost_name ≡ world.old.tally.ghost_name }
     ensures same_sink { world.new.sink.ghost_name ≡ world.old.sink.ghost_name }
@@ -116,6 +122,7 @@ fn loop_to_end<W, J: LoopJob<W>, R: Wait>(rt: &R, base: &mut EventBase<J>, world
     ensures ran { RunsMessages J.head J.runs world.old base.old world.new base.new }
     ensures same { IsBaseOf base.old base.new }
     ensures closed { OnTrue result (IsDry base.new.queue) }
+    ensures cut { OnFalse result ((fault : RoundMemory) × IsCutLoop J.head J.runs fault world.old base.old world.new base.new) }
 {
     a_loop_of_messages::<W, J>();
     rounds_keep_the_base::<W, J>();

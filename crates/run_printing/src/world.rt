@@ -1,8 +1,9 @@
 ghost use Rattle.std.specs.Prelude.{◌≡◌, false, true, [], ◌∷◌};
+ghost use Rattle.fan_base.specs.declared.number.Mark.TheVariants as mark;
 ghost use Rattle.job_trait.specs.Marks.{IsMarkOf};
 ghost use Rattle.reply_printer.specs.Printing.{KeepsPrinting};
-ghost use Rattle.run_printing.specs.Events.{Event, IsOf, has_fired};
-ghost use Rattle.run_printing.specs.Worlds.{IsUpToDate, LeavesCounts, PrintsEvent, RunsEvent, sink_of};
+ghost use Rattle.run_printing.specs.Events.{Event, IsOf, event_of, mark_by, mark_of};
+ghost use Rattle.run_printing.specs.Worlds.{IsUpToDate, LeavesCounts, PrintsEvent, RunsAs, sink_of};
 
 use core_word::Tally;
 use fan_base::{Mark, Sink, Try};
@@ -24,8 +25,9 @@ pub struct PrintWorld<'w, K> {
 impl<'w, K: Sink> PrintWorld<'w, K> {
     // Unpacks a fire, and prints its reply.
     pub(crate) fn take_fire<N: RunName>(&mut self, fire: ReplyFire<N>) -> Mark
-        ensures ran { RunsEvent N.asked.lines K.holds K.faults self.old self.new }
+        ensures ran { RunsAs N.asked.lines K.holds K.faults (event_of fire.outcome) self.old self.new }
         ensures mark { IsMarkOf 0 result }
+        ensures told { result ≡ mark_by (event_of fire.outcome) self.new.printer.now.progress }
     {
         let (_, outcome, _) = fire.unpack(&mut *self.tally);
         self.take_outcome(outcome)
@@ -33,10 +35,11 @@ impl<'w, K: Sink> PrintWorld<'w, K> {
 
     // Prints the reply of a core that fired, or notes that it is missing.
     fn take_outcome<N: RunName>(&mut self, outcome: Try<PlacedReply<N>>) -> Mark
-        ensures did { (event : Event) × IsOf N.asked.lines event × (has_fired event ≡ true)
-            × PrintsEvent N.asked.lines K.holds K.faults event self.old self.new }
+        ensures is_of { IsOf N.asked.lines (event_of outcome) }
+        ensures did { PrintsEvent N.asked.lines K.holds K.faults (event_of outcome) self.old self.new }
         ensures tally { self.new.tally.now ≡ self.old.tally.now }
         ensures mark { IsMarkOf 0 result }
+        ensures told { result ≡ mark_by (event_of outcome) self.new.printer.now.progress }
     {
         match outcome {
             Try::Value(reply) => self.take_answer(reply),
@@ -49,6 +52,7 @@ impl<'w, K: Sink> PrintWorld<'w, K> {
         ensures did { PrintsEvent N.asked.lines K.holds K.faults (Event.answered reply.place reply.number reply.reply) self.old self.new }
         ensures tally { self.new.tally.now ≡ self.old.tally.now }
         ensures mark { IsMarkOf 0 result }
+        ensures told { result ≡ mark_of self.new.printer.now.progress }
     {
         let (place, number, reply) = reply.into_parts();
         self.print(place, number, reply)
@@ -56,8 +60,9 @@ impl<'w, K: Sink> PrintWorld<'w, K> {
 
     // Prints that a query was cancelled.
     pub(crate) fn take_cancelled<N: RunName>(&mut self, reply: CancelledReply<N>) -> Mark
-        ensures ran { RunsEvent N.asked.lines K.holds K.faults self.old self.new }
+        ensures ran { RunsAs N.asked.lines K.holds K.faults (Event.cancelled reply.place reply.number) self.old self.new }
         ensures mark { IsMarkOf 0 result }
+        ensures told { result ≡ mark_of self.new.printer.now.progress }
     {
         let place = reply.place();
         self.print(place, reply.number(), Reply::Cancelled)
@@ -69,6 +74,7 @@ impl<'w, K: Sink> PrintWorld<'w, K> {
         ensures waits { IsUpToDate self.new.printer.now }
         ensures same { LeavesCounts self.old self.new }
         ensures mark { IsMarkOf 0 result }
+        ensures told { result ≡ mark_of self.new.printer.now.progress }
     {
         self.printer.print(
             self.alloc,
@@ -86,6 +92,7 @@ impl<'w, K: Sink> PrintWorld<'w, K> {
     fn miss(&mut self) -> Mark
         ensures missed { self.new ≡ record self.old { missed = true } }
         ensures mark { IsMarkOf 0 result }
+        ensures told { result ≡ mark.Memory }
     {
         self.missed = true;
         Mark::Memory

@@ -1,5 +1,5 @@
 use Rattle.run_printing.specs.Worlds.{sink_of}
-use Rattle.run_printing.proofs.Running.{has_printed, on_true, same_loans}
+use Rattle.run_printing.proofs.Running.{has_printed, on_false, on_true, same_loans, was_cut}
 use Rattle.run_printing.proofs.stage.print_all.Goals as goal
 
 pub returns-clause-printed : goal.returns-clause-printed
@@ -20,3 +20,9 @@ returns-clause-same_sink g c =
 pub returns-clause-same_tally : goal.returns-clause-same_tally
 returns-clause-same_tally g c =
     (same_loans _ g.N.RunName.asked.lines g.K.Sink.holds g.K.Sink.faults c.args.world.now c.loop_to_end.new.world c.args.base.now c.loop_to_end.new.base c.requires.world c.loop_to_end.ensures.ran).tally
+
+pub returns-clause-cut : goal.returns-clause-cut
+returns-clause-cut g c =
+    on_false c.loop_to_end.result
+    (was_cut _ g.N.RunName.asked.lines g.K.Sink.holds g.K.Sink.faults c.args.world.now c.loop_to_end.new.world c.args.base.now c.loop_to_end.new.base c.loop_to_end.result c.requires.world)
+    c.loop_to_end.ensures.cut
