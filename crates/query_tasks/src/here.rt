@@ -54,7 +54,8 @@ fn run_task_here<'c, 't, 'i: 't, N: RunName + 'static, R: Wait>(
     front: ExecId,
     callback: PartCallback<N>,
 ) -> DirectRecord
-    requires { shard < N.asked.shards }
+    requires shard { shard < N.asked.shards }
+    requires callback { (callback.number ≡ ask.number) × (callback.shard ≡ shard) }
     ensures follows { Follows world.old world.new }
     ensures ran { world.new.refused ≡ false → run_of_direct result ≡ run_at N.asked ask.entry queue front shard }
     ensures made { (n : ℕ) → MadeFor n world.old → MadeFor (n + 1) world.new }
@@ -73,6 +74,7 @@ fn core_in_turn<'c, 't, 'i: 't, N: RunName + 'static, R: Wait>(
     world: &mut TaskWorld<'c, 't, 'i, N>,
     no: u64,
 ) -> (TaskProducer<'t, N>, TaskConsumer<'t, N>)
+    ensures numbers { (result.0.no ≡ no) × (result.1.no ≡ no) }
     ensures follows { Follows world.old world.new }
     ensures made { (n : ℕ) → MadeFor n world.old → MadeFor (n + 1) world.new }
 {

@@ -1,5 +1,6 @@
 //! How the pool is ended.
 ghost use Rattle.std.specs.Prelude.{◌≡◌, ℕ, ◌+◌, ◌<◌, ◌≤◌, ◌++◌, [], true, false, length};
+ghost use Rattle.keep_alive.specs.Answers.{receipt_of};
 ghost use Rattle.pool_model.specs.Accounts.{AllRun};
 ghost use Rattle.pool_model.specs.declared.task.Ending.TheVariants.{Joins as PoolJoins, Stops as PoolStops};
 ghost use Rattle.pool_model.specs.Passes.{AreAllEnds, AreAllPasses, adds_total};
@@ -12,7 +13,7 @@ ghost use Rattle.run_tasks.specs.Worlds.{Follows, MadeFor, TaskRan};
 use crate::pool::{TaskAdder, TaskPool};
 use fan_parts::RunName;
 use job_trait::WorldFact;
-use keep_alive::KeepOwner;
+use keep_alive::{KeepOwner, Released};
 use prio_pool::{HelperEnd, Joining, Stopping, WorkerEnd};
 use run_notes::{PoolNotes, end_joined, end_stopped};
 use run_tasks::{ShardTask, TaskWorld};
@@ -27,19 +28,23 @@ pub enum Ending<'t, 'i: 't, N: RunName> {
     Stops(Stopping<ShardTask<'t, 'i, N>>),
 }
 
-/// Waits until each keep-alive of the pool is released, and begins to stop it, or to join it.
+/// Waits until each keep-alive of the pool is released, and begins to stop it, or to join it. The front's own was released: this is what its
+/// release answered.
 pub fn begin_end<'t, 'i: 't, N: RunName + 'static, R: Wait>(
     rt: &R,
     pool: &TaskPool<'t, 'i, N>,
     owner: KeepOwner,
     passes: Vec<TaskAdder<'t, 'i, N>>,
+    released: Released,
     stops: bool,
 ) -> Ending<'t, 'i, N>
     requires owner { owner.count ≡ pool.now.count }
     requires passes { AreAllPasses pool.now.id pool.now.adders passes.items }
+    requires released { (receipt_of released).count ≡ pool.now.count }
     ensures begun { HasBegun (end_for stops) pool.now passes.entry.items (seen_of result) }
     ensures stops { is_stop result ≡ stops }
 {
+    drop(released);
     if stops {
         Ending::Stops(begin_stop(rt, pool, owner, passes))
     } else {

@@ -87,6 +87,7 @@ fn start_task<'c, 't, 'i: 't, N: RunName + 'static, G: Gate, R: Wait>(
     requires room { length (adds_of adder.old) < 4294967295 }
     requires helper { helper.old.pool ≡ pool.now.id }
     requires shard { shard < N.asked.shards }
+    requires callback { (callback.number ≡ ask.number) × (callback.shard ≡ shard) }
     ensures helped { HasHelped world.old helper.old world.new helper.new }
     ensures added { OnOk result
         (HasAdded adder.old (add_on (queue_in pool.now.id priority) (head_on_pool N.asked ask.entry shard) ∷ []) adder.new) }
@@ -141,6 +142,7 @@ fn core_or_help<'c, 't, 'i: 't, N: RunName + 'static, G: Gate, R: Wait>(
     no: u64,
 ) -> (TaskProducer<'t, N>, TaskConsumer<'t, N>)
     requires { helper.old.pool ≡ pool.now.id }
+    ensures numbers { (result.0.no ≡ no) × (result.1.no ≡ no) }
     ensures helped { HasHelped world.old helper.old world.new helper.new }
     ensures made { (n : ℕ) → MadeFor n world.old → MadeFor (n + 1) world.new }
 {

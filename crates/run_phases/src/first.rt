@@ -94,8 +94,8 @@ pub fn first_phase<'c, 't, 'i: 't, N: RunName + 'static, G: Gate, R: Wait>(
         turns,
         end,
     );
-    let _released = keep.release();
-    let ending = begin_end(rt, pool, owner, adders, stop.is_some());
+    let released = keep.release();
+    let ending = begin_end(rt, pool, owner, adders, released, stop.is_some());
     let refused = match added {
         Ok(()) => false,
         Err(Memory) => true,

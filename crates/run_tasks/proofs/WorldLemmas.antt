@@ -8,9 +8,9 @@ use Rattle.fan_parts.specs.Seen.{PosterSeen}
 use Rattle.notify_queue.specs.Ends.{Sending}
 use Rattle.core_cells.specs.Seen.{SeenCells, SeenPass, WereFree}
 use Rattle.core_word.specs.Count.{Counts}
-use Rattle.core_word.specs.Seen.{SeenKey}
+use Rattle.core_word.specs.Seen.{HomeId, SeenKey}
 use Rattle.run_tasks.specs.Seen.{WorldSeen}
-use Rattle.run_tasks.specs.Leaving.{CountsLeave, CountsTasks, MakesMore, PutsBack, reopened_times, with_reopened}
+use Rattle.run_tasks.specs.Leaving.{CountsLeave, CountsTasks, LeavesCell, LeavesSome, MakesMore, PutsBack, reopened_times, with_reopened}
 use Rattle.job_trait.specs.Marks.{IsDone}
 use Rattle.job_trait.specs.Runs.{Leads, Ran, Through}
 use Rattle.pool_model.specs.Records.{Record, ran_of}
@@ -83,6 +83,17 @@ module _ {N : Type 0} where
     refused = λ down. sym (ap (λ (w : WorldSeen N). w.refused) is) ∙ down;
     handed = λ down. ap (λ (w : WorldSeen N). w.tally.handed) is;
   }
+
+  -- a core that is left, and a fire that may be posted behind that
+  pub left-some : (seen old : WorldSeen N) (home : HomeId) (use_number : ℕ) (mid new : SeenPass) (count counts : Counts) → seen ≡ old
+      → LeavesCell home use_number seen.pass seen.tally mid count → new ≡ mid → counts ≡ count → LeavesSome old.pass old.tally new counts
+  left-some seen old home use_number mid new count counts is leaves pass tally = (
+    home,
+    use_number,
+    subst (λ (w : WorldSeen N). LeavesCell home use_number w.pass w.tally new counts) is
+        (subst (λ (p : SeenPass). LeavesCell home use_number seen.pass seen.tally p counts) (sym pass)
+        (subst (λ (t : Counts). LeavesCell home use_number seen.pass seen.tally mid t) (sym tally) leaves)),
+  )
 
   -- one end more, where the ends that are still to come fit behind it
   pub ends-more : (all told : List PosterTold) (ends : List (Sending (GatherJob N))) (p : PosterSeen (GatherJob N)) (e : Sending (GatherJob N))

@@ -1,6 +1,9 @@
 -- What leaving a core of a cell does to a pass of the cells and to a tally.
 use Rattle.std.specs.Prelude.{◌≡◌, ◌⊎◌, ℕ, zero, suc, ◌≤◌, [], ◌∷◌, ◌++◌}
 use Rattle.core_cells.specs.Seen.{SeenPass, WereFree}
+use Rattle.core_state.specs.declared.schedule.Demand.{Demand}
+use Rattle.core_state.specs.declared.schedule.Demand.TheVariants.{Callback}
+use Rattle.core_state.specs.declared.schedule.Request.{Request}
 use Rattle.core_word.specs.Count.{Counts, added, raised}
 use Rattle.core_word.specs.Seen.{HomeId, SeenKey}
 
@@ -16,6 +19,14 @@ PutsBack key old new = (new ≡ record old { put = old.put ++ key ∷ [] }) ⊎ 
 abbrev pub LeavesCell : HomeId → ℕ → SeenPass → Counts → SeenPass → Counts → Type 0
 LeavesCell home use_number old count new counts =
     ((new ≡ old) × (counts ≡ count)) ⊎ (PutsBack (record { home = home; use_number = suc use_number }) old new × (counts ≡ with_reopened count))
+
+-- One core was left, of some home and use: where its other half had left, and only there, its cell was given back and counted.
+abbrev pub LeavesSome : SeenPass → Counts → SeenPass → Counts → Type 0
+LeavesSome old count new counts = (home : HomeId) × (use_number : ℕ) × LeavesCell home use_number old count new counts
+
+-- a callback was set
+abbrev pub HasDemanded : {C : Type 0} → Demand C → Type 0
+HasDemanded {C} demand = (request : Request C) × (demand ≡ Callback request)
 
 -- What leaving one core does to a tally: nothing, where the other half hadn't left; or a core was freed, and its home is ready for another use.
 abbrev pub CountsLeave : Counts → Counts → Type 0

@@ -12,7 +12,7 @@ use Rattle.fan_parts.specs.declared.jobs.GatherJob.{GatherJob}
 use Rattle.fan_parts.specs.Heads.{gather_head}
 use Rattle.fan_parts.specs.Seen.{PosterSeen}
 use Rattle.run_tasks.specs.Seen.{WorldSeen}
-use Rattle.run_tasks.specs.Leaving.{CountsLeave, MakesMore}
+use Rattle.run_tasks.specs.Leaving.{CountsLeave, LeavesSome, MakesMore}
 
 -- which poster it is: its queue, its number there, and the executor of its base
 pub record PosterTold : Type 0 where
@@ -54,6 +54,7 @@ module _ {N : Type 0} where
     pub follows : Follows old new
     pub done : new.refused ≡ false → IsDone mark
     pub tally : new.refused ≡ false → CountsLeave old.tally new.tally
+    pub left : new.refused ≡ false → LeavesSome old.pass old.tally new.pass new.tally
 
   -- at each place the end of that poster, all of whose messages have its base's executor
   abbrev pub AreEndsFor : List PosterTold → List (Sending (GatherJob N)) → Type 0

@@ -1,12 +1,12 @@
 ghost use Rattle.std.specs.Prelude.{◌≡◌, false};
 ghost use Rattle.run_tasks.specs.Worlds.{Follows, TaskRan};
 
-use crate::answer::{Answered, answer_shard};
+use crate::answer::answer_task;
 use crate::leave::leave_cell;
 use crate::task::ShardTask;
 use crate::world::TaskWorld;
 use core_word::Landed;
-use fan_base::{Mark, Memory, Refused, Try};
+use fan_base::{Mark, Refused};
 use fan_parts::{GatherJob, RunName, TaskFire, spend_gather_job};
 use job_trait::Job;
 use std::sync::Wait;
@@ -16,6 +16,7 @@ impl<'c, 't, 'i: 't, N: RunName> TaskWorld<'c, 't, 'i, N> {
     pub(crate) fn post<R: Wait>(&mut self, rt: &R, fire: TaskFire<N>)
         ensures follows { Follows self.old self.new }
         ensures tally { self.new.refused ≡ false → self.new.tally ≡ self.old.tally }
+        ensures pass { self.new.pass ≡ self.old.pass }
     {
         let base = fire.callback().exec().0 - 1;
         match self.posters[base as usize].post(rt, GatherJob::Task(fire)) {
@@ -41,13 +42,7 @@ impl<'c, 't, 'i: 't, N: RunName> Job<TaskWorld<'c, 't, 'i, N>> for ShardTask<'t,
             exec: _,
         } = self;
         let alloc = *world.posters.allocator();
-        let (outcome, mark) = match answer_shard(alloc, &world.shards, &ask, shard) {
-            Ok(Answered { part, count }) => (Try::Value(part), Mark::Done(count)),
-            Err(Memory) => {
-                world.refused = true;
-                (Try::Memory, Mark::Memory)
-            }
-        };
+        let (outcome, mark) = answer_task(alloc, &world.shards, &ask, shard, &mut world.refused);
         let (landed, left) = producer.set_result(outcome);
         leave_cell(rt, world.cells, &mut world.pass, left, &mut world.tally);
         match landed {

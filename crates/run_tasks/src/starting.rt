@@ -1,8 +1,9 @@
 //! What the front does with the core of a task: it begins it in a free cell, and sets its callback.
-ghost use Rattle.std.specs.Prelude.{◌≡◌, IfSome, IfNone, true, false};
-ghost use Rattle.core_cells.specs.Seen.{WereFree};
+ghost use Rattle.std.specs.Prelude.{◌≡◌, ◌∷◌, [], ◌++◌, IfSome, IfNone, true, false};
+ghost use Rattle.core_cells.specs.Seen.{WereFree, key_of_half};
 ghost use Rattle.core_word.specs.Count.{raised};
-ghost use Rattle.run_tasks.specs.Leaving.{CountsLeave, LeavesCell};
+ghost use Rattle.fan_model.specs.Tasks.{job_of};
+ghost use Rattle.run_tasks.specs.Leaving.{CountsLeave, HasDemanded, LeavesCell, LeavesSome};
 ghost use Rattle.run_tasks.specs.Worlds.{Follows};
 
 use crate::leave::leave_cell;
@@ -23,6 +24,7 @@ impl<'c, 't, 'i: 't, N: RunName> TaskWorld<'c, 't, 'i, N> {
     ) -> Option<(TaskProducer<'t, N>, TaskConsumer<'t, N>)>
         ensures follows { Follows self.old self.new }
         ensures core { IfSome result (λ halves. (halves.0.no ≡ no) × (halves.1.no ≡ no) × (halves.0.home ≡ halves.1.home) × (halves.0.use_number ≡ halves.1.use_number)) }
+        ensures took { IfSome result (λ halves. self.new.pass ≡ record self.old.pass { took = self.old.pass.took ++ key_of_half halves.1 ∷ [] }) }
         ensures counted { IfSome result (λ halves. self.new.tally ≡ record self.old.tally { made = raised self.old.tally.made }) }
         ensures none { IfNone result (self.new ≡ self.old) }
         ensures empty { IfNone result (WereFree 0 self.old.pass) }
@@ -33,15 +35,18 @@ impl<'c, 't, 'i: 't, N: RunName> TaskWorld<'c, 't, 'i, N> {
         }
     }
 
-    /// Sets the callback of a task's core, and leaves. Where the part was there, the fire is posted to the base of the callback.
+    /// Sets the callback of a task's core, which has the number of the callback's task, and leaves. Where the part was there, the fire is
+    /// posted to the base of the callback.
     pub fn give<R: Wait>(
         &mut self,
         rt: &R,
         consumer: TaskConsumer<'t, N>,
         callback: PartCallback<N>,
     )
+        requires core { consumer.no ≡ (job_of callback.number callback.shard).0 }
         ensures follows { Follows self.old self.new }
         ensures tally { self.new.refused ≡ false → CountsLeave self.old.tally self.new.tally }
+        ensures left { self.new.refused ≡ false → LeavesSome self.old.pass self.old.tally self.new.pass self.new.tally }
     {
         let (met, left) = consumer.set_callback_inline(callback);
         leave_by_consumer(rt, self.cells, &mut self.pass, left, &mut self.tally);
@@ -81,7 +86,8 @@ fn leave_by_consumer<'h, T: Drop, C, P: Drop, R: Wait>(
     left: LeftC<'h, T, C, P>,
     t: &mut Tally,
 )
-    requires { pass.old.cells ≡ cells.now }
+    requires of { pass.old.cells ≡ cells.now }
+    requires set { HasDemanded left.demand }
     ensures { LeavesCell left.entry.home left.entry.use_number pass.old t.old pass.new t.new }
 {
     match left.leave() {

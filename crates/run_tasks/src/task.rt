@@ -1,4 +1,5 @@
 ghost use Rattle.std.specs.Prelude.{◌≡◌, ◌<◌};
+ghost use Rattle.fan_model.specs.Tasks.{job_of};
 ghost use Rattle.run_tasks.specs.Heads.{task_head};
 
 use fan_base::{ExecId, JobId};
@@ -31,14 +32,16 @@ impl<'t, 'i, N: RunName> Model for ShardTask<'t, 'i, N> {
 }
 
 impl<'t, 'i: 't, N: RunName> ShardTask<'t, 'i, N> {
-    /// The task of this query over the shard with this number. It sets the value of the producer's core, and runs on this executor.
+    /// The task of this query over the shard with this number. It sets the value of the producer's core, which has the task's number, and
+    /// runs on this executor.
     pub fn new(
         producer: TaskProducer<'t, N>,
         ask: NumberedAsk<'i, N>,
         shard: u32,
         exec: ExecId,
     ) -> ShardTask<'t, 'i, N>
-        requires { shard < N.asked.shards }
+        requires shard { shard < N.asked.shards }
+        requires core { producer.no ≡ (job_of ask.number shard).0 }
         ensures { result ≡ record { producer = producer.entry; ask = ask.entry; shard = shard; exec = exec } }
     {
         ShardTask {
