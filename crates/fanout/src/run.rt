@@ -40,6 +40,7 @@ pub fn fan_run<K: Sink + Send, G: Gate, R: Threads + Wait + Sync>(
     ensures writes { Writes input.now (shown (K.holds sink.old) (K.faults sink.old)) (shown (K.holds sink.new) (K.faults sink.new)) result.outcome }
     ensures reports { Reports (asking_of input.now.lines (length shards.now) knobs) result }
     ensures unmade { result.pool ≡ None → TellsNoRun result }
+    ensures untouched { result.pool ≡ None → shown (K.holds sink.new) (K.faults sink.new) ≡ shown (K.holds sink.old) (K.faults sink.old) }
     ensures stopped { IfSome result.pool (IsPoolTold (asking_of input.now.lines (length shards.now) knobs)) }
 {
     fan_run_named::<Brand, K, G, R>(rt, alloc, &input.lines, shards, knobs, sink, gate)

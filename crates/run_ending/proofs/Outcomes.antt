@@ -1,5 +1,5 @@
 -- How a run ends, by how printing ended and by what was noted and compared.
-use Rattle.std.proofs.Common.{◌≡◌, Bool, true, false, [], inl, inr, refl, sym, subst, append-nil}
+use Rattle.std.proofs.Common.{◌≡◌, Bool, true, false, [], inl, inr, refl, sym, subst, ◌∙◌, append-nil}
 use Rattle.std.specs.Prelude.{Option, Some, None, IfSome}
 use Rattle.std.specs.Io.KnownBytes.{Appends}
 use Rattle.fan_base.specs.Outside.{Shown}
@@ -42,6 +42,7 @@ ended start now asked end note fine o is wrote told unmade has stopped = record 
   writes = subst (λ (x : FanOutcome). WritesText (text_of asked.lines) start now x) (sym is) (writes start now asked fine o wrote);
   reports = subst (λ (x : FanOutcome). ReportsAs asked end x) (sym is) (reports asked end fine o told);
   unmade = unmade;
+  untouched = λ none. let q : None ≡ Some note = sym none ∙ has in cc;
   stopped = subst (λ (p : Option PoolNote). IfSome p (IsPoolTold asked)) (sym has) stopped;
 }
 
@@ -51,6 +52,7 @@ refused_end asked start end is none_made nothing = record {
   writes = subst (λ (x : FanOutcome). WritesText (text_of asked.lines) start start x) (sym is) (none start (text_of asked.lines));
   reports = subst (λ (x : FanOutcome). ReportsAs asked end x) (sym is) tt;
   unmade = λ none. nothing;
+  untouched = λ none. refl;
   stopped = subst (λ (p : Option PoolNote). IfSome p (IsPoolTold asked)) (sym none_made) tt;
 }
   where

@@ -86,4 +86,5 @@ pub record IsEndOf (asked : Asking) (start now : Shown) (end : FanEnd) : Type 0 
   pub writes : WritesText (text_of asked.lines) start now end.outcome
   pub reports : Reports asked end
   pub unmade : end.pool ≡ None → TellsNoRun end
+  pub untouched : end.pool ≡ None → now ≡ start
   pub stopped : IfSome end.pool (IsPoolTold asked)

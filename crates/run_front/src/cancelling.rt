@@ -1,4 +1,4 @@
-ghost use Rattle.std.specs.Prelude.{◌≡◌, ◌++◌, ◌∷◌, [], OnOk};
+ghost use Rattle.std.specs.Prelude.{◌≡◌, ◌++◌, ◌∷◌, [], OnErr, OnOk};
 ghost use Rattle.query_opening.specs.Turns.{IsCancelled};
 ghost use Rattle.run_tasks.specs.Worlds.{told_of};
 ghost use Rattle.run_front.specs.Fronts.{IsFrontOf};
@@ -23,6 +23,7 @@ pub(crate) fn cancel_query<'c, 't, 'i: 't, N: RunName + 'static, R: Wait>(
     ensures front { IsFrontOf N.asked front.new }
     ensures printer { told_of front.new.printer ≡ told_of front.old.printer }
     ensures posted { OnOk result (front.new.printer.sender.sent ≡ front.old.printer.sender.sent ++ cancelled_job N.asked place number ∷ []) }
+    ensures unposted { OnErr result (front.new.printer ≡ front.old.printer) }
     ensures world { front.new.world ≡ front.old.world }
 {
     let reply = cancelled_reply::<N>(place, number, ExecId(front.bases + 1));
