@@ -26,7 +26,7 @@ use std::thread::Threads;
 
 /// Does what the words ask for. For `run` it reads the source to its end, and writes the replies, or the error line of the first
 /// line that is refused. For `gen` it reads nothing, and writes the line that sums up the replies to the input that is made up.
-/// The replies are made over threads, and the gate is called round each task. It may wait.
+/// The replies are made over threads, and a worker calls the gate round each task that it takes. It may wait.
 pub fn query_main<S: Source, K: Sink + Send, G: Gate, R: Threads + Wait + Sync>(
     rt: &R,
     alloc: Global,

@@ -20,8 +20,8 @@ use std::alloc::Global;
 use std::sync::Wait;
 use std::thread::Threads;
 
-/// Answers the queries of a text over so many shards of its documents, 1 to 64, and writes the replies to the sink. The gate is called round
-/// each task. What of a text isn't an input is refused, and then nothing is written.
+/// Answers the queries of a text over so many shards of its documents, 1 to 64, and writes the replies to the sink. A worker calls the gate round
+/// each task that it takes. What of a text isn't an input is refused, and then nothing is written.
 pub fn answer_text<K: Sink + Send, G: Gate, R: Threads + Wait + Sync>(
     rt: &R,
     alloc: Global,
