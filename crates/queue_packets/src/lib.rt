@@ -1,11 +1,11 @@
-//! Items on their way through a queue, each with an empty block of memory beside it, in which it lies where it is left at the queue's end. So
-//! an end takes no memory, however much is left.
+//! Items on their way through a queue, each in a block of memory of its own. The blocks of what is left at the queue's end are strung together
+//! by themselves, so an end takes no memory, however much is left.
 //!
 //! ```text
 //!   Block::new                    --> Block          empty: the one call that takes memory
-//!   Packet::new   item, block     --> Packet         goes through the queue, the block unused beside the item
+//!   Packet::new   item, block     --> Packet         the item lies in the block, whose pointer goes through the queue
 //!   open          a packet        --> item, block    taken: the block may be used for another item
-//!   push_front    a packet        --> Packets        left at the end: the item is put into its block, before the others
+//!   push_front    a packet        --> Packets        left at the end: its block is strung before the others
 //!   pop_front     Packets         --> item           one by one
 //!   Blocks        push_front, pop_front              blocks that wait for another item, in an order
 //! ```

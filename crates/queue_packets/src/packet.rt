@@ -1,54 +1,60 @@
-// Items beside their blocks, and items in them.
+// Items in their blocks, and such blocks in an order.
 ghost use Rattle.std.specs.Prelude.{◌≡◌, [], ◌∷◌, Some, reverse, MatchOption};
 
 use crate::block::{Block, Blocks};
 use std::marker::Model;
-use std::mem::ManuallyDrop;
+use std::snapshot::Snapshot;
 
-/// An item, and a block for it beside it. Contracts see the item. It may be dropped, which frees the block and forgets the item.
+/// An item in a block. Contracts see the item. It may be dropped, which frees the block and forgets the item.
 pub struct Packet<X> {
-    item: ManuallyDrop<X>,
     block: Block<X>,
+    // The item as contracts see it. It has no bytes.
+    seen: Snapshot<X>,
 }
 
 impl<X> Model for Packet<X> {
-    ghost use Rattle.std.specs.Mem.{manually_drop_value};
+    ghost use Rattle.std.specs.Prelude.{◌≡◌, Some};
 
     ghost Value = { X };
 
-    ghost view = { λ packet. manually_drop_value packet.item };
+    ghost view = { λ packet. packet.seen.value };
+
+    ghost invariant = { λ packet. packet.block ≡ Some packet.seen.value };
 }
 
 impl<X> Packet<X> {
-    /// The item with this block beside it, which isn't touched.
-    pub fn new(item: X, block: Block<X>) -> Packet<X>
+    /// Puts the item into the block. What lay there is forgotten.
+    pub fn new(item: X, mut block: Block<X>) -> Packet<X>
         ensures { result ≡ item }
     {
-        let item = unsafe { ManuallyDrop::new_unchecked(item) };
-        Packet { item, block }
+        let seen = Snapshot::of(&item);
+        block.fill(item);
+        Packet { block, seen }
     }
 
-    /// The item, and the block that was beside it, which may be used for another item. It isn't touched either.
+    /// Takes the item out. The block is empty then, and may be used for another item.
     pub fn open(self) -> (X, Block<X>)
         ensures { result.0 ≡ self }
     {
-        let Packet { item, block } = self;
-        (ManuallyDrop::into_inner(item), block)
+        let Packet { mut block, seen: _ } = self;
+        let Some(item) = block.take() else {
+            unreachable!()
+        };
+        (item, block)
     }
 
-    /// The block, in which the item lies then.
+    /// The block with the item in it.
     fn into_block(self) -> Block<X>
         ensures { result ≡ Some self }
     {
-        let (item, mut block) = self.open();
-        block.fill(item);
+        let Packet { block, seen: _ } = self;
         block
     }
 }
 
 impl<X> Drop for Packet<X> {
     fn drop(self) {
-        let Packet { item: _, block: _ } = self;
+        let Packet { block: _, seen: _ } = self;
     }
 }
 

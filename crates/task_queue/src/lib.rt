@@ -14,7 +14,7 @@
 //! - Between any two steps there is one lawful history (`PoolHistory` of `pool_model`): each adder's pushes are what it accepted
 //!   by that adder, each taker's pops what it has taken by that taker, and what waits is what the queue holds.
 //! - `settle` asks for all passes, and hands out what is left, in order, with the one whole history (`Settled`). It takes no
-//!   memory: a task lies in the queue's own slot, and an empty block for it travels beside it, which the takers give back.
+//!   memory: a task lies in a block of its own, whose pointer goes through the queue, and which the takers give back empty.
 //! - Each look, at a queue or at the mark, is noted in order (`Looks`), with what it found, and nothing else makes that list
 //!   longer. So contracts above can say that a queue was found empty within a call, or behind another look.
 //! - While no end has begun the adders have all parts of the mark. `begin` needs them all and spends them, so whoever found an
