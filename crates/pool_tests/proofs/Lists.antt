@@ -109,3 +109,18 @@ two_new pool l new p q is both unused numbered =
       record { of_pool = first.0; number_is = (order.each 0 p (omega arith)).1; added = ap length first.1 },
       record { of_pool = second.0; number_is = (order.each 1 p (omega arith)).1; added = ap length second.1 },
     )
+
+-- Two helpers' passes that are new are of their pool.
+pub two_helpers : (pool : PoolId) (l new : List EndSeen) (e f : EndSeen) → l ≡ new → l ≡ e ∷ f ∷ [] → All (λ x. x.pool ≡ pool) new → (e.pool ≡ pool) × (f.pool ≡ pool)
+two_helpers pool l new e f is both all =
+    let OfPool : EndSeen → Type 0 = λ x. x.pool ≡ pool in
+    let these : All OfPool (e ∷ f ∷ []) = subst (All OfPool) (sym is ∙ both) all in
+    (All-head OfPool e (f ∷ []) these, All-head OfPool f [] (All-tail OfPool e (f ∷ []) these))
+
+-- Of two items, both of which are taken, none is left, and these are all.
+pub none_of_two : {X : Type 0} (all mid rest : List X) (x y : X) → all ≡ mid ++ y ∷ [] → mid ≡ rest ++ x ∷ [] → length all ≡ 2 → length rest ≡ 0
+none_of_two all mid rest x y second first two = omega (arith, two, ap length second, length-append mid (y ∷ []), ap length first, length-append rest (x ∷ []))
+
+pub both_are : {X : Type 0} (all mid rest : List X) (x y : X) → all ≡ mid ++ y ∷ [] → mid ≡ rest ++ x ∷ [] → length all ≡ 2 → all ≡ x ∷ y ∷ []
+both_are all mid [] x y second first two = second ∙ ap (λ (l : List _). l ++ y ∷ []) first
+both_are all mid (z ∷ zs) x y second first two = absurd (omega (arith, none_of_two all mid (z ∷ zs) x y second first two))

@@ -1,6 +1,6 @@
 // Pools on one thread and on several.
-ghost use Rattle.std.specs.Prelude.{◌≡◌, ◌⊎◌, ◌+◌, ◌<◌, ◌≤◌, ◌∷◌, ◌++◌, [], true, false, length, map, option_to_list, vec_capacity, All, Contains, IfSome, Some, None};
-ghost use Rattle.pool_model.specs.Passes.{AreAllEnds, adds_of};
+ghost use Rattle.std.specs.Prelude.{◌≡◌, ◌⊎◌, ◌+◌, ◌<◌, ◌≤◌, ◌∷◌, ◌++◌, [], length, map, option_to_list, vec_capacity, All, Contains, IfSome, Some, None};
+ghost use Rattle.pool_model.specs.Passes.{AreAllPasses, AreAllEnds, adds_of};
 ghost use Rattle.prio_pool.specs.Made.{IsNewPool};
 ghost use Rattle.pool_tests.specs.Ending.{IsAdding, IsHelper, HasBegunToEnd, tests_exec};
 
@@ -116,33 +116,7 @@ struct Adding<J> {
     helper: Option<HelperPass<J>>,
 }
 
-// Adds a task. It gets the ticket of the one adder with this index. Where memory is refused the job comes back.
-fn is_added<J: Numbered, R: Abort + Wait>(
-    rt: &R,
-    pool: &Pool<J>,
-    adding: &mut Adding<J>,
-    priority: i8,
-    id: u64,
-    index: u64,
-) -> bool
-    requires adding { IsAdding pool.now adding.old.owner adding.old.keep adding.old.pass adding.old.helper index }
-    requires room { index < 4294967295 }
-    ensures added { result ≡ true → IsAdding pool.now adding.new.owner adding.new.keep adding.new.pass adding.new.helper (index + 1) }
-    ensures refused { result ≡ false → IsAdding pool.now adding.new.owner adding.new.keep adding.new.pass adding.new.helper index }
-{
-    match pool.add(rt, &adding.keep, &mut adding.pass, priority, J::of(id)) {
-        Ok(ticket) => {
-            same(rt, (ticket.adder, ticket.index), (0, index));
-            true
-        }
-        Err(Refused::Memory(job)) => {
-            same(rt, job.taken_apart(), id);
-            false
-        }
-    }
-}
-
-// Adds a task, and once more where memory is refused.
+// Adds a task. It gets the ticket of the one adder with this index. Where memory is refused the job comes back, and another is added once more.
 fn add<J: Numbered, R: Abort + Wait>(
     rt: &R,
     pool: &Pool<J>,
@@ -155,11 +129,16 @@ fn add<J: Numbered, R: Abort + Wait>(
     requires room { index < 4294967295 }
     ensures { IsAdding pool.now adding.new.owner adding.new.keep adding.new.pass adding.new.helper (index + 1) }
 {
-    if !is_added(rt, pool, adding, priority, id, index)
-        && !is_added(rt, pool, adding, priority, id, index)
-    {
-        rt.panic("memory")
+    for _ in 0..2 {
+        match pool.add(rt, &adding.keep, &mut adding.pass, priority, J::of(id)) {
+            Ok(ticket) => {
+                same(rt, (ticket.adder, ticket.index), (0, index));
+                return;
+            }
+            Err(Refused::Memory(job)) => same(rt, job.taken_apart(), id),
+        }
     }
+    rt.panic("memory")
 }
 
 // Adds the first tasks of a pass, each with its priority and id. (A loop, since each add in a row of calls makes the next one dearer to prove.)
@@ -247,8 +226,35 @@ struct Begun<J: Headed> {
     helped: Vec<HelperEnd<J>>,
 }
 
-// Lets the keep-alive go, and begins to stop or to join. (Tests call the pool by such functions, which tell them no more than they need.)
-#[tactic(auto, using(crate::proofs::Lists::all_helped))]
+// Begins to stop or to join, with the passes of all adders. (Tests call the pool by such functions, which tell them no more than they need.)
+fn begin_with<J: Headed, R: Wait>(
+    rt: &R,
+    pool: &Pool<J>,
+    owner: KeepOwner,
+    passes: Vec<PoolPass<J>>,
+    helped: Vec<HelperEnd<J>>,
+    stops: bool,
+) -> Begun<J>
+    requires owner { owner.count ≡ pool.now.count }
+    requires passes { AreAllPasses pool.now.id pool.now.adders passes.items }
+    requires helped { AreAllEnds pool.now.id pool.now.helpers helped.items }
+    ensures { HasBegunToEnd pool.now result.ending result.helped.items }
+{
+    if stops {
+        let ending = Err(pool.begin_stop(rt, owner, passes));
+        Begun { ending, helped }
+    } else {
+        let ending = Ok(pool.begin_join(rt, owner, passes));
+        Begun { ending, helped }
+    }
+}
+
+// Lets a keep-alive go.
+fn let_go(keep: KeepAlive) {
+    let _ = keep.release();
+}
+
+// Lets the keep-alive go, ends the helper, and begins to stop or to join.
 fn begin_to_end<J: Headed, R: Abort + Wait>(
     rt: &R,
     alloc: Global,
@@ -265,16 +271,10 @@ fn begin_to_end<J: Headed, R: Abort + Wait>(
         pass,
         helper,
     } = adding;
-    let _ = keep.release();
+    let_go(keep);
     let helped = end_helper(rt, alloc, helper);
     let passes = list_of(rt, alloc, pass);
-    if stops {
-        let ending = Err(pool.begin_stop(rt, owner, passes));
-        Begun { ending, helped }
-    } else {
-        let ending = Ok(pool.begin_join(rt, owner, passes));
-        Begun { ending, helped }
-    }
+    begin_with(rt, pool, owner, passes, helped, stops)
 }
 
 // Works with the one worker of a pool.
@@ -380,15 +380,22 @@ struct Opened<J: Headed> {
     workers: Vec<Worker<J>>,
 }
 
-// Makes such a pool. Where memory is refused it is asked for once more.
-fn new_pool<J: Headed, R: Abort>(rt: &R, alloc: Global, workers: u32, helpers: u32) -> PoolParts<J>
+// Makes a pool of three queues. Where memory is refused it is asked for once more.
+fn new_pool<J: Headed, R: Abort>(
+    rt: &R,
+    alloc: Global,
+    adders: u32,
+    workers: u32,
+    helpers: u32,
+) -> PoolParts<J>
+    requires adders { (0 < adders) × (adders ≤ 64) }
     requires workers { (0 < workers) × (workers ≤ 64) }
-    requires helpers { helpers ≤ 1 }
-    ensures { IsNewPool tests_exec 3 1 workers helpers 0 result.pool result.owner result.keep result.adders.items result.workers.items result.helpers.items }
+    requires helpers { helpers ≤ 64 }
+    ensures { IsNewPool tests_exec 3 adders workers helpers 0 result.pool result.owner result.keep result.adders.items result.workers.items result.helpers.items }
 {
-    match Pool::new(alloc, ExecId(7), 3, 1, workers, helpers, 0) {
+    match Pool::new(alloc, ExecId(7), 3, adders, workers, helpers, 0) {
         Ok(parts) => parts,
-        Err(_) => Pool::new(alloc, ExecId(7), 3, 1, workers, helpers, 0).expect(rt, "memory"),
+        Err(_) => Pool::new(alloc, ExecId(7), 3, adders, workers, helpers, 0).expect(rt, "memory"),
     }
 }
 
@@ -407,7 +414,7 @@ fn open_pool<J: Headed, R: Abort>(rt: &R, alloc: Global, workers: u32, helpers: 
         adders,
         workers,
         mut helpers,
-    } = new_pool(rt, alloc, workers, helpers);
+    } = new_pool(rt, alloc, 1, workers, helpers);
     let pass = only_of(rt, adders);
     let helper = helpers.pop();
     helpers.destroy_empty();
@@ -616,7 +623,7 @@ fn run_what_comes_back<J: Numbered, R: Abort + Wait>(rt: &R, alloc: Global) {
     same(rt, world.len(), 0);
     let job = first_back(rt, &mut returned);
     run_back(rt, &mut returned, &mut world, (1, 1, 21), 10);
-    assert!(rt; returned.run_next(rt, &mut world).is_none());
+    same(rt, returned.run_next(rt, &mut world).is_none(), true);
     run_outside(rt, job, &mut world);
     check_list(rt, world, &[21, 20]);
 }
@@ -658,22 +665,15 @@ fn put_back<J: Numbered, R: Abort>(rt: &R, indexes: &mut Vec<u64>, mut returned:
     same(rt, next_back(&mut returned), None);
 }
 
-// Ends a pool whose tasks have the indexes of their tickets as ids, and of which none is left where it is joined. Each of so many has to have
-// a record, or to be handed back, once. It gives how many have a record.
-fn end_once<J: Numbered, R: Abort + Wait>(
+// What is left of a pool whose tasks have the indexes of their tickets as ids. Each of so many has to have a record, or to be handed back,
+// once. It gives how many have a record.
+fn check_tasks<J: Numbered, R: Abort>(
     rt: &R,
     alloc: Global,
-    pool: Pool<J>,
-    begun: Begun<J>,
-    ends: Vec<WorkerEnd<J>>,
+    left: (Runs, Returned<J>),
     tasks: usize,
-) -> u64
-    requires begun { HasBegunToEnd pool begun.ending begun.helped.items }
-    requires ends { AreAllEnds pool.id pool.workers ends.items }
-{
-    let mut world = Vec::new(alloc);
-    let (ran, returned) = end_pool(rt, pool, begun, ends, &mut world, tasks);
-    same(rt, world.len(), 0);
+) -> u64 {
+    let (ran, returned) = left;
     let records = ran.len();
     let mut indexes = Vec::new(alloc);
     put_ran(rt, &mut indexes, ran);

@@ -167,7 +167,7 @@ pub total_is : (passes : List PassSeen) (first : PassSeen) (rest : List PassSeen
 total_is passes first rest own others items first_is rest_is = (λ i. first_is i + rest_is i) ∙ (sym (sum_by-cons (λ (p : PassSeen). length (adds_of p)) first rest) ∙ sym (ap adds_total items))
 
 -- all passes of each queue, put together one kind behind the other
-pub put_together : (whole : ℕ) (qs : List (SegId Global)) (first : PassSeen) (others : List PassSeen) (ends helped : List EndSeen) (l0 l1 l2 l3 : List GatheredSeen) → first.pool.passes ≡ whole → l0 ≡ gathered_from first.pool.passes (first ∷ []) [] 0 qs
-    → AddersMore whole qs l0 others l1 → EndsMore whole qs l1 ends l2 → EndsMore whole qs l2 helped l3 → l3 ≡ gathered_from whole (first ∷ others) (ends ++ helped) 0 qs
-put_together whole qs first others ends helped l0 l1 l2 l3 own is more worked helps =
-    helps (first ∷ others) ends (worked (first ∷ others) [] (more (first ∷ []) [] (is ∙ ap (λ (n : ℕ). gathered_from n (first ∷ []) [] 0 qs) own)))
+pub put_together : (whole : ℕ) (qs : List (SegId Global)) (first : PassSeen) (others : List PassSeen) (ends : List EndSeen) (l0 l1 l2 : List GatheredSeen) → first.pool.passes ≡ whole → l0 ≡ gathered_from first.pool.passes (first ∷ []) [] 0 qs
+    → AddersMore whole qs l0 others l1 → EndsMore whole qs l1 ends l2 → l2 ≡ gathered_from whole (first ∷ others) ends 0 qs
+put_together whole qs first others ends l0 l1 l2 own is more ended =
+    ended (first ∷ others) [] (more (first ∷ []) [] (is ∙ ap (λ (n : ℕ). gathered_from n (first ∷ []) [] 0 qs) own))

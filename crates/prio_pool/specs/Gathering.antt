@@ -1,5 +1,5 @@
 -- The passes of all queues, put together queue by queue.
-use Rattle.std.specs.Prelude.{◌≡◌, ℕ, zero, suc, ◌+◌, List, [], ◌∷◌, ◌++◌, Option, Some, None, ◌≢◌, length, map, slice_get, slice_set}
+use Rattle.std.specs.Prelude.{◌≡◌, ℕ, zero, suc, ◌+◌, List, [], ◌∷◌, ◌++◌, Option, Some, None, ◌≢◌, length, map, reverse, slice_get, slice_set}
 use Rattle.std.specs.declared.alloc.Global.{Global}
 use Rattle.atomic_table.specs.Seated.{TableId}
 use Rattle.crossbeam_queue.specs.SegTies.{SegId}
@@ -82,6 +82,10 @@ AddersMore whole queues old more new = (passes : List PassSeen) (ends : List End
 -- these ends more
 abbrev pub EndsMore : ℕ → List (SegId Global) → List GatheredSeen → List EndSeen → List GatheredSeen → Type 0
 EndsMore whole queues old more new = (passes : List PassSeen) (ends : List EndSeen) → old ≡ gathered_from whole passes ends 0 queues → new ≡ gathered_from whole passes (ends ++ more) 0 queues
+
+-- the ends that are left of two lists which were turned round, in the order in which they come
+abbrev pub ends_left : List EndSeen → List EndSeen → List EndSeen
+ends_left ends helped = reverse ends ++ reverse helped
 
 -- the end is of this pool
 pub record IsOf (whole : ℕ) (queues : List (SegId Global)) (mark : TableId) (e : EndSeen) : Type 0 where

@@ -13,7 +13,7 @@ use crate::passes::{HelperEnd, WorkerEnd};
 use crate::pool::Pool;
 use crate::runs::Runs;
 use crate::settle::settle_all;
-use crate::together::{put_helpers, put_passes, put_workers};
+use crate::together::{put_ends, put_passes};
 use job_trait::{Headed, Job};
 use pool_runs::{Rest, Returned, RunRecord, append, drain, hand_back};
 use std::collections::LinkedList;
@@ -38,7 +38,7 @@ impl<J: Headed> Pool<J> {
         self,
         rt: &R,
         mut passes: LinkedList<Adders<J>>,
-        mut begun: Watch,
+        begun: Watch,
         ends: Vec<WorkerEnd<J>>,
         helped: Vec<HelperEnd<J>>,
     ) -> (u64, LinkedList<RunRecord>, Vec<Rest<J>>)
@@ -72,24 +72,15 @@ impl<J: Headed> Pool<J> {
         let own = first.count();
         let (mut gathered, rests) = first.gather(&queues);
         let others = put_passes(&queues, &mut gathered, passes, whole);
-        let mut records = LinkedList::new(alloc);
-        put_workers(
+        let records = put_ends(
+            alloc,
             &queues,
             mark.mark(),
             whole,
             &mut gathered,
-            &mut begun,
+            begun,
             ends,
-            &mut records,
-        );
-        put_helpers(
-            &queues,
-            mark.mark(),
-            whole,
-            &mut gathered,
-            &mut begun,
             helped,
-            &mut records,
         );
         let rests = settle_all(rt, queues, gathered, rests);
         (own + others, records, rests)

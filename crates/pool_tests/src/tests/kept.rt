@@ -1,10 +1,7 @@
 // Jobs that may be neither copied nor dropped.
-ghost use Rattle.std.specs.Prelude.{◌≡◌, ◌⊎◌, ◌∷◌, ◌++◌, [], length, All, IfSome, None};
-ghost use Rattle.pool_tests.specs.Ending.{IsAdding, HasBegunToEnd};
+ghost use Rattle.std.specs.Prelude.{◌≡◌, ◌⊎◌, ◌∷◌, ◌++◌, []};
 
-use super::threads::{CountGate, Plan, THOUSAND, add_beside, all_work, end_beside};
 use super::*;
-use std::thread::join_mut;
 
 // It notes its id in the world, and must be run or taken apart.
 pub(super) struct Kept(Head);
@@ -46,38 +43,6 @@ impl Numbered for Kept {
         let Kept(head) = self;
         head.id.0
     }
-}
-
-#[test]
-fn a_helper_beside_a_worker(rt: HostRuntime) {
-    let rt = &rt;
-    let alloc = rt.alloc();
-    let plan = Plan {
-        second: 0,
-        ..THOUSAND
-    };
-    let Opened {
-        pool,
-        adding,
-        mut workers,
-    } = open_pool::<Kept, HostRuntime>(rt, alloc, 1, 1);
-    let mut adder = new_slot(adding);
-    let gate = CountGate::new(rt, alloc, plan.most, plan.tasks);
-    join_mut(
-        rt,
-        &mut ||
-            requires passes { All (λ s. IfSome s.pass (λ p. p.pool ≡ pool.id)) workers.items }
-            requires ends { All (λ s. s.end ≡ None) workers.items }
-            ensures ends { All (λ s. IfSome s.end (λ e. e.pool ≡ pool.id)) workers.exit.items }
-            ensures count { length workers.exit.items ≡ length workers.entry.items }
-        { all_work(rt, alloc, &pool, &gate, &mut workers) },
-        &mut ||
-            requires adding { IfSome adder.pass (λ a. IsAdding pool a.owner a.keep a.pass a.helper 0) }
-            requires end { adder.end ≡ None }
-            ensures { IfSome adder.exit.end (λ b. HasBegunToEnd pool b.ending b.helped.items) }
-        { add_beside(rt, alloc, &pool, &gate, plan, &mut adder) },
-    );
-    end_beside(rt, alloc, pool, &gate, plan, workers, adder);
 }
 
 // Compares the ids of the jobs that come back, which are taken apart: they are the indexes of their tickets.

@@ -2,7 +2,7 @@
 ghost use Rattle.std.specs.Prelude.{◌≡◌, ◌<◌, [], Some};
 ghost use Rattle.pool_model.specs.declared.task.Ending.TheVariants.{Stops};
 
-use super::{Note, Numbered, same};
+use super::{Note, Numbered, let_go, same};
 use fan_base::Refused;
 use job_trait::Headed;
 use keep_alive::{KeepAlive, KeepOwner};
@@ -146,7 +146,7 @@ fn begin_to_stop<R: Wait>(
     ensures mark { result.mark ≡ kept.now.mark }
     ensures found { result.found ≡ Some Stops }
 {
-    let _ = keep.release();
+    let_go(keep);
     let joined = owner.join(rt);
     kept.begin(&joined, all, Ending::Stops)
 }

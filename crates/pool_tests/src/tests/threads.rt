@@ -1,5 +1,5 @@
 // Four workers on threads of their own, between the calls of a gate that counts, beside one that adds, helps and ends the pool.
-ghost use Rattle.std.specs.Prelude.{◌≡◌, All, IfSome, None, length};
+ghost use Rattle.std.specs.Prelude.{◌≡◌, ◌<◌, ◌≤◌, All, IfSome, None, length};
 ghost use Rattle.pool_tests.specs.Ending.{IsAdding, HasBegunToEnd};
 
 use super::kept::Kept;
@@ -10,7 +10,7 @@ use std::thread::{self, Threads, join_mut};
 // Counts the tasks that began and those that ended, and the calls of each task. Once `most` have begun, it holds each further one
 // until it is opened.
 #[derive(Drop)]
-pub(super) struct CountGate {
+struct CountGate {
     begun: AtomicU64,
     ended: AtomicU64,
     opened: AtomicU64,
@@ -22,7 +22,7 @@ pub(super) struct CountGate {
 }
 
 impl CountGate {
-    pub(super) fn new<R: Abort>(rt: &R, alloc: Global, most: u64, tasks: u32) -> CountGate {
+    fn new<R: Abort>(rt: &R, alloc: Global, most: u64, tasks: u32) -> CountGate {
         let mut calls = Vec::new(alloc);
         for _ in 0..tasks {
             calls.push(AtomicU64::new(0)).expect(rt, "memory");
@@ -85,7 +85,7 @@ impl Gate for CountGate {
 }
 
 // All of them work, each on a thread of its own.
-pub(super) fn all_work<R: Wait + Threads + Sync>(
+fn all_work<R: Wait + Threads + Sync>(
     rt: &R,
     alloc: Global,
     pool: &Pool<Kept>,
@@ -111,18 +111,27 @@ pub(super) fn all_work<R: Wait + Threads + Sync>(
 
 // What is done beside workers, where it helps behind each task if the pool has a helper.
 #[derive(Clone, Copy)]
-pub(super) struct Plan {
+struct Plan {
     // So many tasks are added, each second one with this priority and the others with 0.
-    pub(super) tasks: u32,
-    pub(super) second: i8,
+    tasks: u32,
+    second: i8,
     // Behind each so many it waits until all of them have ended, so that the workers go to sleep and are woken in between; never, where
     // this is 0.
-    pub(super) group: u64,
+    group: u64,
     // Whether it begins to stop, and not to join.
-    pub(super) stops: bool,
+    stops: bool,
     // How many tasks the gate lets begin, and then holds each further one until the end of the pool has begun. Where it is less than the
     // tasks, the end begins once each worker is held.
-    pub(super) most: u64,
+    most: u64,
+    // Whether one worker and a helper run them, and not four workers.
+    helped: bool,
+}
+
+// How many workers and helpers a plan has.
+fn counts_of(plan: Plan) -> (u32, u32)
+    ensures { (0 < result.0) × (result.0 ≤ 64) × (result.1 ≤ 1) }
+{
+    if plan.helped { (1, 1) } else { (4, 0) }
 }
 
 // Adds the tasks of a plan.
@@ -149,10 +158,10 @@ fn add_tasks<J: Numbered, R: Abort + Wait>(
 }
 
 // What adds, and what it has begun: a join or a stop.
-pub(super) type Adder<J> = Slot<Adding<J>, Begun<J>>;
+type Adder<J> = Slot<Adding<J>, Begun<J>>;
 
 // Adds tasks, waits until so many have begun where the gate holds any, begins to join or to stop, and then opens the gate.
-pub(super) fn add_beside<J: Numbered, R: Abort + Wait>(
+fn add_beside<J: Numbered, R: Abort + Wait>(
     rt: &R,
     alloc: Global,
     pool: &Pool<J>,
@@ -184,8 +193,9 @@ fn check_counts<R: Abort>(rt: &R, counts: &CountGate, records: u64) {
     same(rt, counts.passed(), (records, 0));
 }
 
-// Ends a pool whose workers have worked, and for which what a plan says has been done. No task is lost.
-pub(super) fn end_beside<J: Numbered, R: Abort + Wait>(
+// Ends a pool whose workers have worked, and for which what a plan says has been done. None of its tasks is left where it is joined, and none is
+// lost.
+fn end_beside<J: Numbered, R: Abort + Wait>(
     rt: &R,
     alloc: Global,
     pool: Pool<J>,
@@ -199,17 +209,21 @@ pub(super) fn end_beside<J: Numbered, R: Abort + Wait>(
     requires begun { IfSome adder.end (λ b. HasBegunToEnd pool b.ending b.helped.items) }
 {
     let ends = all_ends(rt, alloc, workers);
-    let records = end_once(rt, alloc, pool, adder.end(rt), ends, plan.tasks as usize);
-    check_counts(rt, gate, records);
+    let tasks = plan.tasks as usize;
+    let mut world = Vec::new(alloc);
+    let left = end_pool(rt, pool, adder.end(rt), ends, &mut world, tasks);
+    same(rt, world.len(), 0);
+    check_counts(rt, gate, check_tasks(rt, alloc, left, tasks));
 }
 
 // A thousand tasks of two priorities and a join, beside four workers.
-pub(super) const THOUSAND: Plan = Plan {
+const THOUSAND: Plan = Plan {
     tasks: 1000,
     second: 127,
     group: 0,
     stops: false,
     most: u64::MAX,
+    helped: false,
 };
 
 #[test]
@@ -228,9 +242,10 @@ fn four_workers_run_a_thousand_tasks(rt: HostRuntime) {
     end_beside(rt, alloc, pool, &gate, THOUSAND, workers, adder);
 }
 
-// Four workers: one by one, and as a stream, before a join; and a thousand before a stop, where the gate holds the four, or none.
+// Four workers: one by one, and as a stream, before a join; and a thousand before a stop, where the gate holds the four, or none. Then a
+// worker and a helper: a thousand before a join.
 #[test]
-fn four_workers_beside_one_that_adds_lose_no_task(rt: HostRuntime) {
+fn workers_beside_one_that_adds_lose_no_task(rt: HostRuntime) {
     let rt = &rt;
     let alloc = rt.alloc();
     let stop = Plan {
@@ -252,13 +267,19 @@ fn four_workers_beside_one_that_adds_lose_no_task(rt: HostRuntime) {
         },
         Plan { most: 400, ..stop },
         stop,
+        Plan {
+            second: 0,
+            helped: true,
+            ..THOUSAND
+        },
     ];
     for plan in plans {
+        let (workers, helpers) = counts_of(plan);
         let Opened {
             pool,
             adding,
             mut workers,
-        } = open_pool::<Kept, HostRuntime>(rt, alloc, 4, 0);
+        } = open_pool::<Kept, HostRuntime>(rt, alloc, workers, helpers);
         let mut adder = new_slot(adding);
         let gate = CountGate::new(rt, alloc, plan.most, plan.tasks);
         join_mut(

@@ -1,16 +1,15 @@
 // A pool with two adders and two helpers.
-ghost use Rattle.std.specs.Prelude.{◌≡◌, ◌∷◌, ◌+◌, ◌<◌, [], length};
-ghost use Rattle.prio_pool.specs.Made.{IsNewPool};
-ghost use Rattle.pool_tests.specs.Ending.{HasBegunToEnd, IsPassOf, tests_exec};
+ghost use Rattle.std.specs.Prelude.{◌≡◌, ◌∷◌, ◌+◌, ◌<◌, ◌≤◌, [], length};
+ghost use Rattle.pool_tests.specs.Ending.{HasBegunToEnd, IsPassOf};
 
 use super::{
-    Begun, Note, Numbered, check_list, end_pool, ids, last_of, list_with_room, new_slots,
-    next_back, same, work_at,
+    Begun, Note, Numbered, begin_with, check_list, end_pool, ids, last_of, let_go, list_with_room,
+    new_pool, new_slots, next_back, same, work_at,
 };
-use fan_base::{ExecId, OpenGate, Refused};
-use job_trait::{Headed, Job};
+use fan_base::{OpenGate, Refused};
+use job_trait::Job;
 use keep_alive::{KeepAlive, KeepOwner};
-use pool_model::passes_in_order_are_all;
+use pool_model::{Ticket, passes_in_order_are_all};
 use prio_pool::{
     Helped, HelperPass, Pool, PoolParts, PoolPass, Returned, Runs, new_passes_are_unused,
 };
@@ -39,13 +38,6 @@ fn list_of_both<X, R: Abort>(rt: &R, alloc: Global, first: X, second: X) -> Vec<
     list
 }
 
-// A pool of three queues, two adders, one worker and two helpers.
-fn new_pool_of_two<J: Headed, R: Abort>(rt: &R, alloc: Global) -> PoolParts<J>
-    ensures { IsNewPool tests_exec 3 2 1 2 0 result.pool result.owner result.keep result.adders.items result.workers.items result.helpers.items }
-{
-    Pool::new(alloc, ExecId(7), 3, 2, 1, 2, 0).expect(rt, "memory")
-}
-
 // Adds a task with a pass. It gets the ticket of this adder and this index.
 fn add_with<J: Numbered, R: Abort + Wait>(
     rt: &R,
@@ -71,6 +63,30 @@ fn add_with<J: Numbered, R: Abort + Wait>(
     }
 }
 
+// Adds tasks with two passes, by turns, each with its priority and id: of each row the first pass's, then the second's.
+fn add_rows_with_two<J: Numbered, R: Abort + Wait>(
+    rt: &R,
+    pool: &Pool<J>,
+    keep: &KeepAlive,
+    first: &mut PoolPass<J>,
+    second: &mut PoolPass<J>,
+    rows: &[((i8, u64), (i8, u64))],
+)
+    requires exec { pool.now.exec.0 ≡ 7 }
+    requires keep { keep.now.count ≡ pool.now.count }
+    requires first { IsPassOf pool.now 0 0 first.old }
+    requires second { IsPassOf pool.now 1 0 second.old }
+    requires few { length rows.now ≤ 1000 }
+    ensures first { IsPassOf pool.now 0 (length rows.now) first.new }
+    ensures second { IsPassOf pool.now 1 (length rows.now) second.new }
+{
+    for index in 0..rows.len() {
+        let (one, other) = rows[index];
+        add_with(rt, pool, keep, first, (0, index as u64), one);
+        add_with(rt, pool, keep, second, (1, index as u64), other);
+    }
+}
+
 // Helps once: a task runs.
 fn help_with<J: Job<Vec<u64>>, R: Abort + Wait>(
     rt: &R,
@@ -89,7 +105,6 @@ fn help_with<J: Job<Vec<u64>>, R: Abort + Wait>(
 }
 
 // Lets the keep-alive go, ends both helpers, and begins to stop or to join with both passes.
-#[tactic(auto, using(crate::proofs::Lists::two_numbered, crate::proofs::Lists::two_ends))]
 fn begin_with_two<J: Numbered, R: Abort + Wait>(
     rt: &R,
     alloc: Global,
@@ -110,16 +125,10 @@ fn begin_with_two<J: Numbered, R: Abort + Wait>(
     let (owner, keep) = keeping;
     let (first, second) = passes;
     let (one, other) = helpers;
-    let _ = keep.release();
+    let_go(keep);
     let helped = list_of_both(rt, alloc, other.end(), one.end());
     let passes = list_of_both(rt, alloc, first, second);
-    if stops {
-        let ending = Err(pool.begin_stop(rt, owner, passes));
-        Begun { ending, helped }
-    } else {
-        let ending = Ok(pool.begin_join(rt, owner, passes));
-        Begun { ending, helped }
-    }
+    begin_with(rt, pool, owner, passes, helped, stops)
 }
 
 // Each of two adders adds two tasks, each of two helpers runs one, and the pool is stopped or joined, and worked at.
@@ -136,14 +145,12 @@ fn run_with_two<J: Numbered, R: Abort + Wait>(
         adders,
         workers,
         helpers,
-    } = new_pool_of_two(rt, alloc);
+    } = new_pool(rt, alloc, 2, 1, 2);
     new_passes_are_unused();
     let (mut first, mut second) = both_of(rt, adders);
     let (mut one, mut other) = both_of(rt, helpers);
-    add_with(rt, &pool, &keep, &mut first, (0, 0), (0, 10));
-    add_with(rt, &pool, &keep, &mut second, (1, 0), (127, 20));
-    add_with(rt, &pool, &keep, &mut first, (0, 1), (-128, 11));
-    add_with(rt, &pool, &keep, &mut second, (1, 1), (0, 21));
+    let rows = [((0, 10), (127, 20)), ((-128, 11), (0, 21))];
+    add_rows_with_two(rt, &pool, &keep, &mut first, &mut second, &rows);
     help_with(rt, &pool, &mut one, world);
     help_with(rt, &pool, &mut other, world);
     let begun = begin_with_two(
@@ -175,8 +182,8 @@ fn two_adders_tasks_are_handed_back(rt: HostRuntime) {
     let (ran, mut returned) = run_with_two::<Note, HostRuntime>(rt, rt.alloc(), true, &mut world);
     check_list(rt, ids(rt, rt.alloc(), ran), &[10, 20]);
     for (adder, id) in [(1, 21), (0, 11)] {
-        let (ticket, back) = next_back(&mut returned).expect(rt, "a task");
-        same(rt, (ticket.adder, ticket.index, back), (adder, 1, id));
+        let ticket = Ticket { adder, index: 1 };
+        same(rt, next_back(&mut returned), Some((ticket, id)));
     }
     same(rt, next_back(&mut returned), None);
     check_list(rt, world, &[20, 10]);

@@ -1,16 +1,15 @@
 use Rattle.std.proofs.Common.{◌≡◌, ◌+◌, List, [], ◌∷◌, ◌++◌, length, length-append, map, ap, sym, subst, ◌∙◌, arith}
 use Rattle.std.specs.List.{All}
 use Rattle.std.specs.declared.alloc.Global.{Global}
+use Rattle.std.proofs.lemmas.Grind.{flat_map-append}
 use Rattle.std.proofs.lemmas.List.Elements.{All-append, All-cons, All-head, All-tail, All-weaker}
 use Rattle.crossbeam_queue.specs.SegTies.{SegId}
-use Rattle.pool_model.specs.Endings.{RanWhatItTook, records_of}
-use Rattle.pool_model.specs.Records.{Record}
 use Rattle.pool_model.specs.Passes.{HasNoGap}
 use Rattle.pool_model.specs.Seen.{PoolId, PoolSeen, PassSeen, EndSeen}
-use Rattle.task_queue.specs.Marks.{WatchSeen, MarkSeen}
+use Rattle.task_queue.specs.Marks.{MarkSeen}
 use Rattle.task_queue.specs.Seen.{GatheredSeen}
 use Rattle.prio_pool.specs.Ended.{CameTo}
-use Rattle.prio_pool.specs.Gathering.{gathered_from, IsWhole, FoundAs, AllSettled}
+use Rattle.prio_pool.specs.Gathering.{gathered_from, IsWhole, AllSettled}
 use Rattle.prio_pool.proofs.Accounting.{all_whole}
 use Rattle.prio_pool.proofs.Finishing.{few_rests, of_these, put_together, total_is}
 use Rattle.prio_pool.proofs.Merging.{queues_of}
@@ -39,7 +38,7 @@ settle_all-rests-requires-clause-queues g c =
     let helped : List EndSeen = c.args.helped.items in
     let all = subst (All (λ (p : PassSeen). p.pool ≡ c.args.self.id)) c.in-Some.ensures.items c.requires.passes.of_pool in
     let own = All-head (λ (p : PassSeen). p.pool ≡ c.args.self.id) first others all ∙ sym id in
-    let g3 = put_together whole qs first others ends helped _ _ _ _ (ap (λ (x : PoolId). x.passes) own) c.gather-gathered.ensures.gathered c.put_passes-others.ensures.gathered c.put_workers.ensures.gathered c.put_helpers.ensures.gathered in
+    let g3 = put_together whole qs first others (ends ++ helped) _ _ _ (ap (λ (x : PoolId). x.passes) own) c.gather-gathered.ensures.gathered c.put_passes-others.ensures.gathered c.put_ends-records.ensures.gathered in
     ap (map (λ (x : GatheredSeen). x.queue)) g3 ∙ queues_of whole (first ∷ others) (ends ++ helped) 0 qs
 
 pub settle_all-rests-requires-clause-whole : goal.settle_all-rests-requires-clause-whole
@@ -53,7 +52,7 @@ settle_all-rests-requires-clause-whole g c =
     let helped : List EndSeen = c.args.helped.items in
     let all = subst (All (λ (p : PassSeen). p.pool ≡ c.args.self.id)) c.in-Some.ensures.items c.requires.passes.of_pool in
     let own = All-head (λ (p : PassSeen). p.pool ≡ c.args.self.id) first others all ∙ sym id in
-    let g3 = put_together whole qs first others ends helped _ _ _ _ (ap (λ (x : PoolId). x.passes) own) c.gather-gathered.ensures.gathered c.put_passes-others.ensures.gathered c.put_workers.ensures.gathered c.put_helpers.ensures.gathered in
+    let g3 = put_together whole qs first others (ends ++ helped) _ _ _ (ap (λ (x : PoolId). x.passes) own) c.gather-gathered.ensures.gathered c.put_passes-others.ensures.gathered c.put_ends-records.ensures.gathered in
     let count : length (first ∷ others) + length (ends ++ helped) ≡ whole =
     omega (
       arith,
@@ -80,19 +79,17 @@ returns-clause-came g c =
     let items : c.args.passes ≡ first ∷ others = c.in-Some.ensures.items in
     let all = subst (All (λ (p : PassSeen). p.pool ≡ c.args.self.id)) items c.requires.passes.of_pool in
     let own = All-head (λ (p : PassSeen). p.pool ≡ c.args.self.id) first others all ∙ sym id in
-    let g3 = put_together whole qs first others ends helped _ _ _ _ (ap (λ (x : PoolId). x.passes) own) c.gather-gathered.ensures.gathered c.put_passes-others.ensures.gathered c.put_workers.ensures.gathered c.put_helpers.ensures.gathered in
+    let g3 = put_together whole qs first others (ends ++ helped) _ _ _ (ap (λ (x : PoolId). x.passes) own) c.gather-gathered.ensures.gathered c.put_passes-others.ensures.gathered c.put_ends-records.ensures.gathered in
     let told = c.told.ensures in
     let many = λ (p : PassSeen). length p.pushed ≡ length qs in
-    let popped = λ (e : EndSeen). length e.popped ≡ length qs in
-    let found = ap (λ (w : WatchSeen). w.found) c.put_workers.ensures.begun in
     let rests = c.settle_all-rests.result.items in
     let came : CameTo g.J.Headed.head whole qs c.args.begun.found c.args.passes (ends ++ helped) rests =
     record {
       gaps = subst (All HasNoGap) (sym items) (All-cons HasNoGap first others told.gap c.put_passes-others.ensures.gaps);
       pushed = subst (All many) (sym items) (All-cons many first others (told.as_many ∙ ap (λ (x : PoolId). length x.queues) own) c.put_passes-others.ensures.pushed);
-      ran = All-append RanWhatItTook ends helped c.put_workers.ensures.ran c.put_helpers.ensures.ran;
-      popped = All-append popped ends helped c.put_workers.ensures.popped c.put_helpers.ensures.popped;
-      found = All-append (FoundAs c.args.begun.found) ends helped c.put_workers.ensures.found (subst (λ f. All (FoundAs f) helped) found c.put_helpers.ensures.found);
+      ran = c.put_ends-records.ensures.ran;
+      popped = c.put_ends-records.ensures.popped;
+      found = c.put_ends-records.ensures.found;
       settled = subst (λ (l : List GatheredSeen). AllSettled g.J.Headed.head l rests) (g3 ∙ ap (λ (l : List PassSeen). gathered_from whole l (ends ++ helped) 0 qs) (sym items)) c.settle_all-rests.ensures;
     } in
     subst (λ (x : PoolId). CameTo g.J.Headed.head x.passes x.queues c.args.begun.found c.args.passes (ends ++ helped) rests) id came
@@ -135,52 +132,6 @@ put_passes-others-requires-clause-together g c =
 pub put_passes-others-requires-clause-few : goal.put_passes-others-requires-clause-few
 put_passes-others-requires-clause-few g c = omega (arith, ap length c.in-Some.ensures.items, c.requires.passes.count, ap (λ (s : PoolSeen). s.adders) c.self.view_is, c.self.invariant.4)
 
-pub put_workers-requires-clause-together : goal.put_workers-requires-clause-together
-put_workers-requires-clause-together g c =
-    let qs : List (SegId Global) = c.self.inside.queues.items in
-    let whole = c.self.inside.adders + c.self.inside.workers + c.self.inside.helpers in
-    let id = ap (λ (s : PoolSeen). s.id) c.self.view_is in
-    let first : PassSeen = c.in-Some.first in
-    let others : List PassSeen = c.pop_front.new.self in
-    let all = subst (All (λ (p : PassSeen). p.pool ≡ c.args.self.id)) c.in-Some.ensures.items c.requires.passes.of_pool in
-    let own = All-head (λ (p : PassSeen). p.pool ≡ c.args.self.id) first others all ∙ sym id in
-    let g0 = c.gather-gathered.ensures.gathered ∙ ap (λ (x : PoolId). gathered_from x.passes (first ∷ []) [] 0 qs) own in
-    let g1 = c.put_passes-others.ensures.gathered (first ∷ []) [] g0 in
-    record { passes = first ∷ others; ends = []; is = g1 }
-
-pub put_workers-requires-clause-of : goal.put_workers-requires-clause-of
-put_workers-requires-clause-of g c =
-    let qs : List (SegId Global) = c.self.inside.queues.items in
-    let whole = c.self.inside.adders + c.self.inside.workers + c.self.inside.helpers in
-    let id = ap (λ (s : PoolSeen). s.id) c.self.view_is in
-    of_these c.args.self.id whole qs c.mark-2.result.now.mark c.args.ends.items (sym id ∙ sym (ap (λ (m : MarkSeen). record { queues = qs; passes = whole; mark = m.mark }) c.mark-2.ensures)) c.requires.ends.of_pool
-
-pub put_helpers-requires-clause-of : goal.put_helpers-requires-clause-of
-put_helpers-requires-clause-of g c =
-    let qs : List (SegId Global) = c.self.inside.queues.items in
-    let whole = c.self.inside.adders + c.self.inside.workers + c.self.inside.helpers in
-    let id = ap (λ (s : PoolSeen). s.id) c.self.view_is in
-    of_these c.args.self.id whole qs c.mark-3.result.now.mark c.args.helped.items (sym id ∙ sym (ap (λ (m : MarkSeen). record { queues = qs; passes = whole; mark = m.mark }) c.mark-3.ensures)) c.requires.helped.of_pool
-
-pub put_helpers-requires-clause-together : goal.put_helpers-requires-clause-together
-put_helpers-requires-clause-together g c =
-    let qs : List (SegId Global) = c.self.inside.queues.items in
-    let whole = c.self.inside.adders + c.self.inside.workers + c.self.inside.helpers in
-    let id = ap (λ (s : PoolSeen). s.id) c.self.view_is in
-    let first : PassSeen = c.in-Some.first in
-    let others : List PassSeen = c.pop_front.new.self in
-    let all = subst (All (λ (p : PassSeen). p.pool ≡ c.args.self.id)) c.in-Some.ensures.items c.requires.passes.of_pool in
-    let own = All-head (λ (p : PassSeen). p.pool ≡ c.args.self.id) first others all ∙ sym id in
-    let g0 = c.gather-gathered.ensures.gathered ∙ ap (λ (x : PoolId). gathered_from x.passes (first ∷ []) [] 0 qs) own in
-    let g1 = c.put_passes-others.ensures.gathered (first ∷ []) [] g0 in
-    record { passes = first ∷ others; ends = c.args.ends.items; is = c.put_workers.ensures.gathered (first ∷ others) [] g1 }
-
-pub put_workers-requires-clause-few : goal.put_workers-requires-clause-few
-put_workers-requires-clause-few g c = omega (arith, ap length c.new-records.ensures, c.requires.ends.count_is, ap (λ (s : PoolSeen). s.workers) c.self.view_is, c.self.invariant.5)
-
-pub put_helpers-requires-clause-few : goal.put_helpers-requires-clause-few
-put_helpers-requires-clause-few g c = omega (arith, ap length c.new-records.ensures, c.put_workers.ensures.short, c.requires.ends.count_is, ap (λ (s : PoolSeen). s.workers) c.self.view_is, c.self.invariant.5, c.requires.helped.count_is, ap (λ (s : PoolSeen). s.helpers) c.self.view_is, c.self.invariant.6)
-
 pub settle_all-rests-requires-clause-room : goal.settle_all-rests-requires-clause-room
 settle_all-rests-requires-clause-room g c = c.gather-gathered.ensures.room
 
@@ -190,11 +141,30 @@ overflow_add-result g c = omega (arith, c.count-own.ensures, c.told.ensures.few,
 pub returns-clause-most : goal.returns-clause-most
 returns-clause-most g c = omega (arith, c.count-own.ensures, c.told.ensures.few, c.put_passes-others.ensures.few)
 
-pub returns-clause-records : goal.returns-clause-records
-returns-clause-records g c =
-    let ends : List EndSeen = c.args.ends.items in
-    let helped : List EndSeen = c.args.helped.items in
-    c.put_helpers.ensures.records ∙ ap (λ (l : List Record). l ++ records_of helped) (c.put_workers.ensures.records ∙ ap (λ (l : List Record). l ++ records_of ends) c.new-records.ensures)
-
 pub returns-clause-accepted : goal.returns-clause-accepted
 returns-clause-accepted g c = total_is c.args.passes c.in-Some.first c.pop_front.new.self c.count-own.result c.put_passes-others.result c.in-Some.ensures.items c.count-own.ensures c.put_passes-others.ensures.total
+
+pub put_ends-records-requires-clause-together : goal.put_ends-records-requires-clause-together
+put_ends-records-requires-clause-together g c =
+    let qs : List (SegId Global) = c.self.inside.queues.items in
+    let id = ap (λ (s : PoolSeen). s.id) c.self.view_is in
+    let first : PassSeen = c.in-Some.first in
+    let others : List PassSeen = c.pop_front.new.self in
+    let all = subst (All (λ (p : PassSeen). p.pool ≡ c.args.self.id)) c.in-Some.ensures.items c.requires.passes.of_pool in
+    let own = All-head (λ (p : PassSeen). p.pool ≡ c.args.self.id) first others all ∙ sym id in
+    let g0 = c.gather-gathered.ensures.gathered ∙ ap (λ (x : PoolId). gathered_from x.passes (first ∷ []) [] 0 qs) own in
+    record { passes = first ∷ others; ends = []; is = c.put_passes-others.ensures.gathered (first ∷ []) [] g0 }
+
+pub put_ends-records-requires-clause-of : goal.put_ends-records-requires-clause-of
+put_ends-records-requires-clause-of g c =
+    let qs : List (SegId Global) = c.self.inside.queues.items in
+    let whole = c.self.inside.adders + c.self.inside.workers + c.self.inside.helpers in
+    let id = ap (λ (s : PoolSeen). s.id) c.self.view_is in
+    let all = All-append (λ (e : EndSeen). e.pool ≡ c.args.self.id) c.args.ends.items c.args.helped.items c.requires.ends.of_pool c.requires.helped.of_pool in
+    of_these c.args.self.id whole qs c.mark-2.result.now.mark (c.args.ends.items ++ c.args.helped.items) (sym id ∙ sym (ap (λ (m : MarkSeen). record { queues = qs; passes = whole; mark = m.mark }) c.mark-2.ensures)) all
+
+pub put_ends-records-requires-clause-few : goal.put_ends-records-requires-clause-few
+put_ends-records-requires-clause-few g c = omega (arith, length-append c.args.ends.items c.args.helped.items, c.requires.ends.count_is, ap (λ (s : PoolSeen). s.workers) c.self.view_is, c.self.invariant.5, c.requires.helped.count_is, ap (λ (s : PoolSeen). s.helpers) c.self.view_is, c.self.invariant.6)
+
+pub returns-clause-records : goal.returns-clause-records
+returns-clause-records g c = c.put_ends-records.ensures.records ∙ flat_map-append (λ (x : EndSeen). x.records) c.args.ends.items c.args.helped.items

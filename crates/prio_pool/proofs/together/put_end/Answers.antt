@@ -3,7 +3,7 @@ use Rattle.pool_model.specs.Seen.{EndSeen}
 use Rattle.task_queue.specs.Seen.{GatheredSeen}
 use Rattle.prio_pool.proofs.Merging.{queues_of}
 use Rattle.prio_pool.proofs.Recording.{records_short}
-use Rattle.prio_pool.proofs.together.put_helper.Goals as goal
+use Rattle.prio_pool.proofs.together.put_end.Goals as goal
 
 pub put_to-watch-requires-clause-gathered : goal.put_to-watch-requires-clause-gathered
 put_to-watch-requires-clause-gathered g c =
