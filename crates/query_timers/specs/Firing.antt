@@ -5,6 +5,7 @@ use Rattle.fan_base.specs.declared.number.ExecId.{ExecId}
 use Rattle.fan_base.specs.declared.number.JobId.{JobId}
 use Rattle.fan_base.specs.declared.number.Mark.{Mark}
 use Rattle.job_trait.specs.declared.job.Head.{Head}
+use Rattle.job_trait.specs.Marks.{IsDone}
 use Rattle.tick_wheel.specs.declared.timer.Timer.{Timer}
 use Rattle.notify_queue.specs.Ends.{AreAllEnds, Sending}
 use Rattle.event_base.specs.Calls.{with_timer}
@@ -29,10 +30,11 @@ fired_at number tick old = record old {
   fired = old.fired ++ filter (fires_at number tick) old.waiting;
 }
 
--- a job fires the query of its id at its tick, and leaves the agenda alone
+-- a job fires the query of its id at its tick, which is done, and leaves the agenda alone
 pub record Fires (id : JobId) (p : Place WaitersSeen DueQuery) (mark : Mark) (q : Place WaitersSeen DueQuery) : Type 0 where
   pub world : q.0 ≡ fired_at id.0 p.1.wheel.tick p.0
   pub agenda : q.1 ≡ p.1
+  pub done : IsDone mark
 
 -- the job and the timer of a query that waits
 abbrev pub job_of : ExecId → DelayedQuery → DueQuery

@@ -69,6 +69,7 @@ fn begin_end<'d, 'r: 'd, 'i: 'r, N: RunName + 'static, R: Wait>(
     requires reply { 0 < length keys.old.replies.items }
     requires inner { is_top ask.asks ≡ true → 0 < length keys.old.inners.items }
     ensures ask { result.ask ≡ ask.entry }
+    ensures number { result.reply.no ≡ place }
     ensures replies { length keys.old.replies.items ≡ suc (length keys.new.replies.items) }
     ensures inners { length keys.old.inners.items ≡ cond (is_top ask.entry.asks) 1 0 + length keys.new.inners.items }
     ensures desks { keys.new.desks ≡ keys.old.desks }

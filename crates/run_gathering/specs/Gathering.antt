@@ -1,8 +1,9 @@
 -- What a gathering base does.
-use Rattle.std.specs.Prelude.{◌≡◌, ◌⊎◌, ℕ, zero, suc, ◌+◌, ◌≤◌, false, List, [], ◌∷◌, ◌++◌, length, nat_lt, if◌then◌else◌}
+use Rattle.std.specs.Prelude.{◌≡◌, ◌⊎◌, ℕ, zero, suc, ◌+◌, ◌≤◌, true, false, List, [], ◌∷◌, ◌++◌, length, nat_lt, if◌then◌else◌}
 use Rattle.std.specs.List.{All, sum_by}
 use Rattle.fan_base.specs.declared.number.JobId.{JobId}
 use Rattle.fan_base.specs.declared.number.Mark.{Mark}
+use Rattle.fan_base.specs.declared.number.Mark.TheVariants as mark
 use Rattle.fan_base.specs.declared.outcome.Try.{Try}
 use Rattle.fan_base.specs.declared.outcome.Try.TheVariants as try
 use Rattle.job_trait.specs.Marks.{IsDone}
@@ -119,12 +120,13 @@ module _ {N : Type 0} where
   abbrev pub Schedules : AgendaSeen (GatherJob N) → AgendaSeen (GatherJob N) → Type 0
   Schedules old new = (new ≡ old) ⊎ ((scoring : _) × (new ≡ with_in_loop old (gather.Score scoring)))
 
-  -- What a run of the job with this id does. A scoring posts its reply.
+  -- What a run of the job with this id does. A scoring posts its reply. It is done exactly where the world notes no refusal.
   pub record Runs (id : JobId) (before : Place (GatheringSeen N) (GatherJob N)) (m : Mark) (after : Place (GatheringSeen N) (GatherJob N)) : Type 0 where
     pub forwards : ℕ
     pub posts : List (PrintJob N)
     pub by : GathersBy (fires_at id) forwards posts before.0 after.0
     pub done : after.0.refused ≡ false → IsDone m
+    pub lacks : after.0.refused ≡ true → m ≡ mark.Memory
     pub agenda : Schedules before.1 after.1
     pub held : HoldsFor forwards posts before after
     pub scored : after.0.refused ≡ false → fires_at id ≡ 0 → length posts ≡ 1

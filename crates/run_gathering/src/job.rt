@@ -1,12 +1,15 @@
-ghost use Rattle.std.specs.Prelude.{◌≡◌, ◌+◌, ℕ, List, [], true, false, IfNone, IfSome, length};
+ghost use Rattle.std.specs.Prelude.{◌≡◌, ◌+◌, ℕ, List, [], Some, true, false, IfNone, IfSome, length};
+ghost use Rattle.fan_base.specs.Outcome.{fault_of};
 ghost use Rattle.core_word.specs.Count.{raised};
+ghost use Rattle.core_word.specs.declared.view.Sight.TheVariants as seen;
 ghost use Rattle.event_base.specs.Calls.{IsReached};
 ghost use Rattle.event_base.specs.Looping.{count_of_callbacks};
 ghost use Rattle.fan_parts.specs.declared.jobs.PrintJob.{PrintJob};
+ghost use Rattle.fan_parts.specs.Facts.{IsAnswerAt, IsRankingOf};
 ghost use Rattle.fan_parts.specs.Heads.{gather_head};
 ghost use Rattle.run_gathering.specs.Awaited.{AwaitsNone};
 ghost use Rattle.run_gathering.specs.Bringing.{HasAllParts, IsBrought};
-ghost use Rattle.run_gathering.specs.Gathering.{GathersBy, HoldsFor, Schedules, KeepsWaiting};
+ghost use Rattle.run_gathering.specs.Gathering.{GathersBy, HoldsFor, IsValue, Schedules, KeepsWaiting};
 
 use crate::merge::{Gathered, gather_parts};
 use crate::table::PartTable;
@@ -16,9 +19,10 @@ use core_word::Tally;
 use event_base::{Agenda, LoopJob, calls_in_a_row};
 use fan_base::{Fault, Mark, Refused, Try};
 use fan_parts::{
-    End, GatherJob, Part, PlacedReply, RunName, ScoreCall, Scoring, TaskFire, forward_awaited,
-    spend_gather_job, spend_scoring,
+    End, GatherJob, InnerKey, NumberedAsk, Part, PlacedReply, ReplyProducer, RunName, ScoreCall,
+    Scoring, TaskFire, forward_awaited, spend_gather_job, spend_scoring,
 };
+use query_parts::Ranking;
 use std::alloc::AllocFailed;
 use std::sync::Wait;
 
@@ -112,8 +116,7 @@ fn complete<'d, 'r: 'd, 'i: 'r, N: RunName, R: Wait>(
         Ok(Gathered::Reply(answer)) => world.fulfil(rt, reply, Try::Value(answer)),
         Ok(Gathered::Ranking(ranking)) => {
             let Some(key) = inner else { unreachable!() };
-            let inner = forward_awaited(rt, reply, key, u64::from(place), &mut world.tally);
-            let scoring = Scoring::new(inner, ask, place, ranking);
+            let scoring = forward(rt, reply, key, ask, place, ranking, &mut world.tally);
             schedule(world, agenda, scoring);
         }
         Err(fault) => {
@@ -121,6 +124,26 @@ fn complete<'d, 'r: 'd, 'i: 'r, N: RunName, R: Wait>(
             world.fulfil(rt, reply, outcome);
         }
     }
+}
+
+/// Forwards the reply's core of a ranking to an inner core, which has the number of the reply's place too, and gives the scoring that it waits for.
+fn forward<'r, 'i: 'r, N: RunName, R: Wait>(
+    rt: &R,
+    reply: ReplyProducer<'r, 'i, N>,
+    key: InnerKey<'i, N>,
+    ask: NumberedAsk<'i, N>,
+    place: u32,
+    ranking: Ranking,
+    tally: &mut Tally,
+) -> Scoring<'i, N>
+    requires awaited { reply.sight ≡ seen.CallbackLeft }
+    requires answer { IsAnswerAt N.asked place ask.number ask.asks ask.before }
+    requires ranking { IsRankingOf N.asked ask.asks ask.before ranking }
+    ensures number { result.inner.no ≡ place }
+    ensures tally { tally.new ≡ record tally.old { made = raised tally.old.made; forwarded = raised tally.old.forwarded; freed = raised tally.old.freed } }
+{
+    let inner = forward_awaited(rt, reply, key, u64::from(place), tally);
+    Scoring::new(inner, ask, place, ranking)
 }
 
 /// Notes that a reply has no answer, and gives the fault as its outcome. It is want of memory: the others never come.
@@ -131,6 +154,7 @@ fn refusal<'d, 'r: 'd, 'i: 'r, N: RunName>(
     ensures did { GathersBy 0 0 [] world.old world.new }
     ensures waiting { world.new.waiting ≡ world.old.waiting }
     ensures noted { world.new.refused ≡ true }
+    ensures fault { fault_of result ≡ Some fault }
 {
     world.refused = true;
     match fault {
@@ -197,9 +221,26 @@ fn score<'d, 'r: 'd, 'i: 'r, N: RunName, R: Wait>(
     ensures waiting { world.new.waiting ≡ world.old.waiting }
 {
     let (inner, ask, place, ranking) = scoring.into_parts();
-    let outcome = match ranking.answer(world.alloc, world.shards.all(), ask.before()) {
+    let outcome = scored(world, &ask, place, &ranking);
+    world.fulfil(rt, inner, outcome);
+}
+
+/// The reply of a ranking over all shards, or want of memory, which is noted.
+fn scored<'d, 'r: 'd, 'i: 'r, N: RunName>(
+    world: &mut Gathering<'d, 'r, 'i, N>,
+    ask: &NumberedAsk<'i, N>,
+    place: u32,
+    ranking: &Ranking,
+) -> Try<PlacedReply<N>>
+    requires answer { IsAnswerAt N.asked place ask.now.number ask.now.asks ask.now.before }
+    requires ranking { IsRankingOf N.asked ask.now.asks ask.now.before ranking.now }
+    ensures did { GathersBy 0 0 [] world.old world.new }
+    ensures waiting { world.new.waiting ≡ world.old.waiting }
+    ensures answer { world.new.refused ≡ false → IsValue result }
+    ensures fault { IfSome (fault_of result) (λ fault. fault ≡ Fault.Memory) }
+{
+    match ranking.answer(world.alloc, world.shards.all(), ask.before()) {
         Ok(reply) => Try::Value(PlacedReply::new(place, ask.number(), reply)),
         Err(_) => refusal(world, Fault::Memory),
-    };
-    world.fulfil(rt, inner, outcome);
+    }
 }

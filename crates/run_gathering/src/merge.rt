@@ -1,7 +1,7 @@
-ghost use Rattle.std.specs.Prelude.{◌≡◌, ◌≤◌, ℕ, [], IfOk, length};
+ghost use Rattle.std.specs.Prelude.{◌≡◌, ◌≤◌, ℕ, [], IfErr, IfOk, length};
 ghost use Rattle.query_model.specs.declared.line.Ask.{Ask};
 ghost use Rattle.fan_parts.specs.Facts.{IsAnswerAt, IsAskOf};
-ghost use Rattle.run_gathering.specs.Merging.{HasGathered, part_by, parts_by};
+ghost use Rattle.run_gathering.specs.Merging.{HasGathered, LacksContent, part_by, parts_by};
 
 use collect_ops::Listed;
 use fan_base::{Fault, Try};
@@ -65,7 +65,8 @@ fn contents<N: RunName>(
 
 /// No parts, with room for so many.
 fn with_room(alloc: Global, count: usize) -> Result<Vec<PartAnswer>, Fault>
-    ensures { IfOk result (λ parts. parts.items ≡ []) }
+    ensures empty { IfOk result (λ parts. parts.items ≡ []) }
+    ensures fault { IfErr result (λ fault. fault ≡ Fault.Memory) }
 {
     match Vec::with_capacity(alloc, count) {
         Ok(parts) => Ok(parts),
@@ -79,8 +80,9 @@ fn content_of<N: RunName>(
     shard: u32,
     outcome: Try<Part<N>>,
 ) -> Result<PartAnswer, Fault>
-    ensures { (asks : Ask) (before : ℕ) → IsAskOf N.asked number asks before →
+    ensures content { (asks : Ask) (before : ℕ) → IsAskOf N.asked number asks before →
         IfOk result (λ content. content ≡ part_by N.asked asks before shard) }
+    ensures fault { IfErr result (λ fault. LacksContent number shard outcome fault) }
 {
     match outcome {
         Try::Value(part) => {

@@ -1,1 +1,3 @@
+pub mod LeavingLemmas
+pub mod PostingLemmas
 pub mod WorldLemmas

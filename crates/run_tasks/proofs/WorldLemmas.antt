@@ -6,11 +6,11 @@ use Rattle.fan_parts.specs.declared.jobs.GatherJob.{GatherJob}
 use Rattle.fan_parts.specs.Heads.{gather_head}
 use Rattle.fan_parts.specs.Seen.{PosterSeen}
 use Rattle.notify_queue.specs.Ends.{Sending}
-use Rattle.core_cells.specs.Seen.{SeenCells, SeenPass, WereFree}
+use Rattle.core_cells.specs.Seen.{SeenPass}
 use Rattle.core_word.specs.Count.{Counts}
-use Rattle.core_word.specs.Seen.{HomeId, SeenKey}
+use Rattle.core_word.specs.Seen.{HomeId}
 use Rattle.run_tasks.specs.Seen.{WorldSeen}
-use Rattle.run_tasks.specs.Leaving.{CountsLeave, CountsTasks, LeavesCell, LeavesSome, MakesMore, PutsBack, reopened_times, with_reopened}
+use Rattle.run_tasks.specs.Leaving.{CountsLeave, CountsTasks, LeavesCell, LeavesSome, MakesMore, reopened_times, with_reopened}
 use Rattle.job_trait.specs.Marks.{IsDone}
 use Rattle.job_trait.specs.Runs.{Leads, Ran, Through}
 use Rattle.pool_model.specs.Records.{Record, ran_of}
@@ -33,10 +33,6 @@ unfolding AllDone
 done-marks [] done k d within = absurd (omega (arith, within))
 done-marks (r ∷ rs) done zero d within = done.0
 done-marks (r ∷ rs) done (suc k) d within = done-marks rs done.1 k d (omega (arith, within))
-
--- a key that finds no room, by what the cells' own call says of it
-pub full-back : (key : SeenKey) (cells : SeenCells) (old new : SeenPass) → old.cells ≡ cells → new ≡ old → WereFree cells.size old → PutsBack key old new
-full-back key cells old new of same full = inr (same, subst (λ (c : SeenCells). WereFree c.size old) (sym of) full)
 
 -- once more at the beginning is once more at the end
 reopened-last : (n : ℕ) (counts : Counts) → reopened_times n (with_reopened counts) ≡ with_reopened (reopened_times n counts)

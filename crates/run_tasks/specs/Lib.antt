@@ -1,4 +1,5 @@
 pub mod Seen
 pub mod Heads
 pub mod Leaving
+pub mod Posting
 pub mod Worlds

@@ -13,6 +13,7 @@ use Rattle.fan_parts.specs.Heads.{gather_head}
 use Rattle.fan_parts.specs.Seen.{PosterSeen}
 use Rattle.run_tasks.specs.Seen.{WorldSeen}
 use Rattle.run_tasks.specs.Leaving.{CountsLeave, LeavesSome, MakesMore}
+use Rattle.run_tasks.specs.Posting.{IsFireOfTask, PostsOneAtMost}
 
 -- which poster it is: its queue, its number there, and the executor of its base
 pub record PosterTold : Type 0 where
@@ -49,12 +50,14 @@ module _ {N : Type 0} where
   pub record MadeFor (tasks : ℕ) (w : WorldSeen N) : Type 0 where
     pub made : w.refused ≡ false → MakesMore tasks w.tally
 
-  -- what a run of the task with this id does: where the world doesn't note that memory was refused, the run was done, and one core was left
+  -- What a run of the task with this id does: where the world doesn't note that memory was refused, the run was done, one core was left, and nothing
+  -- was posted but the fire of the task's core, if that.
   pub record TaskRan (id : JobId) (old : WorldSeen N) (mark : Mark) (new : WorldSeen N) : Type 0 where
     pub follows : Follows old new
     pub done : new.refused ≡ false → IsDone mark
     pub tally : new.refused ≡ false → CountsLeave old.tally new.tally
     pub left : new.refused ≡ false → LeavesSome old.pass old.tally new.pass new.tally
+    pub posted : new.refused ≡ false → PostsOneAtMost (IsFireOfTask id) old.posters new.posters
 
   -- at each place the end of that poster, all of whose messages have its base's executor
   abbrev pub AreEndsFor : List PosterTold → List (Sending (GatherJob N)) → Type 0

@@ -18,6 +18,7 @@ pub use world::{TaskEnds, TaskWorld};
 mod answer;
 mod laws;
 mod leave;
+mod posting;
 mod run;
 mod stage;
 mod starting;

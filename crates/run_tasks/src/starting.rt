@@ -3,14 +3,14 @@ ghost use Rattle.std.specs.Prelude.{◌≡◌, ◌∷◌, [], ◌++◌, IfSome, 
 ghost use Rattle.core_cells.specs.Seen.{WereFree, key_of_half};
 ghost use Rattle.core_word.specs.Count.{raised};
 ghost use Rattle.fan_model.specs.Tasks.{job_of};
-ghost use Rattle.run_tasks.specs.Leaving.{CountsLeave, HasDemanded, LeavesCell, LeavesSome};
+ghost use Rattle.run_tasks.specs.Leaving.{CountsLeave, LeavesSome};
+ghost use Rattle.run_tasks.specs.Posting.{IsFireTo, PostsOneAtMost};
 ghost use Rattle.run_tasks.specs.Worlds.{Follows};
 
-use crate::leave::leave_cell;
+use crate::leave::leave_by_consumer;
+use crate::posting::landed_by;
 use crate::task::ShardTask;
 use crate::world::TaskWorld;
-use core_cells::{CellPass, Cells};
-use core_word::{Landed, Left, LeftC, Met, Tally};
 use fan_base::Try;
 use fan_parts::{PartCallback, RunName, TaskConsumer, TaskProducer};
 use std::sync::Wait;
@@ -47,14 +47,12 @@ impl<'c, 't, 'i: 't, N: RunName> TaskWorld<'c, 't, 'i, N> {
         ensures follows { Follows self.old self.new }
         ensures tally { self.new.refused ≡ false → CountsLeave self.old.tally self.new.tally }
         ensures left { self.new.refused ≡ false → LeavesSome self.old.pass self.old.tally self.new.pass self.new.tally }
+        ensures posted { self.new.refused ≡ false →
+            PostsOneAtMost (IsFireTo consumer.entry.no callback) self.old.posters self.new.posters }
     {
         let (met, left) = consumer.set_callback_inline(callback);
         leave_by_consumer(rt, self.cells, &mut self.pass, left, &mut self.tally);
-        match met {
-            Met::Waiting => {}
-            Met::Fire(fire) => self.post(rt, fire),
-            Met::Forward(forward) => match forward.unpack(&mut Tally::new()).1 {},
-        }
+        self.land(rt, landed_by(met));
     }
 
     /// Spends a task that found no memory where it was added: its core gets want of memory. Memory was refused, which is noted.
@@ -68,33 +66,7 @@ impl<'c, 't, 'i: 't, N: RunName> TaskWorld<'c, 't, 'i, N> {
             shard: _,
             exec: _,
         } = task;
-        let (landed, left) = producer.set_result(Try::Memory);
-        leave_cell(rt, self.cells, &mut self.pass, left, &mut self.tally);
-        match landed {
-            Landed::Waiting => {}
-            Landed::Fire(fire) => self.post(rt, fire),
-        }
+        self.fulfil(rt, producer, Try::Memory);
         self.refused = true;
-    }
-}
-
-/// Leaves a core of a cell on the consumer's side. The later half gives the cell back, and drops what was left over.
-fn leave_by_consumer<'h, T: Drop, C, P: Drop, R: Wait>(
-    rt: &R,
-    cells: &Cells<'h, T, C, P>,
-    pass: &mut CellPass<'h, T, C, P>,
-    left: LeftC<'h, T, C, P>,
-    t: &mut Tally,
-)
-    requires of { pass.old.cells ≡ cells.now }
-    requires set { HasDemanded left.demand }
-    ensures { LeavesCell left.entry.home left.entry.use_number pass.old t.old pass.new t.new }
-{
-    match left.leave() {
-        Left::First(_receipt) => {}
-        Left::Last(_leftover, husk) => match cells.give_back(rt, pass, husk, t) {
-            Ok(()) => {}
-            Err(_key) => {}
-        },
     }
 }

@@ -16,14 +16,15 @@ pub struct ShardTask<'t, 'i, N: RunName> {
 }
 
 impl<'t, 'i, N: RunName> Model for ShardTask<'t, 'i, N> {
-    ghost use Rattle.std.specs.Prelude.{◌<◌};
+    ghost use Rattle.std.specs.Prelude.{◌≡◌, ◌<◌};
+    ghost use Rattle.fan_model.specs.Tasks.{job_of};
     ghost use Rattle.run_tasks.specs.Seen.{TaskSeen};
 
     ghost Value = { TaskSeen };
 
     ghost view = { λ t. record { producer = t.producer; ask = t.ask; shard = t.shard; exec = t.exec } };
 
-    ghost invariant = { λ t. t.shard < N.asked.shards };
+    ghost invariant = { λ t. (t.shard < N.asked.shards) × (t.producer.no ≡ (job_of t.ask.number t.shard).0) };
 
     ghost use Rattle.query_grammar.specs.contracts.expr.Expr as expr;
     ghost use Rattle.std.specs.Coded.{codes};

@@ -1,9 +1,5 @@
-use Rattle.std.proofs.Common.{suc, inr}
-use Rattle.core_word.specs.Seen.{SeenKey}
-use Rattle.run_tasks.proofs.WorldLemmas.{full-back}
+use Rattle.run_tasks.proofs.LeavingLemmas.{leaves-by}
 use Rattle.run_tasks.proofs.leave.leave_cell.Goals as goal
 
 pub returns : goal.returns
-returns g c =
-    let key : SeenKey = record { home = c.args.left.home; use_number = suc c.args.left.use_number } in
-    inr (full-back key c.args.cells.now c.args.pass.now c.give_back.new.pass c.requires c.in-Err.ensures.back.1 c.in-Err.ensures.full, c.give_back.ensures.counted)
+returns g c = leaves-by _ _ _ _ _ _ _ c.leave.ensures.home c.leave.ensures.use_number c.give_back_last.ensures

@@ -1,20 +1,10 @@
-use Rattle.std.proofs.Common.{refl, rules}
-use Rattle.run_tasks.proofs.WorldLemmas.{left-some}
+use Rattle.run_tasks.proofs.PostingLemmas.{suits-part, task-ran}
 use Rattle.run_tasks.proofs.run.ShardTaskJobTaskWorld.run.Goals as goal
 
-pub returns-in-Waiting-clause-meaning : goal.returns-in-Waiting-clause-meaning
-returns-in-Waiting-clause-meaning g c = record {
-  follows = search rules;
-  done = search rules;
-  tally = search rules;
-  left = λ down. left-some _ c.args.world.now _ _ c.leave_cell.new.pass _ c.leave_cell.new.t _ c.world.view_is c.leave_cell.ensures refl refl;
-}
+pub fulfil-requires : goal.fulfil-requires
+fulfil-requires g c = record { outcome = suits-part c.self.inside.ask _ _ _ _ c.answer_task-outcome.ensures.part c.self.invariant.1 }
 
-pub returns-in-Fire-clause-meaning : goal.returns-in-Fire-clause-meaning
-returns-in-Fire-clause-meaning g c = record {
-  follows = search rules;
-  done = search rules;
-  tally = search rules;
-  left = λ down. left-some _ c.args.world.now _ _ c.leave_cell.new.pass _ c.leave_cell.new.t _ c.world.view_is c.leave_cell.ensures c.post.ensures.pass
-      (c.post.ensures.tally down);
-}
+pub returns-clause-meaning : goal.returns-clause-meaning
+returns-clause-meaning g c =
+    task-ran _ c.args.self _ c.args.world.now _ _ _ _ c.self.view_is c.world.view_is c.answer_task-outcome.ensures.noted c.answer_task-outcome.ensures.part c.self.invariant.1
+    c.fulfil.ensures.follows c.fulfil.ensures.left c.fulfil.ensures.posted

@@ -1,12 +1,16 @@
 use Rattle.std.proofs.Common.{refl}
+use Rattle.run_tasks.proofs.PostingLemmas.{landed-follows, met-posts}
 use Rattle.run_tasks.proofs.WorldLemmas.{left-some}
 use Rattle.run_tasks.proofs.world.TaskWorld.give.Goals as goal
 
-pub returns-in-Waiting-clause-left : goal.returns-in-Waiting-clause-left
-returns-in-Waiting-clause-left g c down =
-    left-some _ c.args.self.now _ _ c.leave_by_consumer.new.pass _ c.leave_by_consumer.new.t _ c.self.view_is c.leave_by_consumer.ensures refl refl
+pub returns-clause-follows : goal.returns-clause-follows
+returns-clause-follows g c =
+    landed-follows _ c.args.self.now _ _ _ _ _ c.self.view_is c.leave_by_consumer.ensures c.land.ensures.follows
 
-pub returns-in-Fire-clause-left : goal.returns-in-Fire-clause-left
-returns-in-Fire-clause-left g c down =
-    left-some _ c.args.self.now _ _ c.leave_by_consumer.new.pass _ c.leave_by_consumer.new.t _ c.self.view_is c.leave_by_consumer.ensures c.post.ensures.pass
-    (c.post.ensures.tally down)
+pub returns-clause-left : goal.returns-clause-left
+returns-clause-left g c down =
+    left-some _ c.args.self.now _ _ c.leave_by_consumer.new.pass _ c.leave_by_consumer.new.t _ c.self.view_is c.leave_by_consumer.ensures c.land.ensures.pass (c.land.ensures.tally down)
+
+pub returns-clause-posted : goal.returns-clause-posted
+returns-clause-posted g c down =
+    met-posts _ _ _ _ _ _ _ c.args.self.now _ _ c.self.view_is c.set_callback_inline-met.ensures.answer c.landed_by.ensures refl c.land.ensures.landed down
