@@ -1,28 +1,33 @@
 -- The front and the workers, from their start to their end.
-use Rattle.std.proofs.Common.{◌≡◌, ℕ, ◌+◌, List, [], ◌∷◌, ◌++◌, false, true, length, map, refl, sym, ap, ◌∙◌, subst, All, arith}
+use Rattle.std.proofs.Common.{◌≡◌, ℕ, ◌+◌, List, [], ◌∷◌, ◌++◌, false, true, length, map, take, refl, sym, ap, ◌∙◌, subst, All, arith}
 use Rattle.std.specs.Prelude.{Option, get_or}
+use Rattle.std.proofs.Math.Seq.{take-append_seam}
+use Rattle.std.proofs.lemmas.List.{length-map}
 use Rattle.std.proofs.lemmas.List.Elements.{All-append, All-cons, All-nil}
 use Rattle.std.proofs.lemmas.List.Sums.{sum_by-append}
 use Rattle.core_word.specs.Count.{Counts}
 use Rattle.run_gathering.specs.Gathering.{no_counts}
 use Rattle.fan_model.specs.Answered.{answered_in, is_stopped}
 use Rattle.fan_model.specs.Report.{Asking, IsPoolReport}
-use Rattle.fan_model.specs.Tasks.{Run}
+use Rattle.fan_model.specs.Tasks.{Run, early_runs}
 use Rattle.job_trait.specs.Marks.{IsDone}
 use Rattle.pool_model.specs.Orders.{IsSameInAnyOrder}
 use Rattle.pool_model.specs.Passes.{AreAllEnds, adds_of, adds_total, tasks_of}
 use Rattle.pool_model.specs.Records.{Record}
 use Rattle.pool_model.specs.Seen.{EndSeen, PoolSeen, task_of}
+use Rattle.pool_model.specs.Tasks.{Task}
 use Rattle.prio_pool.specs.Made.{new_end, new_pass}
 use Rattle.query_tasks.specs.Ends.{seen_of}
 use Rattle.query_tasks.specs.Starting.{HasHelped}
-use Rattle.run_ending.specs.Ends.{IsJoinAccount as IsToldJoin, IsStopAccount as IsToldAccount}
+use Rattle.run_ending.specs.Ends.{AreAccepted, IsJoinAccount as IsToldJoin, IsStopAccount as IsToldAccount, ticketed}
 use Rattle.run_notes.specs.Accounts.{AllDone}
-use Rattle.run_notes.specs.Told.{told_of as told_by}
+use Rattle.run_notes.specs.Told.{run_of_add, told_of as told_by}
 use Rattle.run_phases.specs.declared.first.FrontStart.{FrontStart}
 use Rattle.run_phases.specs.declared.first.FrontMid.{FrontMid}
 use Rattle.run_phases.specs.declared.second.FrontLeft.{FrontLeft}
 use Rattle.run_phases.specs.Phases.{IsDoneBy, IsJoinAccount, IsStopAccount}
+use Rattle.run_phases.proofs.Adders.{runs_of_one, tasks_of_one}
+use Rattle.run_phases.proofs.Runs.{adds_of_one}
 use Rattle.run_setup.specs.Closing.{AreWorldEnds, IsPrinterEnd}
 use Rattle.run_setup.specs.Ids.{RunIds}
 use Rattle.run_tasks.specs.declared.world.TaskEnds.{TaskEnds}
@@ -75,32 +80,45 @@ module _ {N : Type 0} where
   helped_done : (w : WorldSeen N) (old : EndSeen) (v : WorldSeen N) (new : EndSeen) → HasHelped w old v new → old.records ≡ [] → v.refused ≡ false → All (λ (r : Record). IsDone r.mark) new.records
   helped_done w old v new h none fine = subst (λ (l : List Record). All (λ (r : Record). IsDone r.mark) l) (sym (h.records ∙ ap (λ (l : List Record). l ++ h.more) none)) (h.done fine)
 
+  -- what the one adder added is what was accepted, and its tasks have the tickets of one adder
+  accepted_by : (asked : Asking) (stop : Option ℕ) (pool : PoolSeen) (start : FrontStart N) (mid : FrontMid N) (accepted : ℕ) (e : IsFirstEnd asked stop pool start mid) → accepted ≡ adds_total (seen_of mid.ending).passes
+      → AreAccepted asked accepted (adds_of e.one.pass)
+  accepted_by asked stop pool start mid accepted e is =
+      let early : List Run = early_runs asked.lines asked.shards asked.stop_at in
+      let added : List Run = map run_of_add (adds_of e.one.pass) in
+      let count : accepted ≡ length (adds_of e.one.pass) = is ∙ sym (adds_of_one (seen_of mid.ending).passes e.one.pass e.one.is) in
+      let whole : added ++ e.some.left ≡ early = ap (λ (runs : List Run). runs ++ e.some.left) (sym (runs_of_one (seen_of mid.ending).passes e.one.pass added e.one.is refl) ∙ e.some.are) ∙ e.some.whole in
+      record {
+        count = count;
+        first = sym (ap (λ (n : ℕ). take n early) (count ∙ sym (length-map (adds_of e.one.pass) run_of_add)) ∙ (ap (λ (runs : List Run). take (length added) runs) (sym whole) ∙ take-append_seam added e.some.left));
+      }
+
+  tasks_are : (asked : Asking) (stop : Option ℕ) (pool : PoolSeen) (start : FrontStart N) (mid : FrontMid N) (e : IsFirstEnd asked stop pool start mid) → tasks_of (seen_of mid.ending).passes ≡ ticketed (adds_of e.one.pass)
+  tasks_are asked stop pool start mid e = tasks_of_one (seen_of mid.ending).passes e.one.pass e.one.is e.one.number
+
   -- what is told of a pool that was stopped
   stop_told : (asked : Asking) (stop : Option ℕ) (pool : PoolSeen) (start : FrontStart N) (mid : FrontMid N) (left : FrontLeft N) → IsFirstEnd asked stop pool start mid → IsStopAccount asked mid left → IsToldAccount asked left.note
   stop_told asked stop pool start mid left e a = record {
-    passes = (seen_of mid.ending).passes;
-    accepted = a.accepted;
-    left = e.some.left;
-    first = ap (λ (runs : List Run). runs ++ e.some.left) e.some.are ∙ e.some.whole;
+    added = adds_of e.one.pass;
+    accepted = accepted_by asked stop pool start mid left.note.accepted e a.accepted;
     ran = a.all.tasks;
     back = a.kept.ran;
     others = a.kept.others;
     records = a.all.runs;
     returned = a.kept.runs;
-    all = both_of a.all.tasks (map (task_of (task_head asked)) a.back) a.kept.ran a.kept.others (tasks_of (seen_of mid.ending).passes) a.kept.all a.all.all;
+    all = subst (λ (tasks : List Task). IsSameInAnyOrder (a.all.tasks ++ a.kept.ran ++ a.kept.others) tasks) (tasks_are asked stop pool start mid e)
+        (both_of a.all.tasks (map (task_of (task_head asked)) a.back) a.kept.ran a.kept.others (tasks_of (seen_of mid.ending).passes) a.kept.all a.all.all);
     few = a.few;
   }
 
   -- what is told of a pool that was joined
   join_told : (asked : Asking) (stop : Option ℕ) (pool : PoolSeen) (start : FrontStart N) (mid : FrontMid N) (left : FrontLeft N) → IsFirstEnd asked stop pool start mid → IsJoinAccount mid left → IsToldJoin asked left.note
   join_told asked stop pool start mid left e a = record {
-    passes = (seen_of mid.ending).passes;
-    accepted = a.accepted;
-    left = e.some.left;
-    first = ap (λ (runs : List Run). runs ++ e.some.left) e.some.are ∙ e.some.whole;
+    added = adds_of e.one.pass;
+    accepted = accepted_by asked stop pool start mid left.note.accepted e a.accepted;
     ran = a.all.tasks;
     records = a.all.runs;
-    all = a.all.all;
+    all = subst (λ (tasks : List Task). IsSameInAnyOrder a.all.tasks tasks) (tasks_are asked stop pool start mid e) a.all.all;
     none = a.none;
     direct = a.direct;
   }

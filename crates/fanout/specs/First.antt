@@ -11,7 +11,7 @@ use Rattle.run_front.specs.Fronts.{AreSomeOf, IsFrontOf}
 use Rattle.run_notes.specs.Accounts.{runs_added}
 use Rattle.run_phases.specs.declared.first.FrontStart.{FrontStart}
 use Rattle.run_phases.specs.declared.first.FrontMid.{FrontMid}
-use Rattle.run_phases.specs.Phases.{IsOneAdder}
+use Rattle.run_phases.specs.Phases.{AreOfOneAdder, IsOneAdder}
 use Rattle.run_tasks.specs.Worlds.{MadeFor, told_of}
 use Rattle.std.specs.Prelude.{ℕ, Option}
 
@@ -34,6 +34,7 @@ module _ {N : Type 0} where
     pub some : AreSomeOf [] (early_runs asked.lines asked.shards asked.stop_at) (runs_added (seen_of mid.ending).passes)
     pub pool_is : (seen_of mid.ending).pool ≡ pool.id
     pub passes : AreAllPasses pool.id pool.adders (seen_of mid.ending).passes
+    pub one : AreOfOneAdder (seen_of mid.ending).passes
     pub stops : is_stop mid.ending ≡ is_stopped asked.stop_at (answered_in asked.lines)
     pub helped : HasHelped start.front.world start.helper mid.front.world mid.helper
     pub made : MadeFor 0 start.front.world → MadeFor (adds_total (seen_of mid.ending).passes) mid.front.world

@@ -26,7 +26,7 @@ use Rattle.folly_query.specs.declared.report.Status.{Status}
 use Rattle.folly_query.specs.declared.report.Status.TheVariants as status
 use Rattle.reply_printer.specs.Passing.{Gains}
 use Rattle.input_reader.specs.Sources.{ReadsAll, ReadsTooMuch}
-use Rattle.folly_query.specs.Endings.{Comes, EndsAs, EndsBy, RefusesAs, SumsUpAs, SumsUpBy, TellsPool, IsWritten, WritesAs, asked_of, summary_by}
+use Rattle.folly_query.specs.Endings.{Comes, EndsAs, EndsBy, GainsNoReply, RefusesAs, SumsUpAs, SumsUpBy, TellsPool, IsWritten, WritesAs, asked_of, summary_by}
 use Rattle.folly_query.specs.Reports.{TellsAll, asked_by, status_of}
 
 pub written_or_front : {E G F R : Type 0} (r : Result (Unit {0}) E) → OnOk r G → OnErr r F → OnErr r R → G ⊎ (F × R)
@@ -231,3 +231,29 @@ module _ (generation : Generation) (settings : Settings) (sink sink' : Shown) (e
       by (status.BadInput bad) never = absurd never
       by status.ReadFault never = absurd never
       by status.TooLarge never = absurd never
+
+-- of an input that was refused no reply was written
+pub refused_unanswered : (bad : BadInput) (sink sink' : Shown) (reported found : Status) → reported ≡ found → RefusesAs bad sink sink' found → GainsNoReply sink sink' reported
+refused_unanswered bad sink sink' reported found is refused = subst (λ s. GainsNoReply sink sink' s) (sym is) (by found refused)
+  where
+    by : (found : Status) → RefusesAs bad sink sink' found → GainsNoReply sink sink' found
+    by (status.BadInput other) told = subst (λ b. IsWritten (error_text b) sink sink') (sym told.0) told.1
+    by status.Memory same = same
+    by status.Done told = absurd told
+    by status.Usage told = absurd told
+    by status.ReadFault told = absurd told
+    by status.WriteFault told = absurd told
+    by status.TooLarge told = absurd told
+
+-- a run that left the sink alone wrote no reply
+pub run_unanswered : (sink sink' : Shown) (reported : Status) (o : FanOutcome) → reported ≡ status_of o → sink' ≡ sink → GainsNoReply sink sink' reported
+run_unanswered sink sink' reported o is same = subst (λ s. GainsNoReply sink sink' s) (sym is) (by o)
+  where
+    by : (o : FanOutcome) → GainsNoReply sink sink' (status_of o)
+    by outcome.Done = same
+    by outcome.Memory = same
+    by outcome.WriteFault = same
+
+-- a whole report tells of a pool
+pub told_has_pool : (asked : Asking) (end : FanEnd) → IsReported asked end → end.pool ≡ None → ⊥
+told_has_pool asked end told none = let never : None ≡ Some told.note = sym none ∙ told.pool in absurd (cc)

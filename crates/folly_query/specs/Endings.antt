@@ -83,6 +83,11 @@ WritesAs line sink sink' status.Memory = sink' ≡ sink
 WritesAs line sink sink' status.WriteFault = GainsFront sink sink' line × FaultsRose sink.faults sink'.faults
 WritesAs line sink sink' _ = ⊥
 
+-- no reply was written: nothing was; or, of an input that is refused, the error line as far as the sink took it
+abbrev pub GainsNoReply : Shown → Shown → Status → Type 0
+GainsNoReply sink sink' (status.BadInput bad) = IsWritten (error_text bad) sink sink'
+GainsNoReply sink sink' _ = sink' ≡ sink
+
 -- what is asked of a run over the input that is made up by these numbers
 abbrev pub asked_of : Generation → Settings → Asking
 asked_of generation settings = asked_by settings (generated_input generation.seed generation.docs generation.queries).lines

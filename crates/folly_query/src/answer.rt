@@ -36,6 +36,7 @@ pub fn answer<K: Sink + Send, G: Gate, R: Threads + Wait + Sync>(
         (shown (K.holds sink.new) (K.faults sink.new)) result.outcome }
     ensures reports { Reports (asked_by settings table) result }
     ensures unmade { result.pool ≡ None → TellsNoRun result }
+    ensures untouched { result.pool ≡ None → shown (K.holds sink.new) (K.faults sink.new) ≡ shown (K.holds sink.old) (K.faults sink.old) }
     ensures stopped { IfSome result.pool (IsPoolTold (asked_by settings table)) }
 {
     answer_named::<Brand, K, G, R>(rt, alloc, table, settings, sink, gate)

@@ -3,7 +3,7 @@ ghost use Rattle.fan_base.specs.Outside.{shown};
 ghost use Rattle.query_model.specs.Generated.{summary_of};
 ghost use Rattle.query_words.specs.Laws.{AreNumbersInRange, AreSettingsInRange};
 ghost use Rattle.run_ending.specs.Ends.{IsPoolTold};
-ghost use Rattle.folly_query.specs.Endings.{SumsUpAs, WritesAs, asked_of};
+ghost use Rattle.folly_query.specs.Endings.{GainsNoReply, SumsUpAs, WritesAs, asked_of};
 ghost use Rattle.folly_query.specs.Reports.{IsRefusal, TellsNothing};
 
 use crate::answer::answer;
@@ -32,6 +32,8 @@ pub fn sum_up<K: Sink, G: Gate, R: Threads + Wait + Sync>(
     requires settings { AreSettingsInRange settings }
     ensures ends { SumsUpAs generation settings (shown (K.holds sink.old) (K.faults sink.old)) (shown (K.holds sink.new) (K.faults sink.new)) result }
     ensures unmade { result.pool ≡ None → TellsNothing result }
+    ensures unanswered { result.pool ≡ None →
+        GainsNoReply (shown (K.holds sink.old) (K.faults sink.old)) (shown (K.holds sink.new) (K.faults sink.new)) result.status }
     ensures stopped { IfSome result.pool (IsPoolTold (asked_of generation settings)) }
 {
     generated_is_within_limits();

@@ -25,10 +25,10 @@
 //! * of `gen`: on Done exactly the summary line, and the report of a run over that input (`sums_up`); the source is left as it
 //!   was (`unread`);
 //! * where the words or the input are refused, a read fails or there is too much, no pool, no queues and no cores are reported
-//!   (`nothing`), and without a pool no queues and no cores (`unmade`); where there is a pool, whatever the status, it was
-//!   stopped exactly where the words ask for it; of a stopped one each record of what it ran or handed back is of one of the
-//!   first early tasks, no two of one, and of a joined one each task that it accepted, the first early ones, has one record
-//!   (`pool`, `made_up_pool`).
+//!   (`nothing`), and without a pool no queues and no cores (`unmade`), and no reply was written (`unanswered`); where there is
+//!   a pool, whatever the status, it was stopped exactly where the words ask for it; of a stopped one each record of what it ran
+//!   or handed back is of one of the first early tasks, with its ticket, no two of one, and of a joined one each task that it
+//!   accepted, the first early ones, has one record (`pool`, `made_up_pool`).
 //!
 //! That a run ends, which thread did what, how many workers there are, and when a reply is written is in no clause; README.md
 //! has what of this is tested.

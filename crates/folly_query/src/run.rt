@@ -5,7 +5,7 @@ ghost use Rattle.query_words.specs.declared.command.Generation.{Generation};
 ghost use Rattle.query_words.specs.Grammar.{IsCommand, IsOutside};
 ghost use Rattle.query_words.specs.Laws.{AreSettingsInRange};
 ghost use Rattle.run_ending.specs.Ends.{IsPoolTold};
-ghost use Rattle.folly_query.specs.Endings.{Comes, EndsAs, RefusesAs, SumsUpAs, TellsPool, asked_of};
+ghost use Rattle.folly_query.specs.Endings.{Comes, EndsAs, GainsNoReply, RefusesAs, SumsUpAs, TellsPool, asked_of};
 ghost use Rattle.folly_query.specs.Reports.{IsRefusal, TellsNothing};
 
 use crate::answer::answer;
@@ -59,9 +59,11 @@ pub fn query_main<S: Source, K: Sink + Send, G: Gate, R: Threads + Wait + Sync>(
     ensures unread { (generation : Generation) (settings : Settings) → IsCommand words.now (Command.Generate generation settings)
         → source.new ≡ source.old }
 
-    // Where the words or the input are refused nothing runs. Without a pool nothing is told.
+    // Where the words or the input are refused nothing runs. Without a pool nothing is told, and no reply was written.
     ensures nothing { IsRefusal result.status → TellsNothing result }
     ensures unmade { result.pool ≡ None → TellsNothing result }
+    ensures unanswered { result.pool ≡ None →
+        GainsNoReply (shown (K.holds sink.old) (K.faults sink.old)) (shown (K.holds sink.new) (K.faults sink.new)) result.status }
 
     // There is a pool only where words and input are accepted. Where there is one, whatever the status, it was stopped exactly where the settings ask
     // for it. Of a stopped one each record of what it ran or handed back is of one of the first early tasks, no two of one; of a joined one
@@ -100,6 +102,8 @@ fn run<S: Source, K: Sink + Send, G: Gate, R: Threads + Wait + Sync>(
     ensures unwritten { (result.status ≡ Status.ReadFault) ⊎ (result.status ≡ Status.TooLarge) → sink.new ≡ sink.old }
     ensures nothing { IsRefusal result.status → TellsNothing result }
     ensures unmade { result.pool ≡ None → TellsNothing result }
+    ensures unanswered { result.pool ≡ None →
+        GainsNoReply (shown (K.holds sink.old) (K.faults sink.old)) (shown (K.holds sink.new) (K.faults sink.new)) result.status }
     ensures pool { IfSome result.pool (TellsPool settings
         (shown (S.left source.old) (S.faults source.old)) (shown (S.left source.new) (S.faults source.new))) }
 {

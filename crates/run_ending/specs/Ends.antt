@@ -1,22 +1,19 @@
 -- How a run ends, and what it tells.
-use Rattle.std.specs.Prelude.{◌≡◌, ◌+◌, ◌≤◌, List, [], ◌++◌, length, map, false, true, Some, None, IfSome}
+use Rattle.std.specs.Prelude.{◌≡◌, ℕ, ◌+◌, ◌≤◌, List, [], ◌++◌, length, map, take, false, true, Some, None, IfSome}
 use Rattle.fan_base.specs.Outside.{FaultsRose, Shown}
 use Rattle.query_model.specs.Pieces.{Bytes}
 use Rattle.reply_printer.specs.Passing.{Gains, GainsFront}
 use Rattle.reply_printer.specs.Printing.{text_of}
 use Rattle.fan_model.specs.Answered.{answered_in, is_stopped}
 use Rattle.fan_model.specs.Report.{Asking, IsReport}
-use Rattle.fan_model.specs.Tasks.{Run, early_runs}
+use Rattle.fan_model.specs.Tasks.{early_runs}
 use Rattle.fan_model.specs.Totals.{no_cores}
 use Rattle.pool_model.specs.Orders.{IsSameInAnyOrder}
-use Rattle.pool_model.specs.Passes.{adds_total, tasks_of}
 use Rattle.pool_model.specs.Records.{AreRunsOf}
-use Rattle.pool_model.specs.Seen.{PassSeen}
-use Rattle.pool_model.specs.Tasks.{Task}
+use Rattle.pool_model.specs.Tasks.{Add, Task, numbered}
 use Rattle.run_notes.specs.declared.notes.PoolNote.{PoolNote}
-use Rattle.run_notes.specs.Accounts.{runs_added}
 use Rattle.run_notes.specs.Counting.{totals_of}
-use Rattle.run_notes.specs.Told.{note_of, told_of}
+use Rattle.run_notes.specs.Told.{note_of, run_of_add, told_of}
 use Rattle.run_ending.specs.declared.end.FanEnd.{FanEnd}
 use Rattle.run_ending.specs.declared.end.FanOutcome.{FanOutcome}
 use Rattle.run_ending.specs.declared.end.FanOutcome.TheVariants as outcome
@@ -47,31 +44,36 @@ pub record TellsNoRun (end : FanEnd) : Type 0 where
   pub queues : end.queues ≡ []
   pub cores : totals_of end.tally ≡ no_cores
 
+-- the adds of a run's pool, in order: the first of the early tasks, so many of them
+pub record AreAccepted (asked : Asking) (accepted : ℕ) (added : List Add) : Type 0 where
+  pub count : accepted ≡ length added
+  pub first : map run_of_add added ≡ take accepted (early_runs asked.lines asked.shards asked.stop_at)
+
+-- The tasks of these adds. A ticket names an adder and which of its adds it is, both counted from 0; a run's pool has one adder, so the tickets are (0, 0), (0, 1), and so on.
+abbrev pub ticketed : List Add → List Task
+ticketed added = numbered 0 0 added
+
 -- What is told of the tasks of a pool that was stopped: it accepted the first of the early ones, as many as are told; each record of what it ran, or of what was handed back and then
--- ran, is of one of these, no two of one. So there are no more records than that. The list of the other tasks is tied to nothing that is told.
+-- ran, is of one of these, with its ticket, no two of one. So there are no more records than that. The list of the other tasks is tied to nothing that is told.
 pub record IsStopAccount (asked : Asking) (note : PoolNote) : Type 0 where
-  pub passes : List PassSeen
-  pub accepted : note.accepted ≡ adds_total passes
-  pub left : List Run
-  pub first : runs_added passes ++ left ≡ early_runs asked.lines asked.shards asked.stop_at
+  pub added : List Add
+  pub accepted : AreAccepted asked note.accepted added
   pub ran : List Task
   pub back : List Task
   pub others : List Task
   pub records : AreRunsOf ran note.ran.records
   pub returned : AreRunsOf back note.returned
-  pub all : IsSameInAnyOrder (ran ++ back ++ others) (tasks_of passes)
+  pub all : IsSameInAnyOrder (ran ++ back ++ others) (ticketed added)
   pub few : length note.ran.records + length note.returned ≤ note.accepted
 
--- What is told of the tasks of a pool that was joined: it accepted the first of the early ones, as many as are told; each of these has one record of a run, there are no other records,
--- nothing was handed back, and no task is told that never was in the pool.
+-- What is told of the tasks of a pool that was joined: it accepted the first of the early ones, as many as are told; each of these has one record of a run, with its ticket, there are no
+-- other records, nothing was handed back, and no task is told that never was in the pool.
 pub record IsJoinAccount (asked : Asking) (note : PoolNote) : Type 0 where
-  pub passes : List PassSeen
-  pub accepted : note.accepted ≡ adds_total passes
-  pub left : List Run
-  pub first : runs_added passes ++ left ≡ early_runs asked.lines asked.shards asked.stop_at
+  pub added : List Add
+  pub accepted : AreAccepted asked note.accepted added
   pub ran : List Task
   pub records : AreRunsOf ran note.ran.records
-  pub all : IsSameInAnyOrder ran (tasks_of passes)
+  pub all : IsSameInAnyOrder ran (ticketed added)
   pub none : note.returned ≡ []
   pub direct : note.direct ≡ []
 

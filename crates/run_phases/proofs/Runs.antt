@@ -109,7 +109,7 @@ pub stop_account : {N : Type 0} (asked : Asking) (mid : FrontMid N) (left : Fron
 stop_account asked mid left accepted few behind have = record { accepted = accepted; few = few; back = have.returned; all = have.all; kept = have.kept }
 
 -- what the one adder added is what was added
-adds_of_one : (passes : List PassSeen) (adder : PassSeen) → passes ≡ adder ∷ [] → length (adds_of adder) ≡ adds_total passes
+pub adds_of_one : (passes : List PassSeen) (adder : PassSeen) → passes ≡ adder ∷ [] → length (adds_of adder) ≡ adds_total passes
 adds_of_one passes adder is = sym (adds_counted passes ∙ (ap (λ (l : List Run). length l) (runs_of_one passes adder _ is refl) ∙ length-map (adds_of adder) run_of_add))
 
 pub made_by_one : {N : Type 0} (w v : WorldSeen N) (old new : PassSeen) (passes : List PassSeen) → (MadeFor (length (adds_of old)) w → MadeFor (length (adds_of new)) v) → adds_of old ≡ [] → passes ≡ new ∷ []

@@ -35,6 +35,12 @@ pub record IsOneAdder (pool : PoolId) (passes : List PassSeen) : Type 0 where
   pub number : pass.number ≡ 0
   pub unused : adds_of pass ≡ []
 
+-- one pass, of an adder whose number is 0
+pub record AreOfOneAdder (passes : List PassSeen) : Type 0 where
+  pub pass : PassSeen
+  pub is : passes ≡ pass ∷ []
+  pub number : pass.number ≡ 0
+
 module _ {N : Type 0} where
   -- the end of this poster
   pub record IsDoneBy (poster : PosterSeen (PrintJob N)) (end : Sending (PrintJob N)) : Type 0 where

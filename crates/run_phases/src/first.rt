@@ -12,7 +12,7 @@ ghost use Rattle.run_front.specs.Posted.{HasPosted};
 ghost use Rattle.run_notes.specs.Accounts.{runs_added};
 ghost use Rattle.run_plan.specs.Turns.{AreTurnsOf, begun_in};
 ghost use Rattle.run_tasks.specs.Worlds.{MadeFor, told_of};
-ghost use Rattle.run_phases.specs.Phases.{IsOneAdder, StopsAt, early_place};
+ghost use Rattle.run_phases.specs.Phases.{AreOfOneAdder, IsOneAdder, StopsAt, early_place};
 
 use fan_base::{Gate, Memory};
 use fan_parts::RunName;
@@ -66,6 +66,7 @@ pub fn first_phase<'c, 't, 'i: 't, N: RunName + 'static, G: Gate, R: Wait>(
     ensures some { AreSomeOf [] (early_runs N.asked.lines N.asked.shards N.asked.stop_at) (runs_added (seen_of result.ending).passes) }
     ensures pool { (seen_of result.ending).pool ≡ pool.now.id }
     ensures passes { AreAllPasses pool.now.id pool.now.adders (seen_of result.ending).passes }
+    ensures adders { AreOfOneAdder (seen_of result.ending).passes }
     ensures stops { is_stop result.ending ≡ is_stopped N.asked.stop_at (answered_in N.asked.lines) }
     ensures helped { HasHelped start.entry.front.world start.entry.helper result.front.world result.helper }
     ensures made { MadeFor 0 start.entry.front.world → MadeFor (adds_total (seen_of result.ending).passes) result.front.world }

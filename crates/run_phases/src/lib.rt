@@ -17,7 +17,7 @@
 //! * what was added are the first of the tasks of all early queries, in the order of answers (`some`), and where no memory was
 //!   refused all of them (`added`);
 //! * the pool is stopped exactly where the run has a stop point and at least so many queries are answered (`stops`); the end
-//!   that has begun is this pool's, with all its adders' passes (`pool`, `passes`);
+//!   that has begun is this pool's, with all its adders' passes (`pool`, `passes`), which are the one of the adder 0 (`adders`);
 //! * where its world notes no refusal, a new one has begun a core for each task that was added (`made`);
 //! * what the front helped with is in its helper's records (`helped`), and the front stays this run's, with the same poster
 //!   (`front`, `printer`);

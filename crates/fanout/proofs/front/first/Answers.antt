@@ -6,6 +6,7 @@ returns g c = record {
   some = c.first_phase.ensures.some;
   pool_is = c.first_phase.ensures.pool;
   passes = c.first_phase.ensures.passes;
+  one = c.first_phase.ensures.adders;
   stops = c.first_phase.ensures.stops;
   helped = c.first_phase.ensures.helped;
   made = c.first_phase.ensures.made;

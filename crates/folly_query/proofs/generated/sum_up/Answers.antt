@@ -8,7 +8,7 @@ use Rattle.query_model.specs.declared.line.Line.{Line}
 use Rattle.query_model.specs.Generated.{generated_input}
 use Rattle.query_model.specs.Output.{output}
 use Rattle.folly_query.specs.Reports.{asked_by}
-use Rattle.folly_query.proofs.EndingLemmas.{held, summary_ends}
+use Rattle.folly_query.proofs.EndingLemmas.{held, summary_ends, told_has_pool}
 use Rattle.folly_query.proofs.generated.sum_up.Goals as goal
 
 pub returns-in-Done : goal.returns-in-Done
@@ -27,5 +27,6 @@ returns-in-Done g c =
           (c.bytes.ensures ∙ held before.bytes.items after.bytes.items (output input) before.faults after.faults c.new-replies.ensures.bytes writes)
           reports c.write_summary.ensures;
       unmade = λ none. record { pool = none; queues = (c.answer-outcome.ensures.unmade none).queues; cores = (c.answer-outcome.ensures.unmade none).cores };
+      unanswered = λ none. absurd (told_has_pool (asked_by c.args.settings c.in-Ok.table) c.answer-outcome.result reports none);
       stopped = subst (λ ls. IfSome c.answer-outcome.result.pool (IsPoolTold (asked_by c.args.settings ls))) c.in-Ok.ensures c.answer-outcome.ensures.stopped;
     }

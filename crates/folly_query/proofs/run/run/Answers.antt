@@ -1,7 +1,7 @@
-use Rattle.std.proofs.Common.{Err, ap, subst}
+use Rattle.std.proofs.Common.{Err, ap, sym, subst, ◌∙◌}
 use Rattle.fan_base.specs.Outside.{shown}
 use Rattle.folly_query.specs.Endings.{RefusesAs}
-use Rattle.folly_query.proofs.EndingLemmas.{refusal_comes, refused_ends, run_comes, run_ends, tells_pool}
+use Rattle.folly_query.proofs.EndingLemmas.{refusal_comes, refused_ends, refused_unanswered, run_comes, run_ends, run_unanswered, tells_pool}
 use Rattle.folly_query.proofs.run.run.Goals as goal
 
 pub answer-requires-clause-limits : goal.answer-requires-clause-limits
@@ -61,3 +61,16 @@ returns-clause-pool g c =
     let read = c.in-Ok.ensures.accepted in
     tells_pool c.args.settings source source' sink sink' read.0 (record { lines = c.in-Ok.table }) c.of_run.result.pool c.answer.result.pool c.of_run.ensures.pool
     read.1 read.2 c.answer.ensures.stopped
+
+pub returns-in-Err-Bad-clause-unanswered : goal.returns-in-Err-Bad-clause-unanswered
+returns-in-Err-Bad-clause-unanswered g c = λ none.
+    let sink = shown (g.K.Sink.holds c.args.sink.now) (g.K.Sink.faults c.args.sink.now) in
+    let sink' = shown (g.K.Sink.holds c.refuse.new.sink) (g.K.Sink.faults c.refuse.new.sink) in
+    refused_unanswered c.in-Err-Bad.bad sink sink' c.empty-in-Err-Bad.result.status c.refuse.result c.empty-in-Err-Bad.ensures.status
+    (subst (λ b. RefusesAs b sink sink' c.refuse.result) c.in-Err-Bad.bad-is c.refuse.ensures.ends)
+
+pub returns-clause-unanswered : goal.returns-clause-unanswered
+returns-clause-unanswered g c = λ none.
+    let sink = shown (g.K.Sink.holds c.args.sink.now) (g.K.Sink.faults c.args.sink.now) in
+    let sink' = shown (g.K.Sink.holds c.answer.new.sink) (g.K.Sink.faults c.answer.new.sink) in
+    run_unanswered sink sink' c.of_run.result.status c.answer.result.outcome c.of_run.ensures.status (c.answer.ensures.untouched (sym c.of_run.ensures.pool ∙ none))

@@ -2,7 +2,7 @@ use Rattle.std.proofs.Common.{ℕ, List, [], refl, sym, ◌∙◌, subst, true�
 use Rattle.fan_model.specs.Tasks.{Run, early_runs}
 use Rattle.run_front.specs.Fronts.{AreSomeOf}
 use Rattle.run_front.specs.Posted.{HasPosted}
-use Rattle.run_phases.proofs.Adders.{first_unused, runs_of_one, set_first}
+use Rattle.run_phases.proofs.Adders.{first_unused, runs_of_one, set_first, still_one}
 use Rattle.run_phases.proofs.Runs.{early_are, early_some, made_by_one, some_all}
 use Rattle.run_phases.proofs.first.first_phase.Goals.{in-Ok, in-Err}
 use Rattle.run_phases.proofs.first.first_phase.Goals as goal
@@ -20,6 +20,10 @@ returns-clause-some g c = elim c.match-added.branch [
       (sym (runs_of_one _ _ _ (c.begin_end-ending.ensures.begun.passes_are ∙ set_first _ _ _ c.requires.adders.is) refl))
       (early_some g.N.RunName.asked _ _ c.early_end-end.ensures.early w.in-Err.ensures.some)
 ]
+
+pub returns-clause-adders : goal.returns-clause-adders
+returns-clause-adders g c =
+    still_one _ _ _ c.index_mut.result.now _ c.requires.adders.is c.index_mut.ensures.value c.requires.adders.number c.early_turns-added.ensures.adder.1 c.begin_end-ending.ensures.begun.passes_are
 
 pub returns-clause-made : goal.returns-clause-made
 returns-clause-made g c has =
