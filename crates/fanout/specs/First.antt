@@ -27,7 +27,7 @@ module _ {N : Type 0} where
     pub one : pool.adders ≡ 1
     pub helper : start.helper.pool ≡ pool.id
 
-  -- The pool's end has begun; the first of the early queries' tasks were added, and all of them where no memory was refused. The front helped with some tasks, and
+  -- The pool's end has begun; the first of the early queries' tasks were added, by the one adder, with the number 0, and all of them where no memory was refused. The front helped with some tasks, and
   -- began a core for each that was added.
   pub record IsFirstEnd (asked : Asking) (stop : Option ℕ) (pool : PoolSeen) (start : FrontStart N) (mid : FrontMid N) : Type 0 where
     pub added : mid.refused ≡ false → runs_added (seen_of mid.ending).passes ≡ early_runs asked.lines asked.shards asked.stop_at

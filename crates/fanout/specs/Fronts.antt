@@ -35,7 +35,7 @@ module _ {N : Type 0} where
   abbrev pub NoneRefused : List (TaskEnds N) → Type 0
   NoneRefused worlds = All (λ (w : TaskEnds N). w.refused ≡ false) worlds
 
-  -- What is left of all worlds, the end of the front's poster; what is told of a pool that was stopped; where the front notes no want of memory, a core that it began for
+  -- What is left of all worlds, the end of the front's poster; what is told of the pool, whether it was stopped or joined; where the front notes no want of memory, a core that it began for
   -- each task that the pool accepted or that the front ran late; and where nobody does, the report of the pool.
   pub record IsSideEnd (asked : Asking) (ids : RunIds) (end : SideEnd N) : Type 0 where
     pub worlds : AreWorldEnds ids end.worlds.items

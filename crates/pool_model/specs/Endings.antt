@@ -51,7 +51,7 @@ pub record AreOfEnded (ending : Ending) (passes : List PassSeen) (ends : List En
   pub found : All (FoundNoOther ending) ends
 
 -- The whole history of one queue: it is lawful, each adder's accepts are what its pass pushed there, each worker's and helper's takes are what its
--- end popped there, and these are all; what was left is the rest, and nothing waits.
+-- end popped there, and these are all; what was left is the rest, which is behind all that was taken, and nothing waits.
 pub record IsHistoryOf (passes : List PassSeen) (ends : List EndSeen) (queue : ℕ) (rest : List Entry) (history : List Event) : Type 0 where
   pub lawful : PoolHistory history
   pub accepted : All (λ p. accepted_by p.number history ≡ at_queue p.pushed queue) passes
@@ -59,6 +59,7 @@ pub record IsHistoryOf (passes : List PassSeen) (ends : List EndSeen) (queue : �
   pub all_accepted : IsSameInAnyOrder (flat_map (λ p. at_queue p.pushed queue) passes) (accepts history)
   pub all_taken : IsSameInAnyOrder (flat_map (λ e. at_queue e.popped queue) ends) (takes history)
   pub left : lefts history ≡ rest
+  pub left_last : outs history ≡ takes history ++ lefts history
   pub whole : outs history ≡ accepts history
 
 -- each of so many queues has such a history, with its rest

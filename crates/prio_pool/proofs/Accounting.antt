@@ -47,6 +47,7 @@ history_of whole passes ends k q rest s =
         all_accepted = record { sums = λ f. ap (sum_by f) (sym (entries_of_map (λ (p : PassSeen). p.number) (λ (p : PassSeen). at_queue p.pushed k) passes)) ∙ w.all_accepted.sums f };
         all_taken = record { sums = λ f. ap (sum_by f) (sym (entries_of_map (λ (e : EndSeen). e.number) (λ (e : EndSeen). at_queue e.popped k) ends)) ∙ w.all_taken.sums f };
         left = w.left;
+        left_last = w.left_last;
         whole = sym (w.waits ∙ append-nil (outs h));
       },
     )

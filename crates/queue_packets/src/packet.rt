@@ -1,5 +1,5 @@
 // Items in their blocks, and such blocks in an order.
-ghost use Rattle.std.specs.Prelude.{◌≡◌, [], ◌∷◌, Some, reverse, MatchOption};
+ghost use Rattle.std.specs.Prelude.{◌≡◌, [], ◌∷◌, Some, None, reverse, MatchOption};
 
 use crate::block::{Block, Blocks};
 use std::marker::Model;
@@ -34,7 +34,8 @@ impl<X> Packet<X> {
 
     /// Takes the item out. The block is empty then, and may be used for another item.
     pub fn open(self) -> (X, Block<X>)
-        ensures { result.0 ≡ self }
+        ensures item { result.0 ≡ self }
+        ensures empty { result.1 ≡ None }
     {
         let Packet { mut block, seen: _ } = self;
         let Some(item) = block.take() else {

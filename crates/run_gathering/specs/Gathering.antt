@@ -120,7 +120,7 @@ module _ {N : Type 0} where
   abbrev pub Schedules : AgendaSeen (GatherJob N) → AgendaSeen (GatherJob N) → Type 0
   Schedules old new = (new ≡ old) ⊎ ((scoring : _) × (new ≡ with_in_loop old (gather.Score scoring)))
 
-  -- What a run of the job with this id does. A scoring posts its reply. It is done exactly where the world notes no refusal.
+  -- What a run of the job with this id does. A scoring posts its reply. The run is done exactly where the world notes no refusal behind it.
   pub record Runs (id : JobId) (before : Place (GatheringSeen N) (GatherJob N)) (m : Mark) (after : Place (GatheringSeen N) (GatherJob N)) : Type 0 where
     pub forwards : ℕ
     pub posts : List (PrintJob N)

@@ -10,7 +10,7 @@ use Rattle.core_cells.specs.Seen.{SeenPass}
 use Rattle.core_word.specs.Count.{Counts}
 use Rattle.core_word.specs.Seen.{HomeId}
 use Rattle.run_tasks.specs.Seen.{WorldSeen}
-use Rattle.run_tasks.specs.Leaving.{CountsLeave, CountsTasks, LeavesCell, LeavesSome, MakesMore, reopened_times, with_reopened}
+use Rattle.run_tasks.specs.Leaving.{CountsLeave, CountsTasks, LeavesCell, MakesMore, reopened_times, with_reopened}
 use Rattle.job_trait.specs.Marks.{IsDone}
 use Rattle.job_trait.specs.Runs.{Leads, Ran, Through}
 use Rattle.pool_model.specs.Records.{Record, ran_of}
@@ -81,15 +81,14 @@ module _ {N : Type 0} where
   }
 
   -- a core that is left, and a fire that may be posted behind that
-  pub left-some : (seen old : WorldSeen N) (home : HomeId) (use_number : ℕ) (mid new : SeenPass) (count counts : Counts) → seen ≡ old
-      → LeavesCell home use_number seen.pass seen.tally mid count → new ≡ mid → counts ≡ count → LeavesSome old.pass old.tally new counts
-  left-some seen old home use_number mid new count counts is leaves pass tally = (
-    home,
-    use_number,
-    subst (λ (w : WorldSeen N). LeavesCell home use_number w.pass w.tally new counts) is
-        (subst (λ (p : SeenPass). LeavesCell home use_number seen.pass seen.tally p counts) (sym pass)
-        (subst (λ (t : Counts). LeavesCell home use_number seen.pass seen.tally mid t) (sym tally) leaves)),
-  )
+  pub left-cell : (seen old : WorldSeen N) (left home : HomeId) (used use_number : ℕ) (mid new : SeenPass) (count counts : Counts) → seen ≡ old → left ≡ home → used ≡ use_number
+      → LeavesCell left used seen.pass seen.tally mid count → new ≡ mid → counts ≡ count → LeavesCell home use_number old.pass old.tally new counts
+  left-cell seen old left home used use_number mid new count counts is at by leaves pass tally =
+      subst (λ (w : WorldSeen N). LeavesCell home use_number w.pass w.tally new counts) is
+      (subst (λ (h : HomeId). LeavesCell h use_number seen.pass seen.tally new counts) at
+      (subst (λ (n : ℕ). LeavesCell left n seen.pass seen.tally new counts) by
+      (subst (λ (p : SeenPass). LeavesCell left used seen.pass seen.tally p counts) (sym pass)
+      (subst (λ (t : Counts). LeavesCell left used seen.pass seen.tally mid t) (sym tally) leaves))))
 
   -- one end more, where the ends that are still to come fit behind it
   pub ends-more : (all told : List PosterTold) (ends : List (Sending (GatherJob N))) (p : PosterSeen (GatherJob N)) (e : Sending (GatherJob N))

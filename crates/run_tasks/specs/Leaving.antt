@@ -20,7 +20,7 @@ abbrev pub LeavesCell : HomeId → ℕ → SeenPass → Counts → SeenPass → 
 LeavesCell home use_number old count new counts =
     ((new ≡ old) × (counts ≡ count)) ⊎ (PutsBack (record { home = home; use_number = suc use_number }) old new × (counts ≡ with_reopened count))
 
--- One core was left, of some home and use: where its other half had left, and only there, its cell was given back and counted.
+-- Of some home and use: pass and tally stayed, or its core was freed and reopened, and its key put back, or dropped where as many cells were free as there are.
 abbrev pub LeavesSome : SeenPass → Counts → SeenPass → Counts → Type 0
 LeavesSome old count new counts = (home : HomeId) × (use_number : ℕ) × LeavesCell home use_number old count new counts
 

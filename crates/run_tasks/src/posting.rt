@@ -1,6 +1,6 @@
 //! What becomes of a task's core once its value is set, and of what either half met there.
 ghost use Rattle.std.specs.Prelude.{◌≡◌, false};
-ghost use Rattle.run_tasks.specs.Leaving.{LeavesSome};
+ghost use Rattle.run_tasks.specs.Leaving.{LeavesCell};
 ghost use Rattle.run_tasks.specs.Posting.{IsFireOf, Lands, LandsAs, PostsFire, PostsOneAtMost, SuitsCore};
 ghost use Rattle.run_tasks.specs.Worlds.{Follows};
 
@@ -22,7 +22,7 @@ impl<'c, 't, 'i: 't, N: RunName> TaskWorld<'c, 't, 'i, N> {
     )
         requires outcome { SuitsCore producer.no outcome }
         ensures follows { Follows self.old self.new }
-        ensures left { self.new.refused ≡ false → LeavesSome self.old.pass self.old.tally self.new.pass self.new.tally }
+        ensures left { self.new.refused ≡ false → LeavesCell producer.entry.home producer.entry.use_number self.old.pass self.old.tally self.new.pass self.new.tally }
         ensures posted { self.new.refused ≡ false →
             PostsOneAtMost (IsFireOf producer.entry.no outcome) self.old.posters self.new.posters }
     {

@@ -3,7 +3,7 @@ ghost use Rattle.std.specs.Prelude.{◌≡◌, ◌∷◌, [], ◌++◌, IfSome, 
 ghost use Rattle.core_cells.specs.Seen.{WereFree, key_of_half};
 ghost use Rattle.core_word.specs.Count.{raised};
 ghost use Rattle.fan_model.specs.Tasks.{job_of};
-ghost use Rattle.run_tasks.specs.Leaving.{CountsLeave, LeavesSome};
+ghost use Rattle.run_tasks.specs.Leaving.{CountsLeave, LeavesCell};
 ghost use Rattle.run_tasks.specs.Posting.{IsFireTo, PostsOneAtMost};
 ghost use Rattle.run_tasks.specs.Worlds.{Follows};
 
@@ -46,7 +46,7 @@ impl<'c, 't, 'i: 't, N: RunName> TaskWorld<'c, 't, 'i, N> {
         requires core { consumer.no ≡ (job_of callback.number callback.shard).0 }
         ensures follows { Follows self.old self.new }
         ensures tally { self.new.refused ≡ false → CountsLeave self.old.tally self.new.tally }
-        ensures left { self.new.refused ≡ false → LeavesSome self.old.pass self.old.tally self.new.pass self.new.tally }
+        ensures left { self.new.refused ≡ false → LeavesCell consumer.entry.home consumer.entry.use_number self.old.pass self.old.tally self.new.pass self.new.tally }
         ensures posted { self.new.refused ≡ false →
             PostsOneAtMost (IsFireTo consumer.entry.no callback) self.old.posters self.new.posters }
     {

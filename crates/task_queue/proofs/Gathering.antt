@@ -54,6 +54,7 @@ module _ {J : Type 0} (head : J → Head) where
         facts = g;
         lawful = d.lawful;
         waits = d.waits;
+        left_last = d.left_last;
         from_adders = d.from_adders;
         from_takers = d.from_takers;
         parts = let s = sum-fork (λ (x : View). x.parts) views pass v left nobody here in let whole = d.parts in omega arith;
@@ -105,6 +106,7 @@ module _ {J : Type 0} (head : J → Head) where
         facts = g;
         lawful = d.lawful;
         waits = d.waits;
+        left_last = d.left_last;
         from_adders = d.from_adders;
         from_takers = d.from_takers;
         parts = let s = sum-merge (λ (y : View). y.parts) views pass other v both x nobody here there in let whole = d.parts in omega arith;
@@ -155,6 +157,7 @@ module _ {J : Type 0} (head : J → Head) where
         facts = g;
         lawful = d.lawful;
         waits = d.waits;
+        left_last = d.left_last;
         from_adders = d.from_adders;
         from_takers = d.from_takers;
         parts = let s = sum-merge (λ (y : View). y.parts) views pass other v both x nobody here there in let whole = d.parts in omega arith;

@@ -28,6 +28,7 @@ begins head = record {
   facts = nothing;
   lawful = record { ascend = tt; in_order = nothing_yet };
   waits = refl;
+  left_last = refl;
   from_adders = All-nil (λ (e : Entry). e.ticket.adder < 0);
   from_takers = λ n _. refl;
   parts = refl;
@@ -59,6 +60,7 @@ module _ {J : Type 0} (head : J → Head) where
         facts = g;
         lawful = d.lawful;
         waits = d.waits;
+        left_last = d.left_last;
         from_adders = d.from_adders;
         from_takers = d.from_takers;
         parts = let s = sum-fork (λ (x : View). x.parts) views 0 v left nobody here in let w = d.parts in omega arith;
@@ -97,6 +99,7 @@ module _ {J : Type 0} (head : J → Head) where
         facts = g;
         lawful = d.lawful;
         waits = d.waits;
+        left_last = d.left_last;
         from_adders = All-weaker (λ (e : Entry). e.ticket.adder < f.adders) (λ (e : Entry). e.ticket.adder < a + 1) (λ e lt. omega (arith, lt, number)) (accepts f.history) d.from_adders;
         from_takers = d.from_takers;
         parts = let s = sum-fork (λ (x : View). x.parts) views 0 v left right here in let whole = d.parts in omega arith;
@@ -144,6 +147,7 @@ module _ {J : Type 0} (head : J → Head) where
         facts = g;
         lawful = d.lawful;
         waits = d.waits;
+        left_last = d.left_last;
         from_adders = d.from_adders;
         from_takers = λ n le. d.from_takers n (omega (arith, le, number));
         parts = let s = sum-fork (λ (x : View). x.parts) views 0 v left right here in let whole = d.parts in omega arith;

@@ -52,6 +52,8 @@ module _ {J : Type 0} (head : J → Head) where
           facts = g;
           lawful = lawful;
           waits = accept_is ∙ (d.waits ∙ (sym (append_assoc (outs f.history) (e ∷ []) rest) ∙ ap (λ (l : List Entry). l ++ rest) (sym out_is)));
+          left_last = out_is ∙ (ap (λ (l : List Entry). l ++ e ∷ []) (d.left_last ∙ (ap (λ (l : List Entry). takes f.history ++ l) mine.none_left ∙ append-nil (takes f.history)))
+              ∙ (sym take_is ∙ (sym (append-nil (takes history)) ∙ ap (λ (l : List Entry). takes history ++ l) (sym (left_is ∙ mine.none_left)))));
           from_adders = subst (All (λ (y : Entry). y.ticket.adder < f.adders)) (sym accept_is) d.from_adders;
           from_takers = λ m le. taken_by-other m number f.history e (λ same. omega (arith, same, le, mine.made)) ∙ d.from_takers m le;
           parts = let s = sum-set (λ (y : View). y.parts) views pass v u here in let whole = d.parts in omega arith;
@@ -96,6 +98,8 @@ module _ {J : Type 0} (head : J → Head) where
           facts = g;
           lawful = lawful;
           waits = accept_is ∙ (d.waits ∙ (sym (append_assoc (outs f.history) (e ∷ []) rest) ∙ ap (λ (l : List Entry). l ++ rest) (sym out_is)));
+          left_last = out_is ∙ (ap (λ (l : List Entry). l ++ e ∷ []) d.left_last ∙ (append_assoc (takes f.history) (lefts f.history) (e ∷ [])
+              ∙ (ap (λ (l : List Entry). takes f.history ++ l) (sym (lefts-append f.history (left e ∷ []))) ∙ ap (λ (l : List Entry). l ++ lefts history) (sym take_is))));
           from_adders = subst (All (λ (y : Entry). y.ticket.adder < f.adders)) (sym accept_is) d.from_adders;
           from_takers = λ m le. taken_is m ∙ d.from_takers m le;
           parts = let s = sum-set (λ (y : View). y.parts) views pass v u here in let whole = d.parts in omega arith;
@@ -138,6 +142,7 @@ module _ {J : Type 0} (head : J → Head) where
           all_accepted = record { sums = λ h. sym (sum_one (λ (y : View). sum_by h (pushes_of y)) views pass v here (λ j u apart there. ap (sum_by h) (others j u apart there).0)) ∙ d.pushed h };
           all_taken = record { sums = λ h. sym (sum_one (λ (y : View). sum_by h (pops_of y)) views pass v here (λ j u apart there. ap (sum_by h) (others j u apart there).1)) ∙ d.popped h };
           left = mine.left;
+          left_last = d.left_last;
           waits = d.waits;
           short = accepts_short head items views d;
         },

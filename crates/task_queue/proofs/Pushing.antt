@@ -49,6 +49,7 @@ module _ {J : Type 0} (head : J → Head) where
           facts = g;
           lawful = lawful_accept f.history e d.lawful (subst (All (λ (y : Entry). y.ticket.index < x.ticket.index)) (sym (ap (λ (a : ℕ). accepted_by a f.history) from ∙ mine.list)) below);
           waits = accept_is ∙ (ap (λ (l : List Entry). l ++ e ∷ []) d.waits ∙ (append_assoc (outs f.history) (map (entry_of head) items) (e ∷ []) ∙ (ap (λ (l : List Entry). outs f.history ++ l) (sym (map-append (entry_of head) items (x ∷ []))) ∙ ap (λ (l : List Entry). l ++ map (entry_of head) (items ++ x ∷ [])) (sym out_is))));
+          left_last = out_is ∙ (d.left_last ∙ (ap (λ (l : List Entry). l ++ lefts f.history) (sym take_is) ∙ ap (λ (l : List Entry). takes history ++ l) (sym left_is)));
           from_adders = subst (All (λ (y : Entry). y.ticket.adder < f.adders)) (sym accept_is) (All-push (λ (y : Entry). y.ticket.adder < f.adders) (accepts f.history) e d.from_adders (rw from mine.made));
           from_takers = λ m le. taken_is m ∙ d.from_takers m le;
           parts = let s = sum-set (λ (y : View). y.parts) views pass v u here in let whole = d.parts in omega arith;

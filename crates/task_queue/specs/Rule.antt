@@ -78,12 +78,13 @@ module _ (f : Facts) where
   abbrev pub Knows : ℕ → View → Type 0
   Knows pass v = KnowsAs v.role pass v
 
--- The history is lawful, and what was accepted is what is out and then what the queue holds. The parts of all views are the whole; what all views pushed is,
+-- The history is lawful, what was accepted is what is out and then what the queue holds, and what was left is behind all that was taken. The parts of all views are the whole; what all views pushed is,
 -- in any order, what was accepted, and what they popped what was taken.
 pub record QueueHolds {J : Type 0} (head : J → Head) (items : List (Queued J)) (views : List View) : Type 0 where
   pub facts : Facts
   pub lawful : PoolHistory facts.history
   pub waits : accepts facts.history ≡ outs facts.history ++ map (entry_of head) items
+  pub left_last : outs facts.history ≡ takes facts.history ++ lefts facts.history
   pub from_adders : All (λ e. e.ticket.adder < facts.adders) (accepts facts.history)
   pub from_takers : (n : ℕ) → facts.takers ≤ n → taken_by n facts.history ≡ []
   pub parts : sum_by (λ v. v.parts) views ≡ facts.whole

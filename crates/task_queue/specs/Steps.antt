@@ -21,8 +21,8 @@ pub record Took {J : Type 0} (head : J → Head) (v : View) (x : Queued J) (w : 
   pub ascend : Ascend (tickets_of (v.popped ++ entry_of head x ∷ []))
   pub short : length (v.popped ++ entry_of head x ∷ []) ≤ 2 ^ 38
 
--- A whole history of the queue: it is lawful, each adder's accepts are what it pushed, each taker's takes are what it popped, and these are all; the
--- queue holds what is neither out.
+-- A whole history of the queue: it is lawful, each adder's accepts are what it pushed, each taker's takes are what it popped, and these are all; what
+-- was left is behind all that was taken, and the queue holds what isn't out.
 pub record IsWhole (added taken : List Share) (popped waiting : List Entry) (history : List Event) : Type 0 where
   pub lawful : PoolHistory history
   pub accepted : All (λ s. accepted_by s.number history ≡ s.entries) added
@@ -30,6 +30,7 @@ pub record IsWhole (added taken : List Share) (popped waiting : List Entry) (his
   pub all_accepted : IsSameInAnyOrder (entries_of added) (accepts history)
   pub all_taken : IsSameInAnyOrder (entries_of taken) (takes history)
   pub left : lefts history ≡ popped
+  pub left_last : outs history ≡ takes history ++ lefts history
   pub waits : accepts history ≡ outs history ++ waiting
   pub short : length (accepts history) ≤ 2 ^ 38
 

@@ -12,7 +12,7 @@ const IN_A_BOX: usize = 32;
 /// How many boxes wait at most, full ones for the adders and as many empty ones for the takers. Those over are freed, with their blocks.
 const BOXES: usize = 2_048;
 
-/// Empty blocks, as many as a box holds. Putting one in or taking one out touches no block's own memory, which another thread used last.
+/// Empty blocks, as many as a box holds. Putting one in or taking one out touches no block's own memory.
 #[derive(Drop)]
 pub(crate) struct SpareBlocks<X> {
     blocks: [Option<Block<X>>; IN_A_BOX],

@@ -116,8 +116,8 @@ fn begin_with_two<J: Numbered, R: Abort + Wait>(
 ) -> Begun<J>
     requires owner { keeping.0.count ≡ pool.now.count }
     requires adders { pool.now.adders ≡ 2 }
-    requires first { IsPassOf pool.now 0 2 passes.0 }
-    requires second { IsPassOf pool.now 1 2 passes.1 }
+    requires first { IsPassOf pool.now 0 3 passes.0 }
+    requires second { IsPassOf pool.now 1 3 passes.1 }
     requires helpers { (pool.now.helpers ≡ 2) × (helpers.0.pool ≡ pool.now.id) × (helpers.1.pool ≡ pool.now.id) }
     ensures { HasBegunToEnd pool.now result.ending result.helped.items }
 {
@@ -131,7 +131,8 @@ fn begin_with_two<J: Numbered, R: Abort + Wait>(
     begin_with(rt, pool, owner, passes, helped, stops)
 }
 
-// Each of two adders adds two tasks, each of two helpers runs one, and the pool is stopped or joined, and worked at.
+// Each of two adders adds three tasks, by turns, and most to one queue; each of two helpers runs one, and the pool is stopped or joined, and
+// worked at.
 fn run_with_two<J: Numbered, R: Abort + Wait>(
     rt: &R,
     alloc: Global,
@@ -149,7 +150,11 @@ fn run_with_two<J: Numbered, R: Abort + Wait>(
     new_passes_are_unused();
     let (mut first, mut second) = both_of(rt, adders);
     let (mut one, mut other) = both_of(rt, helpers);
-    let rows = [((0, 10), (127, 20)), ((-128, 11), (0, 21))];
+    let rows = [
+        ((0, 10), (127, 20)),
+        ((-128, 11), (0, 21)),
+        ((0, 12), (0, 22)),
+    ];
     add_rows_with_two(rt, &pool, &keep, &mut first, &mut second, &rows);
     help_with(rt, &pool, &mut one, world);
     help_with(rt, &pool, &mut other, world);
@@ -163,26 +168,26 @@ fn run_with_two<J: Numbered, R: Abort + Wait>(
         stops,
     );
     let ends = work_at(rt, alloc, &pool, new_slots(rt, alloc, workers), world);
-    end_pool(rt, pool, begun, ends, world, 4)
+    end_pool(rt, pool, begun, ends, world, 6)
 }
 
 #[test]
 fn two_adders_tasks_are_all_told_of(rt: HostRuntime) {
     let rt = &rt;
-    let mut world = list_with_room(rt, rt.alloc(), 4);
+    let mut world = list_with_room(rt, rt.alloc(), 6);
     let (ran, _) = run_with_two::<Note, HostRuntime>(rt, rt.alloc(), false, &mut world);
-    check_list(rt, ids(rt, rt.alloc(), ran), &[21, 11, 10, 20]);
-    check_list(rt, world, &[20, 10, 21, 11]);
+    check_list(rt, ids(rt, rt.alloc(), ran), &[21, 12, 22, 11, 10, 20]);
+    check_list(rt, world, &[20, 10, 21, 12, 22, 11]);
 }
 
 #[test]
 fn two_adders_tasks_are_handed_back(rt: HostRuntime) {
     let rt = &rt;
-    let mut world = list_with_room(rt, rt.alloc(), 4);
+    let mut world = list_with_room(rt, rt.alloc(), 6);
     let (ran, mut returned) = run_with_two::<Note, HostRuntime>(rt, rt.alloc(), true, &mut world);
     check_list(rt, ids(rt, rt.alloc(), ran), &[10, 20]);
-    for (adder, id) in [(1, 21), (0, 11)] {
-        let ticket = Ticket { adder, index: 1 };
+    for (adder, index, id) in [(1, 1, 21), (0, 2, 12), (1, 2, 22), (0, 1, 11)] {
+        let ticket = Ticket { adder, index };
         same(rt, next_back(&mut returned), Some((ticket, id)));
     }
     same(rt, next_back(&mut returned), None);

@@ -14,7 +14,7 @@ pub loop-preserved : goal.loop-preserved
 loop-preserved g c =
     let before = c.loop.invariant in
     let next = c.next_of-packet.ensures.queue in
-    let pushed : c.push_reserved.new.self.items ≡ c.loop.got.items ++ c.next_of-packet.result ∷ [] = c.push_reserved.ensures.items ∙ ap (λ (x : Stamped g.row.M.Denot). c.loop.got.items ++ x ∷ []) c.open-stamped.ensures in
+    let pushed : c.push_reserved.new.self.items ≡ c.loop.got.items ++ c.next_of-packet.result ∷ [] = c.push_reserved.ensures.items ∙ ap (λ (x : Stamped g.row.M.Denot). c.loop.got.items ++ x ∷ []) c.open-stamped.ensures.item in
     record {
       pass_of = (next.0, next.1 ∙ before.pass_of.1);
       same = next.2 ∙ before.same;

@@ -8,7 +8,7 @@ begin_with-requires-clause-owner g c = c.requires.owner
 
 pub begin_with-requires-clause-passes : goal.begin_with-requires-clause-passes
 begin_with-requires-clause-passes g c =
-    c.passes_in_order_are_all.ensures _ _ _ (two_numbered c.args.pool.now 2 2 c.args.passes.0 c.args.passes.1 c.list_of_both-passes.result.items c.requires.adders c.requires.first c.requires.second c.list_of_both-passes.ensures)
+    c.passes_in_order_are_all.ensures _ _ _ (two_numbered c.args.pool.now 3 3 c.args.passes.0 c.args.passes.1 c.list_of_both-passes.result.items c.requires.adders c.requires.first c.requires.second c.list_of_both-passes.ensures)
 
 pub begin_with-requires-clause-helped : goal.begin_with-requires-clause-helped
 begin_with-requires-clause-helped g c =

@@ -7,4 +7,4 @@ fulfil-requires g c = record { outcome = suits-part c.self.inside.ask _ _ _ _ c.
 pub returns-clause-meaning : goal.returns-clause-meaning
 returns-clause-meaning g c =
     task-ran _ c.args.self _ c.args.world.now _ _ _ _ c.self.view_is c.world.view_is c.answer_task-outcome.ensures.noted c.answer_task-outcome.ensures.part c.self.invariant.1
-    c.fulfil.ensures.follows c.fulfil.ensures.left c.fulfil.ensures.posted
+    c.fulfil.ensures.follows (λ down. (_, _, c.fulfil.ensures.left down)) c.fulfil.ensures.posted
