@@ -7,10 +7,11 @@ use Rattle.fan_model.specs.Tasks.{Run, early_runs, late_runs}
 use Rattle.fan_model.specs.Totals.{Totals, core_totals}
 use Rattle.fan_model.specs.Notes.{Note, notes_of}
 
--- What a run was asked to do: the lines of its input, the number of shards, the number of gathering bases, and the stop point.
+-- What a run was asked to do: the lines of its input, the numbers of shards, workers and gathering bases, and the stop point.
 pub record Asking : Type 0 where
   pub lines : List Line
   pub shards : ℕ
+  pub workers : ℕ
   pub bases : ℕ
   pub stop_at : Option ℕ
 

@@ -39,12 +39,12 @@ find_word word = ask.Find (Tree.word word)
 abbrev count_word : Word → Ask
 count_word word = ask.Count (Tree.word word)
 
--- four shards, two bases, no stop point
+-- four shards, four workers, two bases, no stop point
 abbrev usual : List Line → Asking
-usual lines = record { lines = lines; shards = 4; bases = 2; stop_at = None }
+usual lines = record { lines = lines; shards = 4; workers = 4; bases = 2; stop_at = None }
 
 abbrev stopping : ℕ → List Line → Asking
-stopping stop_at lines = record { lines = lines; shards = 4; bases = 2; stop_at = Some stop_at }
+stopping stop_at lines = record { lines = lines; shards = 4; workers = 4; bases = 2; stop_at = Some stop_at }
 
 -- runs from one queue on one executor, of jobs that follow on each other from a first one, with these marks
 abbrev runs : ℕ → ℕ → ℕ → List ℕ → List Run
@@ -98,7 +98,7 @@ TwoPriorities =
 -- eight shards, and a stop behind the only query
 abbrev pub StoppedBehindAll : Type 0
 StoppedBehindAll =
-    IsReported (record { lines = two_documents ++ find_red ∷ []; shards = 8; bases = 2; stop_at = Some 1 })
+    IsReported (record { lines = two_documents ++ find_red ∷ []; shards = 8; workers = 1; bases = 2; stop_at = Some 1 })
     (runs 1 0 64 (1 ∷ 1 ∷ 0 ∷ 0 ∷ 0 ∷ 0 ∷ 0 ∷ 0 ∷ [])) [] true (notes_from 1 (8 ∷ 0 ∷ 1 ∷ [])) (cores 9 9 0 8)
 
 -- the tasks of the query behind the stop point run on the front's executor
@@ -169,5 +169,5 @@ many = two_documents ++ map (λ place. find_red) (range_with_len 0 17)
 
 -- more tasks than a run has cells
 pub record ManyTasks : Type 0 where
-  pub split : IsSplit (record { lines = many; shards = 64; bases = 2; stop_at = None }) 1088 0 false
+  pub split : IsSplit (record { lines = many; shards = 64; workers = 4; bases = 2; stop_at = None }) 1088 0 false
   pub totals : core_totals many 64 ≡ cores 1105 1105 0 1088

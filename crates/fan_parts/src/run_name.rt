@@ -11,5 +11,5 @@ pub trait RunName {
 impl RunName for Brand {
     ghost use Rattle.std.specs.Prelude.{[], None};
 
-    ghost asked = { record { lines = []; shards = 1; bases = 1; stop_at = None } };
+    ghost asked = { record { lines = []; shards = 1; workers = 1; bases = 1; stop_at = None } };
 }

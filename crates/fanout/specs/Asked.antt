@@ -18,11 +18,12 @@ pub record AreKnobs (knobs : Knobs) : Type 0 where
 
 -- what a run over these lines and so many shards is asked
 abbrev pub asking_of : List Line → ℕ → Knobs → Asking
-asking_of lines shards knobs = record { lines = lines; shards = shards; bases = knobs.bases; stop_at = knobs.stop_at }
+asking_of lines shards knobs = record { lines = lines; shards = shards; workers = knobs.workers; bases = knobs.bases; stop_at = knobs.stop_at }
 
 -- the run over so many shards that these knobs make
 pub record IsAskedBy (asked : Asking) (shards : ℕ) (knobs : Knobs) : Type 0 where
   pub shards_are : asked.shards ≡ shards
+  pub workers_are : asked.workers ≡ knobs.workers
   pub bases_are : asked.bases ≡ knobs.bases
   pub stop_is : asked.stop_at ≡ knobs.stop_at
 

@@ -29,6 +29,7 @@ pub record IsPlanned (asked : Asking) (lines : List Line) (turns : List Turn) (c
   pub few : AreFew counted
   pub stops : StopsAt asked turns stop
   pub knobs_are : AreKnobs knobs
+  pub workers_are : knobs.workers ≡ asked.workers
   pub bases_are : knobs.bases ≡ asked.bases
   pub stop_is : knobs.stop_at ≡ asked.stop_at
 

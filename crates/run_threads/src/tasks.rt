@@ -1,3 +1,4 @@
+ghost use Rattle.std.specs.Prelude.{◌≡◌};
 ghost use Rattle.run_tasks.specs.Worlds.{TaskRan};
 ghost use Rattle.run_threads.specs.Slots.{HasWorked, IsStageOf, IsWorked};
 ghost use Rattle.run_threads.specs.declared.worker.WorkerSlot.{WorkerSlot};
@@ -16,7 +17,8 @@ pub fn end_worker<'c, 't, 'i: 't, N: RunName + 'static, R: Wait>(
     worker: TaskSlot<'c, 't, 'i, N>,
 ) -> WorkerStage<'t, 'i, N>
     requires { IsWorked worker }
-    ensures { (old : WorkerSlot _ _) → HasWorked TaskRan old worker.entry → IsStageOf old result }
+    ensures stage { (old : WorkerSlot _ _) → HasWorked TaskRan old worker.entry → IsStageOf old result }
+    ensures noted { result.ends.refused ≡ worker.entry.world.refused }
 {
     tasks_keep_their_world::<N>();
     let WorkerSlot { pass, end, world } = worker;

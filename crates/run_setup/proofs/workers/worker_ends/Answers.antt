@@ -41,7 +41,7 @@ loop-slot-preserved g c =
       worked = All-tail IsWorked c.in-Some.slot rest (subst (λ (l : List (WorkerSlot TaskSeen (WorldSeen g.row.N.Denot))). All IsWorked l) next i.worked);
       so_far = λ old ran.
           let so = subst (λ (l : List (WorkerSlot TaskSeen (WorldSeen g.row.N.Denot))). EndsSoFar old ends worlds l) next (i.so_far old ran) in
-          let more = ends-more old ends worlds c.in-Some.slot rest stage.end stage.ends so c.end_worker-end.ensures in
+          let more = ends-more old ends worlds c.in-Some.slot rest stage.end stage.ends so c.end_worker-end.ensures.stage in
           subst (λ (l : List (TaskEnds g.row.N.Denot)). EndsSoFar old c.push_reserved.new.self.items l rest) (sym c.push_reserved-in-Some.ensures.items)
           (subst (λ (l : List EndSeen). EndsSoFar old l (worlds ++ stage.ends ∷ []) rest) (sym c.push_reserved.ensures.items) more);
       for_ends = omega (arith, i.for_ends, ap length next, ap length c.push_reserved.ensures.items, length-append ends (stage.end ∷ []), c.push_reserved.ensures.capacity);
