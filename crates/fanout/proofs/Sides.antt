@@ -109,6 +109,12 @@ module _ {N : Type 0} where
     all = subst (λ (tasks : List Task). IsSameInAnyOrder (a.all.tasks ++ a.kept.ran ++ a.kept.others) tasks) (tasks_are asked stop pool start mid e)
         (both_of a.all.tasks (map (task_of (task_head asked)) a.back) a.kept.ran a.kept.others (tasks_of (seen_of mid.ending).passes) a.kept.all a.all.all);
     few = a.few;
+    direct = record {
+      runs = a.direct.runs;
+      tell = a.direct.tell;
+      left = a.direct.are.left;
+      whole = ap (λ (l : List Run). l ++ a.direct.are.left) a.direct.are.are ∙ a.direct.are.whole;
+    };
   }
 
   -- what is told of a pool that was joined

@@ -12,10 +12,10 @@ use Rattle.pool_model.specs.Seen.{PassSeen}
 use Rattle.pool_model.specs.Tasks.{Add}
 use Rattle.prio_pool.specs.Adders.{add_on}
 use Rattle.prio_pool.specs.Running.{DirectSeen}
-use Rattle.run_notes.specs.Told.{run_of_direct}
+use Rattle.run_notes.specs.Told.{TellOf, run_of_direct, unmarked}
 use Rattle.run_tasks.specs.Seen.{WorldSeen}
 use Rattle.run_tasks.specs.Worlds.{Follows, MadeFor}
-use Rattle.query_tasks.specs.Starting.{HasAdded, HasAddedSome, HasRunSome, adds_for, head_on_pool, run_at, runs_for}
+use Rattle.query_tasks.specs.Starting.{HasAdded, HasAddedSome, HasRunSome, HasToldSome, adds_for, head_on_pool, run_at, runs_for}
 
 -- a map of what a map gives
 pub map_map : {A B C : Type 0} (f : A → B) (g : B → C) (h : A → C) → ((a : A) → g (f a) ≡ h a) → (xs : List A) → map g (map f xs) ≡ map h xs
@@ -61,6 +61,22 @@ one_more_ran asked ask queue exec shard w v old between new r so_far follows ran
     ∙ append_assoc (map run_of_direct old) (runs_for asked ask queue exec shard) (run_at asked ask queue exec shard ∷ [])
     ∙ ap (λ (l : List Run). map run_of_direct old ++ l) (sym (map-range_with_len_more (run_at asked ask queue exec) 0 shard shard (omega (arith))))
 
+-- the record of the next task tells of it, whatever its mark
+pub one_more_told : (asked : Asking) (ask : AskSeen) (queue : ℕ) (exec : ExecId) (shard : ℕ) (before : List Run) (between new : List DirectSeen) (r : DirectSeen)
+    → TellOf between (before ++ runs_for asked ask queue exec shard) → unmarked (run_of_direct r) ≡ unmarked (run_at asked ask queue exec shard)
+    → new ≡ between ++ r ∷ [] → TellOf new (before ++ runs_for asked ask queue exec (shard + 1))
+one_more_told asked ask queue exec shard before between new r so_far told is =
+    let of : DirectSeen → Run = λ d. unmarked (run_of_direct d) in
+    let one : Run = run_at asked ask queue exec shard in
+    let runs : List Run = runs_for asked ask queue exec shard in
+    ap (λ (l : List DirectSeen). map of l) is
+    ∙ map-append of between (r ∷ [])
+    ∙ ap (λ (l : List Run). l ++ of r ∷ []) so_far
+    ∙ ap (λ (x : Run). map unmarked (before ++ runs) ++ x ∷ []) told
+    ∙ sym (map-append unmarked (before ++ runs) (one ∷ []))
+    ∙ ap (λ (l : List Run). map unmarked l)
+    (append_assoc before runs (one ∷ []) ∙ ap (λ (l : List Run). before ++ l) (sym (map-range_with_len_more (run_at asked ask queue exec) 0 shard shard (omega (arith)))))
+
 -- a core for the one task that was added
 pub made_added : {N : Type 0} (v : WorldSeen N) (old new : PassSeen) (x : Add) → HasAdded old (x ∷ []) new → MadeFor (length (adds_of old) + 1) v → MadeFor (length (adds_of new)) v
 made_added v old new x has made = subst (λ (k : ℕ). MadeFor k v) (sym (ap (λ (l : List Add). length l) has.adds ∙ length-append (adds_of old) (x ∷ []))) made
@@ -88,6 +104,15 @@ ran_some w v old runs shards count between new within so_far follows same down =
   count = count;
   within = within;
   ran = ap (λ (l : List DirectSeen). map run_of_direct l) same ∙ so_far (follows.refused down);
+}
+
+-- the record of the next task wasn't kept, and those before it tell of the first shards
+pub told_some : (old : List DirectSeen) (runs : ℕ → List Run) (shards count : ℕ) (between new : List DirectSeen)
+    → count < shards → ((before : List Run) → TellOf old before → TellOf between (before ++ runs count)) → new ≡ between → HasToldSome old runs shards new
+told_some old runs shards count between new within so_far same = record {
+  count = count;
+  within = within;
+  told = λ before tell. subst (λ (l : List DirectSeen). TellOf l (before ++ runs count)) (sym same) (so_far before tell);
 }
 
 -- what holds in any case holds where there is an error

@@ -14,7 +14,7 @@ use Rattle.prio_pool.specs.Running.{DirectSeen}
 use Rattle.fan_model.specs.Report.{Asking}
 use Rattle.fan_model.specs.Tasks.{Run, job_of, pool_exec}
 use Rattle.fan_parts.specs.Seen.{AskSeen}
-use Rattle.run_notes.specs.Told.{run_of_direct}
+use Rattle.run_notes.specs.Told.{TellOf, run_of_direct}
 use Rattle.run_tasks.specs.Heads.{count_at}
 use Rattle.run_tasks.specs.Seen.{WorldSeen}
 use Rattle.run_tasks.specs.Worlds.{Follows}
@@ -52,6 +52,12 @@ pub record HasRunSome (old : List DirectSeen) (runs : ℕ → List Run) (shards 
   pub count : ℕ
   pub within : count < shards
   pub ran : map run_of_direct new ≡ map run_of_direct old ++ runs count
+
+-- the same, but for marks: behind the runs that the old records tell of, the new ones tell of those of the first shards, and not of all
+pub record HasToldSome (old : List DirectSeen) (runs : ℕ → List Run) (shards : ℕ) (new : List DirectSeen) : Type 0 where
+  pub count : ℕ
+  pub within : count < shards
+  pub told : (before : List Run) → TellOf old before → TellOf new (before ++ runs count)
 
 module _ {N : Type 0} where
   -- A world after another, and the helper's pass beside it: it helped with some tasks, whose records stand behind the others, and which were

@@ -1,9 +1,10 @@
 //! How the tasks of a query are run without the pool.
-ghost use Rattle.std.specs.Prelude.{◌≡◌, ℕ, ◌+◌, ◌<◌, ◌++◌, [], ◌∷◌, false, length, map, OnErr, OnOk};
+ghost use Rattle.std.specs.Prelude.{◌≡◌, ℕ, ◌+◌, ◌<◌, ◌++◌, List, [], ◌∷◌, false, length, map, OnErr, OnOk};
 ghost use Rattle.fan_model.specs.Notes.{base_of};
+ghost use Rattle.fan_model.specs.Tasks.{Run};
 ghost use Rattle.prio_pool.specs.Running.{RanDirect};
-ghost use Rattle.query_tasks.specs.Starting.{HasRunSome, run_at, runs_for};
-ghost use Rattle.run_notes.specs.Told.{run_of_direct};
+ghost use Rattle.query_tasks.specs.Starting.{HasRunSome, HasToldSome, run_at, runs_for};
+ghost use Rattle.run_notes.specs.Told.{TellOf, run_of_direct, unmarked};
 ghost use Rattle.run_tasks.specs.Heads.{task_head};
 ghost use Rattle.run_tasks.specs.Worlds.{Follows, MadeFor, TaskRan};
 
@@ -33,6 +34,8 @@ pub fn run_tasks_here<'c, 't, 'i: 't, N: RunName + 'static, R: Wait>(
     ensures direct { OnOk result (world.new.refused ≡ false →
         map run_of_direct direct.new ≡ map run_of_direct direct.old ++ runs_for N.asked ask.now queue front shards) }
     ensures some { OnErr result (world.new.refused ≡ false → HasRunSome direct.old (runs_for N.asked ask.now queue front) shards direct.new) }
+    ensures told { OnOk result ((before : List Run) → TellOf direct.old before → TellOf direct.new (before ++ runs_for N.asked ask.now queue front shards)) }
+    ensures told_some { OnErr result (HasToldSome direct.old (runs_for N.asked ask.now queue front) shards direct.new) }
     ensures made { (n : ℕ) → MadeFor (n + length direct.old) world.old →
         OnOk result (MadeFor (n + length direct.new) world.new) }
 {
@@ -58,6 +61,7 @@ fn run_task_here<'c, 't, 'i: 't, N: RunName + 'static, R: Wait>(
     requires callback { (callback.number ≡ ask.number) × (callback.shard ≡ shard) }
     ensures follows { Follows world.old world.new }
     ensures ran { world.new.refused ≡ false → run_of_direct result ≡ run_at N.asked ask.entry queue front shard }
+    ensures told { unmarked (run_of_direct result) ≡ unmarked (run_at N.asked ask.entry queue front shard) }
     ensures made { (n : ℕ) → MadeFor n world.old → MadeFor (n + 1) world.new }
 {
     let no = 64 * u64::from(ask.number()) + u64::from(shard);

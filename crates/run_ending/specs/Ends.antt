@@ -6,14 +6,14 @@ use Rattle.reply_printer.specs.Passing.{Gains, GainsFront}
 use Rattle.reply_printer.specs.Printing.{text_of}
 use Rattle.fan_model.specs.Answered.{answered_in, is_stopped}
 use Rattle.fan_model.specs.Report.{Asking, IsReport}
-use Rattle.fan_model.specs.Tasks.{early_runs}
+use Rattle.fan_model.specs.Tasks.{Run, early_runs, late_runs}
 use Rattle.fan_model.specs.Totals.{no_cores}
 use Rattle.pool_model.specs.Orders.{IsSameInAnyOrder}
 use Rattle.pool_model.specs.Records.{AreRunsOf}
 use Rattle.pool_model.specs.Tasks.{Add, Task, numbered}
 use Rattle.run_notes.specs.declared.notes.PoolNote.{PoolNote}
 use Rattle.run_notes.specs.Counting.{totals_of}
-use Rattle.run_notes.specs.Told.{note_of, run_of_add, told_of}
+use Rattle.run_notes.specs.Told.{TellOf, note_of, run_of_add, told_of}
 use Rattle.run_ending.specs.declared.end.FanEnd.{FanEnd}
 use Rattle.run_ending.specs.declared.end.FanOutcome.{FanOutcome}
 use Rattle.run_ending.specs.declared.end.FanOutcome.TheVariants as outcome
@@ -53,8 +53,16 @@ pub record AreAccepted (asked : Asking) (accepted : ℕ) (added : List Add) : Ty
 abbrev pub ticketed : List Add → List Task
 ticketed added = numbered 0 0 added
 
+-- Its records of tasks that never were in the pool are of the first of the late ones, in their order, each with its queue, executor and id. Of their marks nothing is said.
+pub record TellsLate (asked : Asking) (note : PoolNote) : Type 0 where
+  pub runs : List Run
+  pub tell : TellOf note.direct runs
+  pub left : List Run
+  pub whole : runs ++ left ≡ late_runs asked.lines asked.shards asked.bases asked.stop_at
+
 -- What is told of the tasks of a pool that was stopped: it accepted the first of the early ones, as many as are told; each record of what it ran, or of what was handed back and then
 -- ran, is of one of these, with its ticket, no two of one. So there are no more records than that. The list of the other tasks is tied to nothing that is told.
+-- What never was in the pool is told as the first of the late tasks.
 pub record IsStopAccount (asked : Asking) (note : PoolNote) : Type 0 where
   pub added : List Add
   pub accepted : AreAccepted asked note.accepted added
@@ -65,6 +73,7 @@ pub record IsStopAccount (asked : Asking) (note : PoolNote) : Type 0 where
   pub returned : AreRunsOf back note.returned
   pub all : IsSameInAnyOrder (ran ++ back ++ others) (ticketed added)
   pub few : length note.ran.records + length note.returned ≤ note.accepted
+  pub direct : TellsLate asked note
 
 -- What is told of the tasks of a pool that was joined: it accepted the first of the early ones, as many as are told; each of these has one record of a run, with its ticket, there are no
 -- other records, nothing was handed back, and no task is told that never was in the pool.

@@ -21,9 +21,11 @@ use Rattle.prio_pool.specs.Adders.{add_on}
 use Rattle.prio_pool.specs.Priority.{queue_of as queue_with}
 use Rattle.fan_parts.specs.Seen.{AskSeen}
 use Rattle.query_tasks.specs.Starting.{adds_for, head_on_pool}
-use Rattle.run_notes.specs.Told.{run_of_add}
+use Rattle.query_tasks.proofs.Loops.{map_map}
+use Rattle.prio_pool.specs.Running.{DirectSeen}
+use Rattle.run_notes.specs.Told.{TellOf, run_of_add, run_of_direct, unmarked}
 use Rattle.run_plan.specs.Turns.{begun_between, begun_in}
-use Rattle.run_front.specs.Fronts.{AreRunsTo, AreSomeOf, AreSomeRunsTo}
+use Rattle.run_front.specs.Fronts.{AreRunsTo, AreSomeOf, AreSomeRunsTo, TellRunsTo, TellSomeOf, TellSomeRunsTo}
 use Rattle.run_front.specs.Turns.{pool_priority}
 
 -- the runs of one query
@@ -125,6 +127,65 @@ some_to asked exec start m n first runs within some =
 -- what some of all are holds of the same list by another name
 pub some_of : (first all other runs : List Run) → all ≡ other → AreSomeOf first all runs → AreSomeOf first other runs
 some_of first all other runs same some = subst (λ (l : List Run). AreSomeOf first l runs) same some
+
+-- what records tell of themselves
+own_told : (direct : List DirectSeen) → TellOf direct (map run_of_direct direct)
+own_told direct = sym (map_map run_of_direct unmarked (λ (r : DirectSeen). unmarked (run_of_direct r)) (λ r. refl) direct)
+
+pub told_none : (asked : Asking) (exec : ExecId) (start : ℕ) (direct : List DirectSeen) → begun_between asked.lines start start ≡ [] → TellRunsTo asked exec start start (map run_of_direct direct) direct
+told_none asked exec start direct none = record { runs = map run_of_direct direct; tell = own_told direct; are = runs_none asked exec start (map run_of_direct direct) none }
+
+-- of the next query's tasks each has its record
+pub told_more : (asked : Asking) (exec : ExecId) (start place : ℕ) (query : Asked) (first : List Run) (old new : List DirectSeen) (runs : List Run)
+    → begun_between asked.lines start (place + 1) ≡ begun_between asked.lines start place ++ query ∷ [] → runs ≡ runs_of asked exec query
+    → ((before : List Run) → TellOf old before → TellOf new (before ++ runs)) → TellRunsTo asked exec start place first old → TellRunsTo asked exec start (place + 1) first new
+told_more asked exec start place query first old new runs behind are told so_far = record {
+  runs = so_far.runs ++ runs;
+  tell = told so_far.runs so_far.tell;
+  are = runs_more asked exec start place query first so_far.runs (so_far.runs ++ runs) behind (ap (λ (l : List Run). so_far.runs ++ l) are) so_far.are;
+}
+
+-- of the next query's tasks those over the first shards have a record
+pub told_some_more : (asked : Asking) (exec : ExecId) (start place count : ℕ) (query : Asked) (first : List Run) (old new : List DirectSeen) (runs : List Run)
+    → begun_between asked.lines start (place + 1) ≡ begun_between asked.lines start place ++ query ∷ [] → count ≤ asked.shards
+    → runs ≡ map (task_run asked.lines asked.shards exec query) (range_with_len 0 count)
+    → ((before : List Run) → TellOf old before → TellOf new (before ++ runs)) → TellRunsTo asked exec start place first old → TellSomeRunsTo asked exec start (place + 1) first new
+told_some_more asked exec start place count query first old new runs behind within are told so_far = record {
+  runs = so_far.runs ++ runs;
+  tell = told so_far.runs so_far.tell;
+  are = some_more asked exec start place count query first so_far.runs (so_far.runs ++ runs) behind within (ap (λ (l : List Run). so_far.runs ++ l) are) so_far.are;
+}
+
+-- a turn that begins no query
+pub told_same : (asked : Asking) (exec : ExecId) (start place : ℕ) (first : List Run) (direct : List DirectSeen) → begun_between asked.lines start (place + 1) ≡ begun_between asked.lines start place
+    → TellRunsTo asked exec start place first direct → TellRunsTo asked exec start (place + 1) first direct
+told_same asked exec start place first direct behind so_far =
+    record { runs = so_far.runs; tell = so_far.tell; are = runs_same asked exec start place first so_far.runs behind so_far.are }
+
+pub told_some_same : (asked : Asking) (exec : ExecId) (start place : ℕ) (first : List Run) (direct : List DirectSeen) → begun_between asked.lines start (place + 1) ≡ begun_between asked.lines start place
+    → TellRunsTo asked exec start place first direct → TellSomeRunsTo asked exec start (place + 1) first direct
+told_some_same asked exec start place first direct behind so_far =
+    record { runs = so_far.runs; tell = so_far.tell; are = some_same asked exec start place first so_far.runs behind so_far.are }
+
+-- all turns were made: the records tell of some of all, which are all
+pub told_to_end : (asked : Asking) (exec : ExecId) (start place : ℕ) (first all : List Run) (direct : List DirectSeen)
+    → task_runs asked.lines asked.shards exec (begun_between asked.lines start place) ≡ all → TellRunsTo asked exec start place first direct → TellSomeOf first all direct
+told_to_end asked exec start place first all direct is so_far = record {
+  runs = so_far.runs;
+  tell = so_far.tell;
+  are = record {
+    done = task_runs asked.lines asked.shards exec (begun_between asked.lines start place);
+    left = [];
+    are = so_far.are.are;
+    whole = append-nil (task_runs asked.lines asked.shards exec (begun_between asked.lines start place)) ∙ is;
+  };
+}
+
+-- a turn that was not made whole
+pub told_to_stop : (asked : Asking) (exec : ExecId) (start m n : ℕ) (first all : List Run) (direct : List DirectSeen) → m ≤ n
+    → task_runs asked.lines asked.shards exec (begun_between asked.lines start n) ≡ all → TellSomeRunsTo asked exec start m first direct → TellSomeOf first all direct
+told_to_stop asked exec start m n first all direct within is some =
+    record { runs = some.runs; tell = some.tell; are = some_of first _ all some.runs is (some_to asked exec start m n first some.runs within some.are) }
 
 pub added_runs : (old more new : List Add) (runs : List Run) → new ≡ old ++ more → map run_of_add more ≡ runs → map run_of_add new ≡ map run_of_add old ++ runs
 added_runs old more new runs is are = ap (map run_of_add) is ∙ (map-append run_of_add old more ∙ ap (λ (l : List Run). map run_of_add old ++ l) are)

@@ -7,7 +7,7 @@ ghost use Rattle.query_opening.specs.Turns.{IsBegun};
 ghost use Rattle.run_notes.specs.Told.{run_of_direct};
 ghost use Rattle.run_plan.specs.Turns.{AreTurnsOf, begun_in};
 ghost use Rattle.run_tasks.specs.Worlds.{Follows, MadeFor, told_of};
-ghost use Rattle.run_front.specs.Fronts.{AreRunsTo, AreSomeOf, AreSomeRunsTo, IsFrontOf};
+ghost use Rattle.run_front.specs.Fronts.{AreRunsTo, AreSomeOf, AreSomeRunsTo, IsFrontOf, TellRunsTo, TellSomeOf, TellSomeRunsTo};
 ghost use Rattle.run_front.specs.Posted.{HasPosted};
 ghost use Rattle.run_desks.specs.Turns.{IsTurnAt};
 
@@ -42,6 +42,8 @@ pub fn late_turns<'c, 't, 'i: 't, N: RunName + 'static, R: Wait>(
         ++ task_runs N.asked.lines N.asked.shards (front_exec N.asked.bases) (begun_in (drop start (comings_of N.asked.lines)))) }
     ensures some { OnErr result (front.new.world.refused ≡ false → AreSomeOf (map run_of_direct direct.old)
         (task_runs N.asked.lines N.asked.shards (front_exec N.asked.bases) (begun_in (drop start (comings_of N.asked.lines)))) (map run_of_direct direct.new)) }
+    ensures told { TellSomeOf (map run_of_direct direct.old)
+        (task_runs N.asked.lines N.asked.shards (front_exec N.asked.bases) (begun_in (drop start (comings_of N.asked.lines)))) direct.new }
     ensures follows { Follows front.old.world front.new.world }
     ensures made { (n : ℕ) → MadeFor (n + length direct.old) front.old.world →
         OnOk result (MadeFor (n + length direct.new) front.new.world) }
@@ -76,6 +78,10 @@ fn late_turn<'c, 't, 'i: 't, N: RunName + 'static, R: Wait>(
         AreRunsTo N.asked (front_exec N.asked.bases) start place first (map run_of_direct direct.old) →
         OnErr result (front.new.world.refused ≡ false
         → AreSomeRunsTo N.asked (front_exec N.asked.bases) start (place + 1) first (map run_of_direct direct.new)) }
+    ensures told { (start : ℕ) (first : List Run) → start ≤ place → TellRunsTo N.asked (front_exec N.asked.bases) start place first direct.old →
+        OnOk result (TellRunsTo N.asked (front_exec N.asked.bases) start (place + 1) first direct.new) }
+    ensures told_some { (start : ℕ) (first : List Run) → start ≤ place → TellRunsTo N.asked (front_exec N.asked.bases) start place first direct.old →
+        OnErr result (TellSomeRunsTo N.asked (front_exec N.asked.bases) start (place + 1) first direct.new) }
     ensures follows { Follows front.old.world front.new.world }
     ensures made { (n : ℕ) → MadeFor (n + length direct.old) front.old.world →
         OnOk result (MadeFor (n + length direct.new) front.new.world) }
@@ -109,6 +115,10 @@ fn late_query<'c, 't, 'i: 't, N: RunName + 'static, R: Wait>(
         AreRunsTo N.asked (front_exec N.asked.bases) start place first (map run_of_direct direct.old) →
         OnErr result (front.new.world.refused ≡ false
         → AreSomeRunsTo N.asked (front_exec N.asked.bases) start (place + 1) first (map run_of_direct direct.new)) }
+    ensures told { (start : ℕ) (first : List Run) → start ≤ place → TellRunsTo N.asked (front_exec N.asked.bases) start place first direct.old →
+        OnOk result (TellRunsTo N.asked (front_exec N.asked.bases) start (place + 1) first direct.new) }
+    ensures told_some { (start : ℕ) (first : List Run) → start ≤ place → TellRunsTo N.asked (front_exec N.asked.bases) start place first direct.old →
+        OnErr result (TellSomeRunsTo N.asked (front_exec N.asked.bases) start (place + 1) first direct.new) }
     ensures follows { Follows front.old.world front.new.world }
     ensures made { (n : ℕ) → MadeFor (n + length direct.old) front.old.world →
         OnOk result (MadeFor (n + length direct.new) front.new.world) }

@@ -1,5 +1,5 @@
 -- What is told of a run, in the words of its report.
-use Rattle.std.specs.Prelude.{map}
+use Rattle.std.specs.Prelude.{◌≡◌, List, map}
 use Rattle.fan_base.specs.declared.number.Mark.TheVariants as mark
 use Rattle.event_base.specs.Seen.{NoteSeen}
 use Rattle.pool_model.specs.Records.{Record}
@@ -16,6 +16,14 @@ run_of r = record { queue = r.queue; exec = r.exec; id = r.job; mark = r.mark }
 
 abbrev pub run_of_direct : DirectSeen → Run
 run_of_direct r = record { queue = r.queue; exec = r.exec; id = r.job; mark = r.mark }
+
+-- the same run but for its mark
+abbrev pub unmarked : Run → Run
+unmarked r = record r { mark = mark.Memory }
+
+-- These records tell of these runs, one by one: of each its queue, executor and id. Of marks nothing is said.
+abbrev pub TellOf : List DirectSeen → List Run → Type 0
+TellOf direct runs = map (λ (r : DirectSeen). unmarked (run_of_direct r)) direct ≡ map unmarked runs
 
 -- the run that an add asks for, where memory is found: its mark has the job's own number
 abbrev pub run_of_add : Add → Run

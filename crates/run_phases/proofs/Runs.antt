@@ -14,10 +14,10 @@ use Rattle.pool_model.specs.Seen.{PassSeen}
 use Rattle.prio_pool.specs.Running.{DirectSeen}
 use Rattle.run_notes.specs.Accounts.{AccountsFor, runs_added}
 use Rattle.run_notes.specs.declared.ending.PoolNotes.{PoolNotes}
-use Rattle.run_notes.specs.Told.{run_of, run_of_add, run_of_direct, told_of}
+use Rattle.run_notes.specs.Told.{run_of, run_of_add, run_of_direct, told_of, unmarked}
 use Rattle.run_plan.specs.declared.turn.Turn.{Turn}
 use Rattle.run_plan.specs.Turns.{begun_in}
-use Rattle.run_front.specs.Fronts.{AreSomeOf}
+use Rattle.run_front.specs.Fronts.{AreSomeOf, TellSomeOf}
 use Rattle.run_notes.specs.Accounts.{HaveAllRun}
 use Rattle.query_tasks.specs.Ends.{seen_of}
 use Rattle.run_phases.specs.declared.first.FrontMid.{FrontMid}
@@ -103,10 +103,36 @@ late_front asked turns stop place old new stops is none some =
       whole = some.whole ∙ late;
     }
 
+-- none ran, so the records tell of none
+pub none_told : (all : List Run) (direct : List DirectSeen) → direct ≡ [] → TellSomeOf [] all direct
+none_told all direct none = record {
+  runs = [];
+  tell = ap (λ (l : List DirectSeen). map (λ (r : DirectSeen). unmarked (run_of_direct r)) l) none;
+  are = some_none all [] refl;
+}
+
+-- what the records of late turns tell of, but for their marks, are some of the late runs
+pub late_told : (asked : Asking) (turns : List Turn) (stop : Option ℕ) (place : ℕ) (old new : List DirectSeen) → StopsAt asked turns stop → stop ≡ Some place → old ≡ []
+    → TellSomeOf (map run_of_direct old) (task_runs asked.lines asked.shards (front_exec asked.bases) (begun_in (drop place (comings_of asked.lines)))) new
+    → TellSomeOf [] (late_runs asked.lines asked.shards asked.bases asked.stop_at) new
+late_told asked turns stop place old new stops is none some =
+    let at : StopsAt asked turns (Some place) = subst (λ (s : Option ℕ). StopsAt asked turns s) is stops in
+    record {
+      runs = some.runs;
+      tell = some.tell;
+      are = record {
+        done = some.are.done;
+        left = some.are.left;
+        are = some.are.are ∙ ap (λ (l : List DirectSeen). map run_of_direct l ++ some.are.done) none;
+        whole = some.are.whole ∙ late_are asked _ at.0.late;
+      };
+    }
+
 pub stop_account : {N : Type 0} (asked : Asking) (mid : FrontMid N) (left : FrontLeft N) → left.note.accepted ≡ adds_total (seen_of mid.ending).passes
     → length left.note.ran.records + length left.note.returned ≤ left.note.accepted → (behind : WorldSeen N)
-    → HaveAllRun (task_head asked) TaskRan (seen_of mid.ending).passes left.note.ran.records left.note.returned mid.front.world behind → IsStopAccount asked mid left
-stop_account asked mid left accepted few behind have = record { accepted = accepted; few = few; back = have.returned; all = have.all; kept = have.kept }
+    → HaveAllRun (task_head asked) TaskRan (seen_of mid.ending).passes left.note.ran.records left.note.returned mid.front.world behind
+    → TellSomeOf [] (late_runs asked.lines asked.shards asked.bases asked.stop_at) left.note.direct → IsStopAccount asked mid left
+stop_account asked mid left accepted few behind have direct = record { accepted = accepted; few = few; back = have.returned; all = have.all; kept = have.kept; direct = direct }
 
 -- what the one adder added is what was added
 pub adds_of_one : (passes : List PassSeen) (adder : PassSeen) → passes ≡ adder ∷ [] → length (adds_of adder) ≡ adds_total passes

@@ -1,6 +1,7 @@
 -- The phases of a run's front.
 use Rattle.std.specs.Prelude.{◌≡◌, ℕ, ◌+◌, ◌≤◌, Bool, List, [], ◌∷◌, Option, Some, None, length, map}
 use Rattle.fan_model.specs.Report.{Asking}
+use Rattle.fan_model.specs.Tasks.{late_runs}
 use Rattle.fan_parts.specs.declared.jobs.PrintJob.{PrintJob}
 use Rattle.fan_parts.specs.Seen.{PosterSeen}
 use Rattle.notify_queue.specs.Ends.{Sending}
@@ -9,6 +10,7 @@ use Rattle.pool_model.specs.Passes.{adds_of, adds_total}
 use Rattle.pool_model.specs.Seen.{PassSeen, PoolId, Returned, task_of}
 use Rattle.query_tasks.specs.Ends.{seen_of}
 use Rattle.run_front.specs.declared.front.FrontEnds.{FrontEnds}
+use Rattle.run_front.specs.Fronts.{TellSomeOf}
 use Rattle.run_notes.specs.Accounts.{AreRunsOfSome}
 use Rattle.run_phases.specs.declared.first.FrontMid.{FrontMid}
 use Rattle.run_phases.specs.declared.second.FrontLeft.{FrontLeft}
@@ -53,13 +55,15 @@ module _ {N : Type 0} where
     pub printer : ends.printer ≡ mid.front.printer.sender
 
   -- What is told of a pool that was stopped, whether memory was refused or not: as many tasks as accepted as were added; each record of what it ran is of one of these, no two
-  -- of one, and the others were handed back; each record of `returned` is of one of those, no two of one. That those ran then isn't said here: a task may leave its world as it was.
+  -- of one, and the others were handed back; each record of `returned` is of one of those, no two of one. That those ran then isn't said here: a task may leave its world as it was. The records
+  -- of late tasks are, but for their marks, those of the first of them, in their order.
   pub record IsStopAccount (asked : Asking) (mid : FrontMid N) (left : FrontLeft N) : Type 0 where
     pub accepted : left.note.accepted ≡ adds_total (seen_of mid.ending).passes
     pub few : length left.note.ran.records + length left.note.returned ≤ left.note.accepted
     pub back : List (Returned TaskSeen)
     pub all : AllRunOrReturned (task_head asked) (seen_of mid.ending).passes left.note.ran.records back
     pub kept : AreRunsOfSome (map (task_of (task_head asked)) back) left.note.returned
+    pub direct : TellSomeOf [] (late_runs asked.lines asked.shards asked.bases asked.stop_at) left.note.direct
 
   -- What is told of a pool that was joined, whether memory was refused or not: as many tasks as accepted as were added; each of these has one record, nothing was handed back, and no
   -- task is told that never was in the pool.

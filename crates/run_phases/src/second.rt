@@ -8,7 +8,7 @@ ghost use Rattle.fan_parts.specs.declared.jobs.PrintJob.{PrintJob};
 ghost use Rattle.front_walk.specs.Following.{IsInput};
 ghost use Rattle.pool_model.specs.Passes.{AreAllEnds, AreAllPasses, adds_total};
 ghost use Rattle.query_tasks.specs.Ends.{is_stop, seen_of};
-ghost use Rattle.run_front.specs.Fronts.{AreSomeOf, IsFrontOf};
+ghost use Rattle.run_front.specs.Fronts.{AreSomeOf, IsFrontOf, TellSomeOf};
 ghost use Rattle.run_front.specs.Posted.{HasPosted, cancelled_from};
 ghost use Rattle.run_notes.specs.Accounts.{AllDone, runs_added};
 ghost use Rattle.run_notes.specs.Told.{run_of_direct, told_of as told_by};
@@ -124,6 +124,7 @@ fn turns_behind<'c, 't, 'i: 't, N: RunName + 'static, R: Wait>(
         → map run_of_direct direct.new ≡ late_runs N.asked.lines N.asked.shards N.asked.bases N.asked.stop_at) }
     ensures some { front.new.world.refused ≡ false →
         AreSomeOf [] (late_runs N.asked.lines N.asked.shards N.asked.bases N.asked.stop_at) (map run_of_direct direct.new) }
+    ensures told { TellSomeOf [] (late_runs N.asked.lines N.asked.shards N.asked.bases N.asked.stop_at) direct.new }
     ensures follows { Follows front.old.world front.new.world }
     ensures made { (n : ℕ) → MadeFor n front.old.world → OnTrue result (MadeFor (n + length direct.new) front.new.world) }
     ensures printer { told_of front.new.printer ≡ told_of front.old.printer }

@@ -7,7 +7,7 @@ use Rattle.fan_model.specs.Tasks.{Run, front_exec, queue_of, task_run}
 use Rattle.fan_parts.specs.Facts.{IsAskOf}
 use Rattle.query_tasks.specs.Starting.{runs_for}
 use Rattle.run_notes.specs.Told.{run_of_direct}
-use Rattle.run_front.proofs.Running.{on_ok, runs_more, some_more}
+use Rattle.run_front.proofs.Running.{on_ok, runs_more, runs_of, some_more, told_more, told_some_more}
 use Rattle.run_front.proofs.Posting.{posted_begun}
 use Rattle.run_front.proofs.late.late_query.Goals as goal
 
@@ -85,6 +85,62 @@ returns-clause-some g c = λ start first within so_far.
     some_more asked (front_exec asked.bases) start c.args.place has.count b.query first (map run_of_direct c.args.direct.now) _
     (c.place_by_place.ensures.begun asked.lines start c.args.place b.query b.comes within) few
     (has.ran ∙ ap (λ (l : List Run). map run_of_direct c.args.direct.now ++ l) runs) so_far) c.run_tasks_here.ensures.some
+
+pub returns-clause-told : goal.returns-clause-told
+returns-clause-told g c = λ start first within so_far.
+    let asked = g.N.RunName.asked in
+    let b = c.requires.begun in
+    let ask = c.numbered_ask-ask.result in
+    let exec : ExecId = record { 0 = c.args.front.now.bases + 2 } in
+    let is_ask : IsAskOf asked ask.number ask.asks ask.before = c.number-number.ensures.is_ask in
+    let here : ask.number ≡ c.args.query.number = c.numbered_ask-ask.ensures.number_is in
+    let same : is_ask.query ≡ b.query =
+    c.begun_query_is_asked.ensures.same c.args.place c.args.query.number c.args.query.line c.args.query.documents b ask is_ask here in
+    let prio : c.prio_at.result ≡ b.query.query.prio =
+    c.prio_at.ensures b.query.query
+    (c.alike_lines_ask_the_same.ensures.at asked.lines c.args.front.now.lines.now c.args.query.line b.query.query (record { same = sym c.requires.front.lines.same })
+    (c.begun_query_is_asked.ensures.line c.args.place c.args.query.number c.args.query.line c.args.query.documents b)) in
+    let queue : c.queue_number-queue.result ≡ queue_of is_ask.query.query.prio =
+    c.queue_number-queue.ensures ∙ (ap queue_of prio ∙ ap (λ (q : Asked). queue_of q.query.prio) (sym same)) in
+    let on_front : exec ≡ front_exec asked.bases = ap (λ (n : ℕ). front_exec n) c.requires.front.bases in
+    let runs : (n : ℕ) → runs_for asked ask c.queue_number-queue.result exec n ≡ map (task_run asked.lines asked.shards (front_exec asked.bases) b.query) (range_with_len 0 n) = λ n.
+    ap (λ (k : ℕ). runs_for asked ask k exec n) queue
+    ∙ (c.tasks_are_runs.ensures.ran_here asked ask is_ask exec n
+    ∙ (ap (λ (q : Asked). map (task_run asked.lines asked.shards exec q) (range_with_len 0 n)) same
+    ∙ ap (λ (x : ExecId). map (task_run asked.lines asked.shards x b.query) (range_with_len 0 n)) on_front)) in
+    let shards : ℕ = c.args.front.now.shards in
+    let all : runs_for asked ask c.queue_number-queue.result exec shards ≡ runs_of asked (front_exec asked.bases) b.query =
+    runs shards ∙ ap (λ (n : ℕ). map (task_run asked.lines asked.shards (front_exec asked.bases) b.query) (range_with_len 0 n)) c.requires.front.shards in
+    on_ok_weaker c.run_tasks_here.result (λ told.
+    told_more asked (front_exec asked.bases) start c.args.place b.query first c.args.direct.now c.run_tasks_here.new.direct (runs_for asked ask c.queue_number-queue.result exec shards)
+    (c.place_by_place.ensures.begun asked.lines start c.args.place b.query b.comes within) all told so_far) c.run_tasks_here.ensures.told
+
+pub returns-clause-told_some : goal.returns-clause-told_some
+returns-clause-told_some g c = λ start first within so_far.
+    let asked = g.N.RunName.asked in
+    let b = c.requires.begun in
+    let ask = c.numbered_ask-ask.result in
+    let exec : ExecId = record { 0 = c.args.front.now.bases + 2 } in
+    let is_ask : IsAskOf asked ask.number ask.asks ask.before = c.number-number.ensures.is_ask in
+    let here : ask.number ≡ c.args.query.number = c.numbered_ask-ask.ensures.number_is in
+    let same : is_ask.query ≡ b.query =
+    c.begun_query_is_asked.ensures.same c.args.place c.args.query.number c.args.query.line c.args.query.documents b ask is_ask here in
+    let prio : c.prio_at.result ≡ b.query.query.prio =
+    c.prio_at.ensures b.query.query
+    (c.alike_lines_ask_the_same.ensures.at asked.lines c.args.front.now.lines.now c.args.query.line b.query.query (record { same = sym c.requires.front.lines.same })
+    (c.begun_query_is_asked.ensures.line c.args.place c.args.query.number c.args.query.line c.args.query.documents b)) in
+    let queue : c.queue_number-queue.result ≡ queue_of is_ask.query.query.prio =
+    c.queue_number-queue.ensures ∙ (ap queue_of prio ∙ ap (λ (q : Asked). queue_of q.query.prio) (sym same)) in
+    let on_front : exec ≡ front_exec asked.bases = ap (λ (n : ℕ). front_exec n) c.requires.front.bases in
+    let runs : (n : ℕ) → runs_for asked ask c.queue_number-queue.result exec n ≡ map (task_run asked.lines asked.shards (front_exec asked.bases) b.query) (range_with_len 0 n) = λ n.
+    ap (λ (k : ℕ). runs_for asked ask k exec n) queue
+    ∙ (c.tasks_are_runs.ensures.ran_here asked ask is_ask exec n
+    ∙ (ap (λ (q : Asked). map (task_run asked.lines asked.shards exec q) (range_with_len 0 n)) same
+    ∙ ap (λ (x : ExecId). map (task_run asked.lines asked.shards x b.query) (range_with_len 0 n)) on_front)) in
+    on_err_weaker c.run_tasks_here.result (λ has.
+    let few : has.count ≤ asked.shards = let shards : c.args.front.now.shards ≡ asked.shards = c.requires.front.shards in omega (arith, has.within, shards) in
+    told_some_more asked (front_exec asked.bases) start c.args.place has.count b.query first c.args.direct.now c.run_tasks_here.new.direct (runs_for asked ask c.queue_number-queue.result exec has.count)
+    (c.place_by_place.ensures.begun asked.lines start c.args.place b.query b.comes within) few (runs has.count) has.told so_far) c.run_tasks_here.ensures.told_some
 
 pub returns-clause-posted : goal.returns-clause-posted
 returns-clause-posted g c = λ first so_far.
