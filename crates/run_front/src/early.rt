@@ -26,6 +26,11 @@ use run_desks::{begun_query_is_asked, known_turns};
 use run_plan::laws::place_by_place;
 use run_plan::{BegunQuery, Turn};
 use std::sync::Wait;
+use std::thread::yield_now;
+
+/// How many tasks are begun at a time. Where threads share a processor, the parts of more than that lie in no cache any more when they are
+/// gathered.
+const TASKS_AT_A_TIME: u32 = 128;
 
 /// The turns before a place, all of whose queries are early: their tasks are added to the pool, which has three queues. It ends at the first
 /// turn that finds no memory: no task behind it is added.
@@ -65,6 +70,7 @@ pub fn early_turns<'c, 't, 'i: 't, N: RunName + 'static, G: Gate, R: Wait>(
 {
     known_turns::<N>();
     place_by_place();
+    let mut begun = 0;
     for place in 0..end {
         early_turn(
             rt,
@@ -77,8 +83,19 @@ pub fn early_turns<'c, 't, 'i: 't, N: RunName + 'static, G: Gate, R: Wait>(
             turns[place],
             place as u32,
         )?;
+        begun = pause(begun, front.shards);
     }
     Ok(())
+}
+
+/// Lets other threads run once enough tasks were begun since it last did so, and gives how many have been since.
+fn pause(begun: u32, more: u32) -> u32 {
+    let begun = begun.saturating_add(more);
+    if begun < TASKS_AT_A_TIME {
+        return begun;
+    }
+    yield_now();
+    0
 }
 
 /// One turn, whose query is early if it begins one.
