@@ -1,5 +1,5 @@
 -- The front and the workers, from their start to their end.
-use Rattle.std.proofs.Common.{◌≡◌, ℕ, ◌+◌, List, [], ◌∷◌, ◌++◌, false, true, length, map, take, refl, sym, ap, ◌∙◌, subst, All, arith}
+use Rattle.std.proofs.Common.{◌≡◌, ◌⊎◌, inl, inr, ℕ, ◌+◌, List, [], ◌∷◌, ◌++◌, Bool, false, true, length, map, take, refl, sym, ap, ◌∙◌, subst, All, arith}
 use Rattle.std.specs.Prelude.{Option, get_or}
 use Rattle.std.proofs.Math.Seq.{take-append_seam}
 use Rattle.std.proofs.lemmas.List.{length-map}
@@ -27,7 +27,7 @@ use Rattle.run_phases.specs.declared.first.FrontMid.{FrontMid}
 use Rattle.run_phases.specs.declared.second.FrontLeft.{FrontLeft}
 use Rattle.run_phases.specs.Phases.{IsDoneBy, IsJoinAccount, IsStopAccount}
 use Rattle.run_phases.proofs.Adders.{runs_of_one, tasks_of_one}
-use Rattle.run_phases.proofs.Runs.{adds_of_one}
+use Rattle.run_phases.proofs.Runs.{adds_counted, adds_of_one}
 use Rattle.run_setup.specs.Closing.{AreWorldEnds, IsPrinterEnd}
 use Rattle.run_setup.specs.Ids.{RunIds}
 use Rattle.run_tasks.specs.declared.world.TaskEnds.{TaskEnds}
@@ -96,6 +96,12 @@ module _ {N : Type 0} where
   tasks_are : (asked : Asking) (stop : Option ℕ) (pool : PoolSeen) (start : FrontStart N) (mid : FrontMid N) (e : IsFirstEnd asked stop pool start mid) → tasks_of (seen_of mid.ending).passes ≡ ticketed (adds_of e.one.pass)
   tasks_are asked stop pool start mid e = tasks_of_one (seen_of mid.ending).passes e.one.pass e.one.is e.one.number
 
+  -- no late task is told, or all early ones were accepted
+  early_or_none : (asked : Asking) (stop : Option ℕ) (pool : PoolSeen) (start : FrontStart N) (mid : FrontMid N) (left : FrontLeft N) → IsFirstEnd asked stop pool start mid → IsStopAccount asked mid left → (refused : Bool) → mid.refused ≡ refused
+      → (left.note.direct ≡ []) ⊎ (left.note.accepted ≡ length (early_runs asked.lines asked.shards asked.stop_at))
+  early_or_none asked stop pool start mid left e a true is = inl (a.behind is)
+  early_or_none asked stop pool start mid left e a false is = inr (a.accepted ∙ (adds_counted (seen_of mid.ending).passes ∙ ap (λ (runs : List Run). length runs) (e.added is)))
+
   -- what is told of a pool that was stopped
   stop_told : (asked : Asking) (stop : Option ℕ) (pool : PoolSeen) (start : FrontStart N) (mid : FrontMid N) (left : FrontLeft N) → IsFirstEnd asked stop pool start mid → IsStopAccount asked mid left → IsToldAccount asked left.note
   stop_told asked stop pool start mid left e a = record {
@@ -115,6 +121,7 @@ module _ {N : Type 0} where
       left = a.direct.are.left;
       whole = ap (λ (l : List Run). l ++ a.direct.are.left) a.direct.are.are ∙ a.direct.are.whole;
     };
+    behind = early_or_none asked stop pool start mid left e a mid.refused refl;
   }
 
   -- what is told of a pool that was joined

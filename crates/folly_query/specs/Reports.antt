@@ -16,7 +16,13 @@ use Rattle.folly_query.specs.declared.report.Status.TheVariants as status
 
 -- what a run over these lines is asked, by the settings
 abbrev pub asked_by : Settings → List Line → Asking
-asked_by settings lines = record { lines = lines; shards = settings.shards; workers = settings.workers; bases = settings.bases; stop_at = settings.stop_at }
+asked_by settings lines = record {
+  lines = lines;
+  shards = settings.shards;
+  workers = settings.workers;
+  bases = settings.bases;
+  stop_at = settings.stop_at;
+}
 
 abbrev pub knobs_of : Settings → Knobs
 knobs_of settings = record { workers = settings.workers; bases = settings.bases; stop_at = settings.stop_at }

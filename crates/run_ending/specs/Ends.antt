@@ -1,5 +1,5 @@
 -- How a run ends, and what it tells.
-use Rattle.std.specs.Prelude.{◌≡◌, ℕ, ◌+◌, ◌≤◌, List, [], ◌++◌, length, map, take, false, true, Some, None, IfSome}
+use Rattle.std.specs.Prelude.{◌≡◌, ℕ, ◌+◌, ◌≤◌, ◌⊎◌, List, [], ◌++◌, length, map, take, false, true, Some, None, IfSome}
 use Rattle.fan_base.specs.Outside.{FaultsRose, Shown}
 use Rattle.query_model.specs.Pieces.{Bytes}
 use Rattle.reply_printer.specs.Passing.{Gains, GainsFront}
@@ -49,20 +49,22 @@ pub record AreAccepted (asked : Asking) (accepted : ℕ) (added : List Add) : Ty
   pub count : accepted ≡ length added
   pub first : map run_of_add added ≡ take accepted (early_runs asked.lines asked.shards asked.stop_at)
 
--- The tasks of these adds. A ticket names an adder and which of its adds it is, both counted from 0; a run's pool has one adder, so the tickets are (0, 0), (0, 1), and so on.
+-- The tasks of these adds. A ticket names an adder and which of its adds it is, both counted from 0; a run's pool has one adder, so the tickets are
+-- (0, 0), (0, 1), and so on.
 abbrev pub ticketed : List Add → List Task
 ticketed added = numbered 0 0 added
 
--- Its records of tasks that never were in the pool are of the first of the late ones, in their order, each with its queue, executor and id. Of their marks nothing is said.
+-- Its records of tasks that never were in the pool are of the first of the late ones, in their order, each with its queue, executor and id. Of their
+-- marks nothing is said.
 pub record TellsLate (asked : Asking) (note : PoolNote) : Type 0 where
   pub runs : List Run
   pub tell : TellOf note.direct runs
   pub left : List Run
   pub whole : runs ++ left ≡ late_runs asked.lines asked.shards asked.bases asked.stop_at
 
--- What is told of the tasks of a pool that was stopped: it accepted the first of the early ones, as many as are told; each record of what it ran, or of what was handed back and then
--- ran, is of one of these, with its ticket, no two of one. So there are no more records than that. The list of the other tasks is tied to nothing that is told.
--- What never was in the pool is told as the first of the late tasks.
+-- What is told of the tasks of a pool that was stopped: it accepted the first of the early ones, as many as are told; each record of what it ran, or of
+-- what was handed back and then ran, is of one of these, with its ticket, no two of one. So there are no more records than that. The list of the other
+-- tasks is tied to nothing that is told. What never was in the pool is told as the first of the late tasks, and only where it accepted all early ones.
 pub record IsStopAccount (asked : Asking) (note : PoolNote) : Type 0 where
   pub added : List Add
   pub accepted : AreAccepted asked note.accepted added
@@ -74,9 +76,10 @@ pub record IsStopAccount (asked : Asking) (note : PoolNote) : Type 0 where
   pub all : IsSameInAnyOrder (ran ++ back ++ others) (ticketed added)
   pub few : length note.ran.records + length note.returned ≤ note.accepted
   pub direct : TellsLate asked note
+  pub behind : (note.direct ≡ []) ⊎ (note.accepted ≡ length (early_runs asked.lines asked.shards asked.stop_at))
 
--- What is told of the tasks of a pool that was joined: it accepted the first of the early ones, as many as are told; each of these has one record of a run, with its ticket, there are no
--- other records, nothing was handed back, and no task is told that never was in the pool.
+-- What is told of the tasks of a pool that was joined: it accepted the first of the early ones, as many as are told; each of these has one record of a
+-- run, with its ticket, there are no other records, nothing was handed back, and no task is told that never was in the pool.
 pub record IsJoinAccount (asked : Asking) (note : PoolNote) : Type 0 where
   pub added : List Add
   pub accepted : AreAccepted asked note.accepted added

@@ -132,6 +132,7 @@ fn turns_behind<'c, 't, 'i: 't, N: RunName + 'static, R: Wait>(
         OnTrue result (HasPosted N.asked (length turns.now) first front.new.printer) }
     ensures joined { stop ≡ None → (result ≡ not refused) × (front.new ≡ front.old) }
     ensures none { stop ≡ None → direct.new ≡ direct.old }
+    ensures early { refused ≡ true → direct.new ≡ direct.old }
 {
     if refused {
         return false;
