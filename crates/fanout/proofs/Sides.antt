@@ -99,7 +99,7 @@ module _ {N : Type 0} where
   -- no late task is told, or all early ones were accepted
   early_or_none : (asked : Asking) (stop : Option ℕ) (pool : PoolSeen) (start : FrontStart N) (mid : FrontMid N) (left : FrontLeft N) → IsFirstEnd asked stop pool start mid → IsStopAccount asked mid left → (refused : Bool) → mid.refused ≡ refused
       → (left.note.direct ≡ []) ⊎ (left.note.accepted ≡ length (early_runs asked.lines asked.shards asked.stop_at))
-  early_or_none asked stop pool start mid left e a true is = inl (a.behind is)
+  early_or_none asked stop pool start mid left e a true is = inl (a.none_if_refused is)
   early_or_none asked stop pool start mid left e a false is = inr (a.accepted ∙ (adds_counted (seen_of mid.ending).passes ∙ ap (λ (runs : List Run). length runs) (e.added is)))
 
   -- what is told of a pool that was stopped
@@ -121,7 +121,7 @@ module _ {N : Type 0} where
       left = a.direct.are.left;
       whole = ap (λ (l : List Run). l ++ a.direct.are.left) a.direct.are.are ∙ a.direct.are.whole;
     };
-    behind = early_or_none asked stop pool start mid left e a mid.refused refl;
+    late_behind_all = early_or_none asked stop pool start mid left e a mid.refused refl;
   }
 
   -- what is told of a pool that was joined

@@ -62,9 +62,10 @@ pub record TellsLate (asked : Asking) (note : PoolNote) : Type 0 where
   pub left : List Run
   pub whole : runs ++ left ≡ late_runs asked.lines asked.shards asked.bases asked.stop_at
 
--- What is told of the tasks of a pool that was stopped: it accepted the first of the early ones, as many as are told; each record of what it ran, or of
--- what was handed back and then ran, is of one of these, with its ticket, no two of one. So there are no more records than that. The list of the other
--- tasks is tied to nothing that is told. What never was in the pool is told as the first of the late tasks, and only where it accepted all early ones.
+-- What is told of the tasks of a pool that was stopped: it accepted the first of the early ones, as many as are told; each record of what it ran, or
+-- of what was handed back and then ran, is of one of these, with its ticket, no two of one. So there are no more records than that. The list of the
+-- other tasks is tied to nothing that is told. What never was in the pool is told as the first of the late tasks, and only where it accepted all early
+-- ones.
 pub record IsStopAccount (asked : Asking) (note : PoolNote) : Type 0 where
   pub added : List Add
   pub accepted : AreAccepted asked note.accepted added
@@ -76,10 +77,10 @@ pub record IsStopAccount (asked : Asking) (note : PoolNote) : Type 0 where
   pub all : IsSameInAnyOrder (ran ++ back ++ others) (ticketed added)
   pub few : length note.ran.records + length note.returned ≤ note.accepted
   pub direct : TellsLate asked note
-  pub behind : (note.direct ≡ []) ⊎ (note.accepted ≡ length (early_runs asked.lines asked.shards asked.stop_at))
+  pub late_behind_all : (note.direct ≡ []) ⊎ (note.accepted ≡ length (early_runs asked.lines asked.shards asked.stop_at))
 
--- What is told of the tasks of a pool that was joined: it accepted the first of the early ones, as many as are told; each of these has one record of a
--- run, with its ticket, there are no other records, nothing was handed back, and no task is told that never was in the pool.
+-- What is told of the tasks of a pool that was joined: it accepted the first of the early ones, as many as are told; each of these has one record of
+-- a run, with its ticket, there are no other records, nothing was handed back, and no task is told that never was in the pool.
 pub record IsJoinAccount (asked : Asking) (note : PoolNote) : Type 0 where
   pub added : List Add
   pub accepted : AreAccepted asked note.accepted added

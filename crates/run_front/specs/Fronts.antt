@@ -30,8 +30,8 @@ pub record AreSomeOf (first all runs : List Run) : Type 0 where
 pub record AreRunsTo (asked : Asking) (exec : ExecId) (start place : ℕ) (first runs : List Run) : Type 0 where
   pub are : runs ≡ first ++ task_runs asked.lines asked.shards exec (begun_between asked.lines start place)
 
--- These records tell, but for their marks, of some runs: behind these first ones come those of the queries that are begun from one place on, and before
--- another.
+-- These records tell, but for their marks, of some runs: behind these first ones come those of the queries that are begun from one place on, and
+-- before another.
 pub record TellRunsTo (asked : Asking) (exec : ExecId) (start place : ℕ) (first : List Run) (direct : List DirectSeen) : Type 0 where
   pub runs : List Run
   pub tell : TellOf direct runs

@@ -28,8 +28,8 @@ use run_plan::{BegunQuery, Turn};
 use std::sync::Wait;
 use std::thread::yield_now;
 
-/// How many tasks are begun at a time. Where threads share a processor, the parts of more than that lie in no cache any more when they are
-/// gathered.
+/// How many tasks are begun, at least, before other threads are let run. Where threads share a processor, the parts of a thousand tasks and
+/// more lie in no cache any more when they are gathered.
 const TASKS_AT_A_TIME: u32 = 128;
 
 /// The turns before a place, all of whose queries are early: their tasks are added to the pool, which has three queues. It ends at the first
@@ -88,7 +88,7 @@ pub fn early_turns<'c, 't, 'i: 't, N: RunName + 'static, G: Gate, R: Wait>(
     Ok(())
 }
 
-/// Lets other threads run once enough tasks were begun since it last did so, and gives how many have been since.
+/// Counts the tasks of a turn, also of one that is cancelled. Once there are enough it lets other threads run, and counts from 0 again.
 fn pause(begun: u32, more: u32) -> u32 {
     let begun = begun.saturating_add(more);
     if begun < TASKS_AT_A_TIME {

@@ -132,7 +132,7 @@ pub stop_account : {N : Type 0} (asked : Asking) (mid : FrontMid N) (left : Fron
     → length left.note.ran.records + length left.note.returned ≤ left.note.accepted → (behind : WorldSeen N)
     → HaveAllRun (task_head asked) TaskRan (seen_of mid.ending).passes left.note.ran.records left.note.returned mid.front.world behind
     → TellSomeOf [] (late_runs asked.lines asked.shards asked.bases asked.stop_at) left.note.direct → (mid.refused ≡ true → left.note.direct ≡ []) → IsStopAccount asked mid left
-stop_account asked mid left accepted few behind have direct none = record { accepted = accepted; few = few; back = have.returned; all = have.all; kept = have.kept; direct = direct; behind = none }
+stop_account asked mid left accepted few behind have direct none = record { accepted = accepted; few = few; back = have.returned; all = have.all; kept = have.kept; direct = direct; none_if_refused = none }
 
 -- what the one adder added is what was added
 pub adds_of_one : (passes : List PassSeen) (adder : PassSeen) → passes ≡ adder ∷ [] → length (adds_of adder) ≡ adds_total passes

@@ -54,10 +54,10 @@ module _ {N : Type 0} where
     pub refused_is : refused ≡ mid.refused
     pub printer : ends.printer ≡ mid.front.printer.sender
 
-  -- What is told of a pool that was stopped, whether memory was refused or not: as many tasks as accepted as were added; each record of what it ran is
-  -- of one of these, no two of one, and the others were handed back; each record of `returned` is of one of those, no two of one. That those ran then
-  -- isn't said here: a task may leave its world as it was. The records of late tasks are, but for their marks, those of the first of them, in their
-  -- order; there are none where memory was refused before.
+  -- What is told of a pool that was stopped, whether memory was refused or not: as many tasks as accepted as were added; each record of what it ran
+  -- is of one of these, no two of one, and the others were handed back; each record of `returned` is of one of those, no two of one. That those ran
+  -- then isn't said here: a task may leave its world as it was. The records of late tasks are, but for their marks, those of the first of them, in
+  -- their order; there are none where the first phase says that memory was refused.
   pub record IsStopAccount (asked : Asking) (mid : FrontMid N) (left : FrontLeft N) : Type 0 where
     pub accepted : left.note.accepted ≡ adds_total (seen_of mid.ending).passes
     pub few : length left.note.ran.records + length left.note.returned ≤ left.note.accepted
@@ -65,7 +65,7 @@ module _ {N : Type 0} where
     pub all : AllRunOrReturned (task_head asked) (seen_of mid.ending).passes left.note.ran.records back
     pub kept : AreRunsOfSome (map (task_of (task_head asked)) back) left.note.returned
     pub direct : TellSomeOf [] (late_runs asked.lines asked.shards asked.bases asked.stop_at) left.note.direct
-    pub behind : mid.refused ≡ true → left.note.direct ≡ []
+    pub none_if_refused : mid.refused ≡ true → left.note.direct ≡ []
 
   -- What is told of a pool that was joined, whether memory was refused or not: as many tasks as accepted as were added; each of these has one record,
   -- nothing was handed back, and no task is told that never was in the pool.

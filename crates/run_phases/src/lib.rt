@@ -29,7 +29,8 @@
 //!   `IsPoolReport` of `fan_model`);
 //! * the pool was stopped exactly where it is asked (`stopped`), and behind a stop, whether memory was refused or not, as many
 //!   tasks are told as accepted as were added, each record is of one of these, no two of one, and the others were handed back
-//!   (`account`, which doesn't say that these then ran);
+//!   (`account`, which doesn't say that these then ran), and no late task is told where the first phase says that memory was
+//!   refused (`account`);
 //! * behind a join, in the same way, each task that was added has one record among those of what the pool ran, and nothing was
 //!   handed back (`ran`);
 //! * what the front ran of late tasks are the first of them, in order, where its world notes no refusal (`late`); a refusal

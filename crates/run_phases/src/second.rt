@@ -105,7 +105,7 @@ pub fn second_phase<'c, 't, 'i: 't, N: RunName + 'static, R: Wait>(
     }
 }
 
-/// The late turns, where the pool was stopped and no memory was refused before. Whether all of them were made.
+/// The late turns, where the pool was stopped and the first phase didn't say that memory was refused. Whether all of them were made.
 fn turns_behind<'c, 't, 'i: 't, N: RunName + 'static, R: Wait>(
     rt: &R,
     front: &mut Front<'c, 't, 'i, N>,
@@ -132,7 +132,7 @@ fn turns_behind<'c, 't, 'i: 't, N: RunName + 'static, R: Wait>(
         OnTrue result (HasPosted N.asked (length turns.now) first front.new.printer) }
     ensures joined { stop ≡ None → (result ≡ not refused) × (front.new ≡ front.old) }
     ensures none { stop ≡ None → direct.new ≡ direct.old }
-    ensures early { refused ≡ true → direct.new ≡ direct.old }
+    ensures untold { refused ≡ true → direct.new ≡ direct.old }
 {
     if refused {
         return false;

@@ -35,7 +35,7 @@ pub returns-clause-account : goal.returns-clause-account
 returns-clause-account g c stopped =
     let ended = c.end_pool-accepted.ensures in
     let on = sym ended.stopped ∙ stopped in
-    stop_account g.N.RunName.asked _ _ ended.accepted (ended.few on) _ (ended.all on) c.turns_behind-done.ensures.told (λ before. c.turns_behind-done.ensures.early before ∙ c.new-direct.ensures)
+    stop_account g.N.RunName.asked _ _ ended.accepted (ended.few on) _ (ended.all on) c.turns_behind-done.ensures.told (λ before. c.turns_behind-done.ensures.untold before ∙ c.new-direct.ensures)
 
 pub returns-clause-ran : goal.returns-clause-ran
 returns-clause-ran g c joined =
