@@ -64,8 +64,8 @@ pub record TellsLate (asked : Asking) (note : PoolNote) : Type 0 where
 
 -- What is told of the tasks of a pool that was stopped: it accepted the first of the early ones, as many as are told; each record of what it ran, or
 -- of what was handed back and then ran, is of one of these, with its ticket, no two of one. So there are no more records than that. The list of the
--- other tasks is tied to nothing that is told. What never was in the pool is told as the first of the late tasks, and only where it accepted all early
--- ones.
+-- other tasks is tied to nothing that is told. What never was in the pool is told as the first of the late tasks, and only where it accepted all
+-- early ones.
 pub record IsStopAccount (asked : Asking) (note : PoolNote) : Type 0 where
   pub added : List Add
   pub accepted : AreAccepted asked note.accepted added
