@@ -1,5 +1,5 @@
 -- The runs of a pool that has ended, and of what came behind its stop.
-use Rattle.std.proofs.Common.{◌≡◌, ℕ, ◌+◌, ◌≤◌, List, [], ◌∷◌, ◌++◌, Bool, false, length, map, drop, append-nil, refl, sym, ap, ◌∙◌, subst, length-append, arith, true≢false}
+use Rattle.std.proofs.Common.{◌≡◌, ℕ, ◌+◌, ◌≤◌, List, [], ◌∷◌, ◌++◌, Bool, false, length, map, drop, append-nil, refl, sym, ap, ◌∙◌, subst, length-append, arith, true≢false, true}
 use Rattle.std.specs.Prelude.{Option, Some, None}
 use Rattle.std.specs.List.{sum_by}
 use Rattle.std.proofs.lemmas.List.{length-map}

@@ -1,5 +1,5 @@
 -- The phases of a run's front.
-use Rattle.std.specs.Prelude.{◌≡◌, ℕ, ◌+◌, ◌≤◌, Bool, List, [], ◌∷◌, Option, Some, None, length, map}
+use Rattle.std.specs.Prelude.{◌≡◌, ℕ, ◌+◌, ◌≤◌, Bool, List, [], ◌∷◌, Option, Some, None, length, map, true}
 use Rattle.fan_model.specs.Report.{Asking}
 use Rattle.fan_model.specs.Tasks.{late_runs}
 use Rattle.fan_parts.specs.declared.jobs.PrintJob.{PrintJob}
