@@ -17,6 +17,7 @@ use Rattle.collect_ops.specs.declared.view.Phase.{Phase}
 use Rattle.collect_ops.specs.declared.view.Phase.TheVariants as phase
 use Rattle.collect_ops.specs.declared.view.View.{View}
 use Rattle.collect_ops.specs.declared.view.View.TheVariants as view
+use Rattle.collect_ops.specs.Steps.{IsLast, Standing}
 use Rattle.collect_ops.specs.Views.{waits, end_in}
 use Rattle.collect_ops.specs.Rule.{Held, DeskState, Claim, free, out, back, claim_word, left_of, ClaimFits, home_of, end_home, DeskHolds}
 use Rattle.collect_ops.specs.Closing.{IsOf, IsUntouched, Closes, ClosesUntouched, Rests, kept_in_slots, kept_from, held_outcome, held_end, unclaimed, uncounted}
@@ -274,3 +275,15 @@ none_counted left outcomes e = ap (λ n. uncounted n outcomes) e
 pub all_uncounted : {X : Type 0} (left : ℕ) (outcomes : List X) → left ≢ 0 → uncounted left outcomes ≡ outcomes
 all_uncounted zero outcomes ne = absurd (ne refl)
 all_uncounted (suc left) outcomes ne = refl
+
+module _ {X E : Type 0} where
+  -- where the last arrival has given its slots back nobody is left
+  emptied_word : (id n k : ℕ) (r : Ending X E) (xs : List X) (s : DeskState X E) → Seen DeskHolds id (view.Arriving n r k (phase.Emptied xs)) s → slice_index s.words 0 ≡ 0
+  emptied_word id n k r xs s (inl b, at) = absurd (none_before s b id _ (λ h. cc) (λ h. cc) at)
+  emptied_word id n k r xs s (inr (inl b), at) = absurd (b.fits k (phase.Emptied xs) (b.views id _ at).3)
+  emptied_word id n k r xs s (inr (inr b), at) = ap (λ (l : List ℕ). slice_index l 0) b.words
+
+  pub nobody_left : (id : ℕ) (m : Standing X E) (words : List ℕ) (slots : List (Held X E)) → IsLast m → Final (Seen DeskHolds id m.0) words slots → slice_index words 0 ≡ 0
+  nobody_left id m words slots (n, r, k, xs, is) f =
+      let seen : Seen DeskHolds id (view.Arriving n r k (phase.Emptied xs)) f.0 = subst (λ (v : View X E). Seen DeskHolds id v f.0) (ap (λ (s : Standing X E). s.0) is) f.1 in
+      sym (ap (λ (l : List ℕ). slice_index l 0) f.2) ∙ emptied_word id n k r xs f.0 seen

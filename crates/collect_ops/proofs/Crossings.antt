@@ -24,6 +24,7 @@ use Rattle.collect_ops.specs.contracts.receipt.Completed as completed
 use Rattle.collect_ops.specs.contracts.arrival.Arrival as arrival
 use Rattle.collect_ops.specs.contracts.arrival.Arrivals as arrivals
 use Rattle.collect_ops.specs.contracts.desk.Desk as desk
+use Rattle.collect_ops.specs.contracts.owned.OwnedDesk as owned
 
 ruleset parts = (option_std.the_field_send, option_std.the_send, option_std.the_field_sync, option_std.the_sync, phantomdata_std.the_field_send, phantomdata_std.the_send, phantomdata_std.the_field_sync, phantomdata_std.the_sync, linkedlist_std.the_send, global_std.the_field_send, global_std.the_send, global_std.the_field_sync, global_std.the_sync, table_atomic_table.the_field_send, table_atomic_table.the_send, table_atomic_table.the_field_sync, table_atomic_table.the_sync, sendlease_atomic_table.the_send, sendlease_atomic_table.the_sync, seat_atomic_table.the_send, shared_atomic_table.the_send, shared_atomic_table.the_sync, try_fan_base.the_field_send, try_fan_base.the_send, item_own.the_field_send, item_own.the_send, ending_own.the_field_send, ending_own.the_send, view_own.the_field_send, view_own.the_send, phase_own.the_field_send, phase_own.the_send, rule_own.the_field_send, rule_own.the_send, crosses, sendable)
 
@@ -47,3 +48,6 @@ Arrival-send α D X E value end = search parts depth 60 fits 20000
 
 pub Arrivals-send : (α : NamedLft) (D X E : RattleType) → IsSend X → IsSend E → IsSend (arrivals.the_row α D X E)
 Arrivals-send α D X E value end = search parts depth 60 fits 20000
+
+pub OwnedDesk-send : (T E : RattleType) → IsSend T → IsSend E → IsSend (owned.the_row T E)
+OwnedDesk-send T E value end = search parts depth 60 fits 20000

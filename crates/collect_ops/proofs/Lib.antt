@@ -11,3 +11,4 @@ pub mod Passing
 pub mod Closing
 pub mod Telling
 pub mod Crossings
+mod Seats

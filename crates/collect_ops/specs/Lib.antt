@@ -4,3 +4,5 @@ pub mod Rule
 pub mod Steps
 pub mod Answers
 pub mod Closing
+pub mod Owned
+pub mod Bringing

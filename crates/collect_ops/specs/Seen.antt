@@ -49,3 +49,8 @@ pub record KeptSeen (X E : Type 0) : Type 0 where
   pub claimed : ℕ
   pub outcomes : List X
   pub end : Option E
+
+-- A desk with all its arrivals: the desk, and of each index whether its outcome is awaited still.
+pub record OwnedSeen (E : Type 0) : Type 0 where
+  pub desk : DeskId E
+  pub awaited : List Bool

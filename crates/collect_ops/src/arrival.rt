@@ -99,7 +99,7 @@ impl<'d, D: Gathers> Model for Arrival<'d, D> {
 }
 
 impl<'d, D: Gathers> Arrival<'d, D> {
-    fn new(
+    pub(crate) fn new(
         table: &'d DeskTable<D::Kept, D::End>,
         seat: Place<D::Kept, D::End>,
         size: usize,

@@ -1,10 +1,14 @@
 //! A desk: the memory in which outcomes are gathered.
-ghost use Rattle.std.specs.Prelude.{◌≡◌, ◌≢◌, ◌↔◌, ◌+◌, ◌≤◌, true, false, None, [], length, IfOk, IfErr, IsErr};
+ghost use Rattle.std.specs.Prelude.{◌≡◌, ◌≢◌, ◌↔◌, ◌+◌, ◌≤◌, true, false, None, [], is_some, length, map, replicate, slice_get, vec_capacity, IfSome, IfOk, IfErr, IsErr};
+ghost use Rattle.collect_ops.specs.Owned.{HasArrivals};
+ghost use Rattle.collect_ops.specs.Steps.{IsDesk, IsDealer};
+ghost use Rattle.collect_ops.specs.Views.{desk_in};
 
-use crate::arrival::Arrivals;
+use crate::arrival::{Arrival, Arrivals};
 use crate::boxed::Boxed;
 use crate::kept::{self, Kept};
-use crate::rule::{DeskRule, Place};
+use crate::listed::Listed;
+use crate::rule::{DeskRule, DeskTable, Place};
 use crate::steps;
 use crate::view::{Ending, Item, View};
 use atomic_table::Table;
@@ -58,7 +62,8 @@ impl<X, E, K> Model for Desk<X, E, K> {
 
 impl<X, E, K> Desk<X, E, K> {
     ghost use Rattle.collect_ops.specs.Closing.{EndsAs};
-    ghost use Rattle.collect_ops.specs.Steps.{IsDesk, Sits, HasRoom};
+    ghost use Rattle.collect_ops.specs.Owned.{IsAwaited};
+    ghost use Rattle.collect_ops.specs.Steps.{IsLast, Sits, HasRoom};
     ghost use Rattle.collect_ops.specs.declared.view.View.{View};
 
     /// A desk for so many outcomes, 1 to 65,536. `Memory` hands the end back where there is no room for a slot an
@@ -119,6 +124,59 @@ impl<X, E, K> Desk<X, E, K> {
         Ok(Arrivals::new(&self.table.shared, seat, size))
     }
 
+    /// Deals out the seats of all its arrivals, which weren't taken, into this room.
+    pub(crate) fn deal_out(&mut self, room: Vec<Option<Place<X, E>>>) -> Vec<Option<Place<X, E>>>
+        requires untaken { self.old.taken ≡ false }
+        requires room { (room.items ≡ []) × (self.old.desk.size ≤ vec_capacity room) }
+        ensures desk { self.new.desk ≡ self.old.desk }
+        ensures arrivals { HasArrivals self.old.desk result.items }
+        ensures all { map is_some result.items ≡ replicate self.old.desk.size true }
+    {
+        let Some(seat) = self.dealer.take() else {
+            unreachable!()
+        };
+        deal_all(&self.table.shared, seat, self.size, room)
+    }
+
+    /// Leaves an outcome by the arrival that has this seat. Where it was the last, all outcomes come with the end and its seat.
+    pub(crate) fn keep(
+        &self,
+        seat: Place<X, E>,
+        index: usize,
+        outcome: X,
+    ) -> Option<(Listed<X>, E, Place<X, E>)>
+        requires { IsAwaited self.now.desk index seat }
+        ensures all { IfSome result (λ t. (length t.0 ≡ self.now.desk.size) × (slice_get t.0 index ≡ Some outcome) × (self.now.desk.end ≡ Some t.1)) }
+        ensures last { IfSome result (λ t. (t.2.table_id ≡ self.now.desk.table) × IsLast t.2.me) }
+    {
+        let arrival: Arrival<'_, Desk<X, E, K>> = Arrival::new(
+            &self.table.shared,
+            seat,
+            self.size,
+            index,
+        );
+        match arrival.into_pass().keep(outcome) {
+            Ok((list, end, done)) => Some((list, end, done.into_seat())),
+            Err(_receipt) => None,
+        }
+    }
+
+    /// Gives the memory back, by the seat of the arrival that has taken all outcomes and the end. Nothing is left.
+    pub(crate) fn free(self, last: Place<X, E>)
+        requires table { last.table_id ≡ self.desk.table }
+        requires last { IsLast last.me }
+    {
+        let Desk {
+            table,
+            owner: _,
+            dealer: _,
+            size,
+            kind: _,
+        } = self;
+        let kept: Kept<Desk<X, E, K>> = Kept::of(kept::emptied(table, last, size), size);
+        kept.finish();
+    }
+
     /// Gives the memory back, and hands out what was kept and never handed out, and the end where nothing completed.
     /// Where somebody has claimed there is no end, and where none is left there is nothing. Of an outcome whose arrival
     /// was in the middle of its call nothing is said: no call can be, unless it was forgotten.
@@ -150,4 +208,26 @@ fn end_alone<X, E>(ending: Ending<X, E>) -> E
     let Ending { end, room } = ending;
     room.destroy_empty();
     end
+}
+
+// Deals the seats of all arrivals into this room.
+fn deal_all<X, E>(
+    table: &DeskTable<X, E>,
+    dealer: Place<X, E>,
+    size: usize,
+    room: Vec<Option<Place<X, E>>>,
+) -> Vec<Option<Place<X, E>>>
+    requires desk { IsDesk size table.now.table_id }
+    requires dealer { IsDealer size 0 table.now.table_id dealer }
+    requires room { (room.items ≡ []) × (size ≤ vec_capacity room) }
+    ensures arrivals { HasArrivals (desk_in table.now.table_id dealer.me.0) result.items }
+    ensures all { map is_some result.items ≡ replicate size true }
+{
+    let mut seat = dealer;
+    let mut arrivals = room;
+    for index in 0..size {
+        let arrival = steps::deal_arrival(table, &mut seat, size, index);
+        arrivals.push_reserved(Some(arrival));
+    }
+    arrivals
 }

@@ -5,7 +5,7 @@ ghost use mathlib.Core.Option.{some};
 ghost use lib.ListN.{get_elem?};
 ghost use Rattle.collect_ops.specs.Rule.{Held};
 ghost use Rattle.collect_ops.specs.Closing.{Rests, SameSlots, kept_from, held_outcome, held_end, unclaimed, uncounted, Closes, ClosesUntouched};
-ghost use Rattle.collect_ops.specs.Steps.{IsDesk, IsOwner, HasDealer};
+ghost use Rattle.collect_ops.specs.Steps.{IsDesk, IsLast, IsOwner, HasDealer};
 ghost use Rattle.collect_ops.specs.Views.{end_in};
 
 use crate::desk::{Gathers, Memories};
@@ -61,6 +61,18 @@ pub(crate) fn closed<X, E>(
         Some(seat) => table.close_with(seat),
         None => table.close_with(owner),
     }
+}
+
+/// Closes the table of a desk by the seat of the arrival that has taken all outcomes and the end.
+pub(crate) fn emptied<X, E>(table: Memories<X, E>, last: Place<X, E>, size: usize) -> Slots<X, E>
+    requires desk { IsDesk size table.shared.table_id }
+    requires table { last.table_id ≡ table.shared.table_id }
+    requires last { IsLast last.me }
+    ensures counts { (slots_len result.words ≡ 2) × (slots_len result.slots ≡ size + 1) }
+    ensures full { IsFull result.words × IsFull result.slots }
+    ensures none { slice_index (slots_items result.words) 0 ≡ 0 }
+{
+    table.close_with(last)
 }
 
 // A slot that an arrival still had comes back with some item, of which nothing is known. What it can't be is leaked.

@@ -122,10 +122,11 @@ impl<'d, X, E> Completed<'d, X, E> {
 }
 
 impl<'d, X, E> Completed<'d, X, E> {
-    // The seat of the arrival.
-    fn into_seat(self) -> Place<X, E>
+    /// The seat of the arrival.
+    pub(crate) fn into_seat(self) -> Place<X, E>
         ensures desk { self.entry.desk ≡ desk_in result.table_id result.me.0 }
         ensures done { IsDone (phase_in result.me.0) × (result.me.1 ≡ []) }
+        ensures found { self.entry.found ≡ found_in (phase_in result.me.0) }
     {
         let Completed { table: _, seat } = self;
         seat

@@ -19,7 +19,7 @@ pub(crate) fn same<T: PartialEq + Debug + Copy, R: Abort>(rt: &R, found: T, expe
 // An outcome as a value that may be copied.
 type Outcome = Result<u64, Fault>;
 
-fn told(outcome: Try<u64>) -> Outcome {
+pub(crate) fn told(outcome: Try<u64>) -> Outcome {
     match outcome {
         Try::Value(value) => Ok(value),
         Try::Broken => Err(Fault::Broken),
@@ -36,11 +36,11 @@ fn told_some(outcome: Option<Try<u64>>) -> Option<Outcome> {
 }
 
 // The first three outcomes by index, and how many there are beside these.
-type List = (Option<Outcome>, Option<Outcome>, Option<Outcome>, usize);
+pub(crate) type List = (Option<Outcome>, Option<Outcome>, Option<Outcome>, usize);
 
 const EMPTY: List = (None, None, None, 0);
 
-fn outcomes_listed(mut list: Listed<Try<u64>>) -> List {
+pub(crate) fn outcomes_listed(mut list: Listed<Try<u64>>) -> List {
     let zero = told_some(list.pop());
     let one = told_some(list.pop());
     let two = told_some(list.pop());
@@ -63,7 +63,7 @@ fn values_listed(mut list: Listed<u64>) -> List {
 
 // What an arrival answers, as plain data.
 #[derive(Clone, Copy, Debug, PartialEq, Eq)]
-enum Said {
+pub(crate) enum Said {
     All(List, u64),
     First(usize, Outcome, u64),
     Back(Outcome),
@@ -162,7 +162,21 @@ fn three<'d, X, K, R: Abort>(rt: &R, desk: &'d mut Desk<X, u64, K>) -> Three<'d,
     (zero, one, two)
 }
 
-// What was kept at a desk of values, and its end.
+// What was kept at a desk of all outcomes, and its end.
+pub(crate) fn outcomes_kept(mut kept: Kept<AllDesk<u64, u64>>) -> (List, Option<u64>) {
+    let end = kept.end();
+    let zero = told_some(kept.next());
+    let one = told_some(kept.next());
+    let two = told_some(kept.next());
+    let mut more = 0usize;
+    while let Some(_) = kept.next() {
+        more = more.saturating_add(1);
+    }
+    kept.finish();
+    ((zero, one, two, more), end)
+}
+
+// The same of a desk of values.
 fn values_kept(mut kept: Kept<ValuesDesk<u64, u64>>) -> (List, Option<u64>) {
     let end = kept.end();
     let zero = told_some(kept.next());

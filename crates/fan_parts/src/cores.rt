@@ -5,7 +5,7 @@ use crate::ask::NumberedAsk;
 use crate::part::Part;
 use crate::reply::{PlacedReply, ReplyCallback};
 use crate::run_name::RunName;
-use collect_ops::{AllDesk, Arrival};
+use collect_ops::OwnedDesk;
 use core_proxy::NoProxy;
 use core_word::{Consumer, Fire, Home, Key, Producer};
 use fan_base::ExecId;
@@ -48,11 +48,8 @@ pub type ReplyConsumer<'r, 'i, N> = Consumer<
     InnerConsumer<'i, N>,
 >;
 
-/// The desk at which the parts of a query are gathered.
-pub type PartDesk<'r, 'i, N> = AllDesk<Part<N>, End<'r, 'i, N>>;
-
-/// The right to bring one part to a query's desk.
-pub type PartArrival<'d, 'r, 'i, N> = Arrival<'d, PartDesk<'r, 'i, N>>;
+/// The desk at which the parts of a query are gathered, with all its arrivals.
+pub type PartDesk<'r, 'i, N> = OwnedDesk<Part<N>, End<'r, 'i, N>>;
 
 /// A part with its callback, of a task's core.
 pub type TaskFire<N> = Fire<Part<N>, PartCallback<N>>;
@@ -111,6 +108,13 @@ impl<'r, 'i, N: RunName> End<'r, 'i, N> {
             place,
             inner,
         }
+    }
+
+    /// The number of its query.
+    pub fn number(&self) -> u32
+        ensures { result ≡ self.now.ask.number }
+    {
+        self.ask.number()
     }
 
     /// The producer of the reply's core, the query, the place of its reply, and the inner key.

@@ -12,9 +12,9 @@
 pub use ask::NumberedAsk;
 pub use awaited::{forward_awaited, fulfil_awaited, look_until_left};
 pub use cores::{
-    End, InnerConsumer, InnerHome, InnerKey, InnerProducer, PartArrival, PartCallback, PartDesk,
-    ReplyConsumer, ReplyFire, ReplyHome, ReplyKey, ReplyProducer, TaskConsumer, TaskFire, TaskHome,
-    TaskKey, TaskProducer,
+    End, InnerConsumer, InnerHome, InnerKey, InnerProducer, PartCallback, PartDesk, ReplyConsumer,
+    ReplyFire, ReplyHome, ReplyKey, ReplyProducer, TaskConsumer, TaskFire, TaskHome, TaskKey,
+    TaskProducer,
 };
 pub use jobs::{GatherJob, PrintJob, ScoreCall, Scoring};
 pub use part::Part;

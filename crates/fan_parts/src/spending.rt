@@ -10,7 +10,7 @@ use crate::run_name::RunName;
 use core_word::Tally;
 use fan_base::Try;
 
-/// Spends a fire of a task's core: its part and its callback are dropped. The arrival that the part was for stays with its desk's base.
+/// Spends a fire of a task's core: its part and its callback are dropped. The part stays awaited with its query's base.
 pub fn spend_task<N: RunName>(fire: TaskFire<N>, t: &mut Tally)
     ensures { t.new ≡ with_fire t.old }
 {

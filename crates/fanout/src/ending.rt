@@ -31,12 +31,12 @@ use std::sync::Wait;
 /// Closes all bases, compares what was counted with what the run has to count, and tells how it ended. Where the numbers don't agree, or a
 /// stage notes want of memory, the outcome is want of memory. `opening` is what became of cores before the stages ran: one was begun for each
 /// answered query's reply, and none was handed over.
-pub(crate) fn put_together<'t, 'd, 'r: 'd, 'i: 'r, 'l, 'g, N: RunName, G, R: Wait>(
+pub(crate) fn put_together<'t, 'r: 't, 'i: 'r, 'l, 'g, N: RunName, G, R: Wait>(
     rt: &R,
     alloc: Global,
     plan: &RunPlan<'l, 'g, N, G>,
     back: Back<'t, N>,
-    gatherers: Vec<GatherSlot<'d, 'r, 'i, N>>,
+    gatherers: Vec<GatherSlot<'r, 'i, N>>,
     printed: PrintStage<PrintJob<N>>,
     end: SideEnd<'t, N>,
     opening: Tally,

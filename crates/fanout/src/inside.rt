@@ -45,8 +45,7 @@ use std::thread::Threads;
 pub(crate) fn run_over_cells<
     'c,
     't,
-    'd: 't,
-    'r: 'd,
+    'r: 't,
     'i: 'r,
     'l: 'i,
     'g,
@@ -60,7 +59,7 @@ pub(crate) fn run_over_cells<
     plan: &RunPlan<'l, 'g, N, G>,
     cells: &'c TaskCells<'t, N>,
     passes: Vec<TaskCellPass<'t, N>>,
-    tables: Vec<PartTable<'d, 'r, 'i, N>>,
+    tables: Vec<PartTable<'r, 'i, N>>,
     tally: Tally,
     sink: &mut K,
 ) -> FanEnd
@@ -87,8 +86,7 @@ pub(crate) fn run_over_cells<
 fn run_opened<
     'c,
     't,
-    'd: 't,
-    'r: 'd,
+    'r: 't,
     'i: 'r,
     'l: 'i,
     'g,
@@ -100,7 +98,7 @@ fn run_opened<
     rt: &R,
     alloc: Global,
     plan: &RunPlan<'l, 'g, N, G>,
-    setup: Setup<'c, 't, 'd, 'r, 'i, N>,
+    setup: Setup<'c, 't, 'r, 'i, N>,
     tally: Tally,
     sink: &mut K,
 ) -> FanEnd
@@ -156,9 +154,9 @@ fn run_opened<
 }
 
 /// What the stages come to.
-struct StagesEnd<'g, 'c, 't, 'd, 'r: 'd, 'i: 'r, N: RunName> {
+struct StagesEnd<'g, 'c, 't, 'r: 't, 'i: 'r, N: RunName> {
     printed: PrintStage<PrintJob<N>>,
-    gatherers: Vec<GatherSlot<'d, 'r, 'i, N>>,
+    gatherers: Vec<GatherSlot<'r, 'i, N>>,
     front: FrontRun<'g, 'c, 't, 'i, N>,
 }
 
@@ -167,8 +165,7 @@ fn run_stages<
     'g,
     'c,
     't,
-    'd: 't,
-    'r: 'd,
+    'r: 't,
     'i: 'r,
     N: RunName + Send + Sync + 'static,
     K: Sink + Send,
@@ -179,12 +176,12 @@ fn run_stages<
     alloc: Global,
     printer: EventBase<PrintJob<N>>,
     sink: &mut K,
-    gatherers: Vec<GatherSlot<'d, 'r, 'i, N>>,
+    gatherers: Vec<GatherSlot<'r, 'i, N>>,
     pool: Pool<ShardTask<'t, 'i, N>>,
     workers: Vec<TaskSlot<'c, 't, 'i, N>>,
     gate: &G,
     front: FrontRun<'g, 'c, 't, 'i, N>,
-) -> StagesEnd<'g, 'c, 't, 'd, 'r, 'i, N>
+) -> StagesEnd<'g, 'c, 't, 'r, 'i, N>
     requires printer { IsNewBase printer }
     requires gatherers { AllReady (IsReadyToGather N.asked) gatherers.items }
     requires workers { AllReady (IsReadyToWork pool.id) workers.items }

@@ -22,13 +22,11 @@ use core_cells::Cells;
 use core_word::Tally;
 use fan_base::{ExecId, Gate, Memory, Sink};
 use fan_model::laws::comings_in_order;
-use fan_parts::{InnerKey, PartDesk, ReplyHome, ReplyKey, RunName, RunShards, TaskHome};
+use fan_parts::{InnerKey, ReplyHome, ReplyKey, RunName, RunShards, TaskHome};
 use query_model::Lines;
-use run_desks::{DeskKeys, EmptySlots, OpenDesks, known_turns, let_go_keys, open_desks};
+use run_desks::{AwaitedQueries, DeskKeys, await_queries, known_turns};
 use run_ending::FanEnd;
-use run_homes::{
-    close_desks, close_reply_homes, close_task_homes, empty_slots, keys_of, new_homes,
-};
+use run_homes::{close_reply_homes, close_task_homes, keys_of, new_homes};
 use run_plan::laws::place_by_place;
 use run_plan::stop_place;
 use run_setup::{TaskCellPass, TaskCells};
@@ -159,7 +157,7 @@ fn over_reply_homes<
     }
 }
 
-/// Makes the slots of desks.
+/// Begins the cores of replies.
 fn over_reply_keys<
     'r,
     'i: 'r,
@@ -182,37 +180,21 @@ fn over_reply_keys<
     requires inners { tops_in (answered_in N.asked.lines) ≤ length inners.items }
     ensures { IsEndOf N.asked (shown (K.holds sink.old) (K.faults sink.old)) (shown (K.holds sink.new) (K.faults sink.new)) result }
 {
-    let made: Result<Vec<Option<PartDesk<'r, 'i, N>>>, Memory> = empty_slots(
+    let keys = DeskKeys {
+        replies,
+        inners,
+        lines: &*plan.lines,
+        shards: plan.shards.all().len() as u32,
+        bases: plan.knobs.bases,
         alloc,
-        plan.counted.answered as usize,
-    );
-    match made {
-        Ok(mut slots) => {
-            let keys = DeskKeys {
-                replies,
-                inners,
-                desks: EmptySlots::new(slots.as_mut_slice()),
-                lines: &*plan.lines,
-                shards: plan.shards.all().len() as u32,
-                bases: plan.knobs.bases,
-                alloc,
-                tally: Tally::new(),
-            };
-            let end = over_slots(rt, alloc, plan, keys, sink);
-            close_desks(slots);
-            end
-        }
-        Err(Memory) => {
-            let_go_keys(replies);
-            FanEnd::refused(alloc)
-        }
-    }
+        tally: Tally::new(),
+    };
+    over_keys(rt, alloc, plan, keys, sink)
 }
 
-/// Opens the desks.
-fn over_slots<
-    'd,
-    'r: 'd,
+/// Has all queries awaited.
+fn over_keys<
+    'r,
     'i: 'r,
     'l: 'i,
     'g,
@@ -224,7 +206,7 @@ fn over_slots<
     rt: &R,
     alloc: Global,
     plan: &RunPlan<'l, 'g, N, G>,
-    keys: DeskKeys<'d, 'r, 'i, N>,
+    keys: DeskKeys<'r, 'i, N>,
     sink: &mut K,
 ) -> FanEnd
     requires plan { IsPlanned N.asked plan.now.lines.now plan.now.turns.now plan.now.counted.now plan.now.stop plan.now.knobs }
@@ -236,16 +218,15 @@ fn over_slots<
     comings_in_order();
     known_turns::<N>();
     place_by_place();
-    match open_desks(rt, plan.turns, keys) {
-        Ok(desks) => over_desks(rt, alloc, plan, desks, sink),
+    match await_queries(rt, plan.turns, keys) {
+        Ok(queries) => over_queries(rt, alloc, plan, queries, sink),
         Err(Memory) => FanEnd::refused(alloc),
     }
 }
 
 /// Makes the homes of tasks.
-fn over_desks<
-    'd,
-    'r: 'd,
+fn over_queries<
+    'r,
     'i: 'r,
     'l: 'i,
     'g,
@@ -257,23 +238,23 @@ fn over_desks<
     rt: &R,
     alloc: Global,
     plan: &RunPlan<'l, 'g, N, G>,
-    desks: OpenDesks<'d, 'r, 'i, N>,
+    queries: AwaitedQueries<'r, 'i, N>,
     sink: &mut K,
 ) -> FanEnd
     requires plan { IsPlanned N.asked plan.now.lines.now plan.now.turns.now plan.now.counted.now plan.now.stop plan.now.knobs }
-    requires desks { AreTablesOf N.asked desks.tables.items }
-    requires dealt { AreAllDealt N.asked desks.tables.items }
-    requires opening { desks.tally.handed ≡ 0 }
-    requires begun { MakesMore (length (answered_in N.asked.lines)) desks.tally }
+    requires queries { AreTablesOf N.asked queries.tables.items }
+    requires dealt { AreAllDealt N.asked queries.tables.items }
+    requires opening { queries.tally.handed ≡ 0 }
+    requires begun { MakesMore (length (answered_in N.asked.lines)) queries.tally }
     ensures { IsEndOf N.asked (shown (K.holds sink.old) (K.faults sink.old)) (shown (K.holds sink.new) (K.faults sink.new)) result }
 {
     let made: MadeTaskHomes<N> = new_homes(alloc, plan.cells());
     match made {
         Ok(mut tasks) => {
             let end = match make_cells(rt, alloc, tasks.as_mut_slice(), plan.knobs.workers + 1) {
-                Ok(made) => over_cells(rt, alloc, plan, made, desks, sink),
+                Ok(made) => over_cells(rt, alloc, plan, made, queries, sink),
                 Err(Memory) => {
-                    desks.give_up();
+                    queries.give_up();
                     FanEnd::refused(alloc)
                 }
             };
@@ -282,7 +263,7 @@ fn over_desks<
         }
         Err(tasks) => {
             close_task_homes(tasks);
-            desks.give_up();
+            queries.give_up();
             FanEnd::refused(alloc)
         }
     }
@@ -315,8 +296,7 @@ fn make_cells<'t, N: RunName, R: Wait>(
 /// Runs over these cells, and lets them go.
 fn over_cells<
     't,
-    'd: 't,
-    'r: 'd,
+    'r: 't,
     'i: 'r,
     'l: 'i,
     'g,
@@ -329,21 +309,21 @@ fn over_cells<
     alloc: Global,
     plan: &RunPlan<'l, 'g, N, G>,
     made: MadeCells<'t, N>,
-    desks: OpenDesks<'d, 'r, 'i, N>,
+    queries: AwaitedQueries<'r, 'i, N>,
     sink: &mut K,
 ) -> FanEnd
     requires plan { IsPlanned N.asked plan.now.lines.now plan.now.turns.now plan.now.counted.now plan.now.stop plan.now.knobs }
     requires number { made.cells.size ≡ cells_of N.asked }
     requires passes { length made.passes.items ≡ plan.now.knobs.workers + 1 }
     requires all { AreAll made.cells made.passes.items }
-    requires desks { AreTablesOf N.asked desks.tables.items }
-    requires dealt { AreAllDealt N.asked desks.tables.items }
-    requires opening { desks.tally.handed ≡ 0 }
-    requires begun { MakesMore (length (answered_in N.asked.lines)) desks.tally }
+    requires queries { AreTablesOf N.asked queries.tables.items }
+    requires dealt { AreAllDealt N.asked queries.tables.items }
+    requires opening { queries.tally.handed ≡ 0 }
+    requires begun { MakesMore (length (answered_in N.asked.lines)) queries.tally }
     ensures { IsEndOf N.asked (shown (K.holds sink.old) (K.faults sink.old)) (shown (K.holds sink.new) (K.faults sink.new)) result }
 {
     let MadeCells { cells, passes } = made;
-    let OpenDesks { tables, tally } = desks;
+    let AwaitedQueries { tables, tally } = queries;
     let end = run_over_cells(rt, alloc, plan, &cells, passes, tables, tally, sink);
     let_go(cells);
     end

@@ -2,7 +2,7 @@
 //! order.
 //!
 //! ```text
-//! fan_run, fan_run_named: plan > inner homes > homes of replies > desks, opened > homes of tasks, cells > bases, pool; then, beside each other,
+//! fan_run, fan_run_named: plan > inner homes > homes of replies > queries, awaited > homes of tasks, cells > bases, pool; then, beside each other,
 //!   front        this thread:   adds the tasks, begins the pool's end; behind the workers it ends the pool, and runs what was handed back and what
 //!                               came behind the stop
 //!   workers      a thread each: the tasks; each part is posted to its query's base

@@ -1,11 +1,10 @@
 -- A query whose turn has come.
-use Rattle.std.specs.Prelude.{◌≡◌, ℕ, ◌≤◌, length, IfSome}
+use Rattle.std.specs.Prelude.{◌≡◌, ℕ, ◌≤◌, length}
 use Rattle.query_model.specs.Order.{Asked, docs_before}
 use Rattle.fan_model.specs.Comings.{Coming, ComesAt}
 use Rattle.fan_model.specs.Report.{Asking}
 use Rattle.fan_parts.specs.Facts.{IsAnswerAt, IsCountable}
-use Rattle.fan_parts.specs.Seen.{AskSeen, EndSeen}
-use Rattle.collect_ops.specs.Seen.{DeskId}
+use Rattle.fan_parts.specs.Seen.{AskSeen}
 
 -- at this place the work is begun of the query with this number, whose line has this place and stands behind so many documents
 pub record IsBegun (asked : Asking) (place number line documents : ℕ) : Type 0 where
@@ -28,8 +27,3 @@ pub record IsAskAt (asked : Asking) (place number documents : ℕ) (ask : AskSee
   pub number_is : ask.number ≡ number
   pub before_is : ask.before ≡ documents
   pub answer_at : IsAnswerAt asked place ask.number ask.asks ask.before
-
--- a desk for as many parts as there are shards, whose end is that of the query with this number
-pub record IsDeskOf (asked : Asking) (number : ℕ) (desk : DeskId EndSeen) : Type 0 where
-  pub size : desk.size ≡ asked.shards
-  pub end : IfSome desk.end (λ end. end.ask.number ≡ number)

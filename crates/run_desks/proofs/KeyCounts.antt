@@ -15,9 +15,6 @@ module _ {N : Type 0} where
   pub some_reply : (here behind : List Coming) (query : Asked) (keys : DeskKeys N) → begun_in here ≡ query ∷ begun_in behind → HasKeysFor here keys → 0 < length keys.replies.items
   some_reply here behind query keys begun has = let more : length (begun_in here) ≡ suc (length (begun_in behind)) = ap length begun in omega (arith, has.replies, more)
 
-  pub some_desk : (here behind : List Coming) (query : Asked) (keys : DeskKeys N) → begun_in here ≡ query ∷ begun_in behind → HasKeysFor here keys → 0 < keys.desks
-  some_desk here behind query keys begun has = let more : length (begun_in here) ≡ suc (length (begun_in behind)) = ap length begun in omega (arith, has.desks, more)
-
   pub some_inner : (here behind : List Coming) (query : Asked) (keys : DeskKeys N) → begun_in here ≡ query ∷ begun_in behind → HasKeysFor here keys
       → is_top query.query.ask ≡ true → 0 < length keys.inners.items
   some_inner here behind query keys begun has top =
@@ -26,16 +23,15 @@ module _ {N : Type 0} where
       let one : f (is_top query.query.ask) ≡ f true = ap f top in
       omega (arith, has.inners, more, one)
 
-  -- a key and a slot fewer, and for a query that ranks an inner key fewer
+  -- a key fewer, and for a query that ranks an inner key fewer
   pub keys_behind : (here behind : List Coming) (query : Asked) (old new : DeskKeys N) → begun_in here ≡ query ∷ begun_in behind → HasKeysFor here old
-      → length old.replies.items ≡ suc (length new.replies.items) → old.desks ≡ suc new.desks
+      → length old.replies.items ≡ suc (length new.replies.items)
       → length old.inners.items ≡ cond (is_top query.query.ask) 1 0 + length new.inners.items → HasKeysFor behind new
-  keys_behind here behind query old new begun has replies desks inners =
+  keys_behind here behind query old new begun has replies inners =
       let more : length (begun_in here) ≡ suc (length (begun_in behind)) = ap length begun in
       let tops : tops_in (begun_in here) ≡ cond (is_top query.query.ask) 1 0 + tops_in (begun_in behind) = tops_more (begun_in here) (begun_in behind) query begun in
       record {
         replies = omega (arith, has.replies, more, replies);
-        desks = omega (arith, has.desks, more, desks);
         inners = omega (arith, has.inners, tops, inners);
       }
 
@@ -45,6 +41,5 @@ module _ {N : Type 0} where
       let tops : tops_in (begun_in here) ≡ tops_in (begun_in behind) = ap tops_in begun in
       record {
         replies = omega (arith, has.replies, more);
-        desks = omega (arith, has.desks, more);
         inners = omega (arith, has.inners, tops);
       }

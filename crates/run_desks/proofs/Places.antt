@@ -1,4 +1,4 @@
--- The places of a table: no two parts of one base's queries have the same.
+-- The places of a table: no two of one base's queries have the same.
 use Rattle.std.proofs.Common.{◌≡◌, ◌≢◌, ◌⊎◌, ℕ, ◌+◌, ◌-◌, ◌*◌, ◌/◌, ◌%◌, ◌<◌, ◌≤◌, inl, inr, ap, ⊎_elim, arith}
 use Rattle.std.proofs.Math.Nat.{div-mul-le_self, mod-lt, mul_comm}
 use Rattle.std.proofs.lemmas.Bool.{cases_order}
@@ -12,12 +12,6 @@ row_less : (p q width : ℕ) → p < q → 0 < width → p * width + width ≤ q
 row_less p q width less some =
     let lt : p * width + (width - 1) < width * q = mul-add-lt p width (width - 1) q less (omega (arith, some)) in
     omega (arith, lt, mul_comm width q, some)
-
-pub same_row : (p q width a b : ℕ) → a < width → b < width → p * width + a ≡ q * width + b → p ≡ q
-same_row p q width a b first second same = ⊎_elim (λ e. e) (λ o. absurd (⊎_elim
-    (λ (less : p < q). omega (arith, row_less p q width less (omega (arith, first)), first, same))
-    (λ (more : q < p). omega (arith, row_less q p width more (omega (arith, first)), second, same))
-    o)) (cases_order p q)
 
 -- numbers from 1 on with one quotient, which lie on one base, are the same
 pub same_number : (bases n m : ℕ) → 0 < bases → 1 ≤ n → 1 ≤ m → (n - 1) % bases ≡ (m - 1) % bases → n / bases ≡ m / bases → n ≡ m
@@ -39,9 +33,6 @@ same_number bases n m some first second on_one in_one =
     o))
     (cases_order p q)
 
--- the part of a number up to the highest, and of a shard, has a place
-pub has_place : (number highest bases shard shards : ℕ) → 0 < bases → number ≤ highest → shard < shards → number / bases * shards + shard < (highest / bases + 1) * shards
-has_place number highest bases shard shards some few within =
-    let under : number / bases ≤ highest / bases = le-div (number / bases) highest bases some (omega (arith, div-mul-le_self number bases, few)) in
-    let lt : number / bases * shards + shard < shards * (highest / bases + 1) = mul-add-lt (number / bases) shards shard (highest / bases + 1) (omega (arith, under)) within in
-    omega (arith, lt, mul_comm shards (highest / bases + 1))
+-- a number up to the highest has a place
+pub has_place : (number highest bases : ℕ) → 0 < bases → number ≤ highest → number / bases < highest / bases + 1
+has_place number highest bases some few = omega (arith, le-div (number / bases) highest bases some (omega (arith, div-mul-le_self number bases, few)))

@@ -1,4 +1,4 @@
--- What the desks of a run are opened with.
+-- What the queries of a run are begun with.
 use Rattle.std.specs.Prelude.{◌≡◌, ◌≤◌, List, length}
 use Rattle.query_model.specs.Alike.{AreAlike}
 use Rattle.fan_model.specs.Answered.{tops_in}
@@ -16,8 +16,7 @@ module _ {N : Type 0} where
     pub bases : keys.bases ≡ asked.bases
     pub countable : IsCountable asked
 
-  -- a key and a slot for each query that is begun among what comes, and an inner key for each that ranks
+  -- a key for each query that is begun among what comes, and an inner key for each that ranks
   pub record HasKeysFor (comings : List Coming) (keys : DeskKeys N) : Type 0 where
     pub replies : length (begun_in comings) ≤ length keys.replies.items
-    pub desks : length (begun_in comings) ≤ keys.desks
     pub inners : tops_in (begun_in comings) ≤ length keys.inners.items

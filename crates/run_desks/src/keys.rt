@@ -1,19 +1,16 @@
 ghost use Rattle.std.specs.Prelude.{◌≡◌};
 
-use crate::slots::EmptySlots;
 use core_word::Tally;
-use fan_parts::{InnerKey, PartDesk, ReplyKey, RunName};
+use fan_parts::{InnerKey, ReplyKey, RunName};
 use query_model::Lines;
 use std::alloc::Global;
 
-/// What the desks of a run are opened with. It must be spent by `end`.
-pub struct DeskKeys<'d, 'r: 'd, 'i: 'r, N: RunName> {
+/// What the queries of a run are begun with. It must be spent by `end`.
+pub struct DeskKeys<'r, 'i: 'r, N: RunName> {
     /// A key for the reply's core of each query that is still to be begun.
     pub replies: Vec<ReplyKey<'r, 'i, N>>,
     /// A key for the inner core of each `top` among them.
     pub inners: Vec<InnerKey<'i, N>>,
-    /// A slot for the desk of each of them.
-    pub desks: EmptySlots<'d, PartDesk<'r, 'i, N>>,
     /// The lines of the input.
     pub lines: &'i Lines,
     /// How many shards there are.
@@ -25,15 +22,14 @@ pub struct DeskKeys<'d, 'r: 'd, 'i: 'r, N: RunName> {
     pub tally: Tally,
 }
 
-impl<'d, 'r: 'd, 'i: 'r, N: RunName + 'static> DeskKeys<'d, 'r, 'i, N> {
-    /// Lets keys and slots go that are left, and gives the tally.
+impl<'r, 'i: 'r, N: RunName + 'static> DeskKeys<'r, 'i, N> {
+    /// Lets keys go that are left, and gives the tally.
     pub fn end(self) -> Tally
         ensures { result ≡ self.entry.tally }
     {
         let DeskKeys {
             replies,
             inners: _,
-            desks,
             lines: _,
             shards: _,
             bases: _,
@@ -41,7 +37,6 @@ impl<'d, 'r: 'd, 'i: 'r, N: RunName + 'static> DeskKeys<'d, 'r, 'i, N> {
             tally,
         } = self;
         let_go_keys(replies);
-        desks.end();
         tally
     }
 }

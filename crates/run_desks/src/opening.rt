@@ -1,45 +1,35 @@
-ghost use Rattle.std.specs.Prelude.{◌≡◌, ◌+◌, ◌<◌, true, suc, cond, is_some, IfOk, OnOk, drop, length};
+ghost use Rattle.std.specs.Prelude.{◌≡◌, ◌+◌, ◌<◌, true, suc, cond, is_some, drop, length};
 ghost use Rattle.core_word.specs.Count.{raised};
 ghost use Rattle.fan_model.specs.Answered.{is_top};
 ghost use Rattle.fan_model.specs.Comings.{comings_of};
 ghost use Rattle.fan_parts.specs.Facts.{IsAnswerAt};
-ghost use Rattle.query_opening.specs.Turns.{IsBegun, IsDeskOf};
+ghost use Rattle.query_opening.specs.Turns.{IsBegun};
 ghost use Rattle.run_desks.specs.Keys.{AreKeysOf, HasKeysFor};
 
 use crate::keys::DeskKeys;
 use crate::laws::begun_query_is_asked;
-use collect_ops::Arrivals;
-use fan_base::{ExecId, Memory};
-use fan_parts::{End, InnerKey, NumberedAsk, PartDesk, RunName};
+use fan_base::ExecId;
+use fan_parts::{End, InnerKey, NumberedAsk, RunName};
 use query_model::Ask;
-use query_opening::{begin_reply, numbered_ask, open_desk};
+use query_opening::{begin_reply, numbered_ask};
 use run_plan::BegunQuery;
 use run_plan::laws::place_by_place;
 use std::sync::Wait;
 
-/// A query whose desk is open: what it asks, and all arrivals at the desk.
-pub(crate) struct OpenedQuery<'d, 'r, 'i, N: RunName> {
-    pub(crate) ask: NumberedAsk<'i, N>,
-    pub(crate) arrivals: Arrivals<'d, PartDesk<'r, 'i, N>>,
-}
-
-/// Begins the reply's core of a query whose turn has come, and opens its desk. Where there is no memory for the desk, the reply's core is
-/// freed, and no reply is posted.
-pub(crate) fn open_query<'d, 'r: 'd, 'i: 'r, N: RunName + 'static, R: Wait>(
+/// Begins the reply's core of a query whose turn has come, and gives the end of its desk.
+pub(crate) fn begin_desk<'r, 'i: 'r, N: RunName + 'static, R: Wait>(
     rt: &R,
-    keys: &mut DeskKeys<'d, 'r, 'i, N>,
+    keys: &mut DeskKeys<'r, 'i, N>,
     place: u32,
     query: BegunQuery,
-) -> Result<OpenedQuery<'d, 'r, 'i, N>, Memory>
+) -> End<'r, 'i, N>
     requires begun { IsBegun N.asked place query.number query.line query.documents }
     requires of { AreKeysOf N.asked keys.old }
     requires keys { HasKeysFor (drop place (comings_of N.asked.lines)) keys.old }
-    ensures number { IfOk result (λ opened. opened.ask.number ≡ query.number) }
-    ensures desk { IfOk result (λ opened. IsDeskOf N.asked query.number opened.arrivals.desk) }
-    ensures first { IfOk result (λ opened. opened.arrivals.next ≡ 0) }
+    ensures number { result.ask.number ≡ query.number }
     ensures of { AreKeysOf N.asked keys.new }
-    ensures tally { OnOk result (keys.new.tally ≡ record keys.old.tally { made = raised keys.old.tally.made }) }
-    ensures keys { OnOk result (HasKeysFor (drop (place + 1) (comings_of N.asked.lines)) keys.new) }
+    ensures tally { keys.new.tally ≡ record keys.old.tally { made = raised keys.old.tally.made } }
+    ensures keys { HasKeysFor (drop (place + 1) (comings_of N.asked.lines)) keys.new }
 {
     begun_query_is_asked::<N>();
     place_by_place();
@@ -51,16 +41,13 @@ pub(crate) fn open_query<'d, 'r: 'd, 'i: 'r, N: RunName + 'static, R: Wait>(
     let ask = numbered_ask(keys.lines, place, number, line, documents);
     // (for what it says of the ask)
     let _number = ask.number();
-    let end = begin_end(rt, keys, place, ask.again());
-    let slot = keys.desks.next();
-    let arrivals = open_desk(keys.alloc, slot, keys.shards, end, &mut keys.tally)?;
-    Ok(OpenedQuery { ask, arrivals })
+    begin_end(rt, keys, place, ask)
 }
 
 /// The end of a query's desk: its reply's core is begun, and it has an inner key exactly for `top`.
-fn begin_end<'d, 'r: 'd, 'i: 'r, N: RunName + 'static, R: Wait>(
+fn begin_end<'r, 'i: 'r, N: RunName + 'static, R: Wait>(
     rt: &R,
-    keys: &mut DeskKeys<'d, 'r, 'i, N>,
+    keys: &mut DeskKeys<'r, 'i, N>,
     place: u32,
     ask: NumberedAsk<'i, N>,
 ) -> End<'r, 'i, N>
@@ -72,7 +59,6 @@ fn begin_end<'d, 'r: 'd, 'i: 'r, N: RunName + 'static, R: Wait>(
     ensures number { result.reply.no ≡ place }
     ensures replies { length keys.old.replies.items ≡ suc (length keys.new.replies.items) }
     ensures inners { length keys.old.inners.items ≡ cond (is_top ask.entry.asks) 1 0 + length keys.new.inners.items }
-    ensures desks { keys.new.desks ≡ keys.old.desks }
     ensures of { AreKeysOf N.asked keys.new }
     ensures tally { keys.new.tally ≡ record keys.old.tally { made = raised keys.old.tally.made } }
 {

@@ -1,4 +1,4 @@
-ghost use Rattle.std.specs.Prelude.{◌≡◌, ◌+◌, ◌<◌, ◌≤◌, ℕ, IfOk, OnOk, length, drop};
+ghost use Rattle.std.specs.Prelude.{◌≡◌, ◌+◌, ◌<◌, ◌≤◌, ℕ, IfOk, length, drop};
 ghost use Rattle.core_word.specs.Count.{Counts};
 ghost use Rattle.fan_model.specs.Comings.{comings_of};
 ghost use Rattle.fan_model.specs.Notes.{base_of};
@@ -13,8 +13,8 @@ ghost use Rattle.run_desks.specs.Turns.{IsTurnAt};
 
 use crate::keys::DeskKeys;
 use crate::laws::{begun_once, begun_query_is_asked, known_turns};
-use crate::opening::{OpenedQuery, open_query};
-use crate::tables::{await_parts, close_tables, new_tables};
+use crate::opening::begin_desk;
+use crate::tables::{close_tables, new_tables};
 use core_word::Tally;
 use fan_base::Memory;
 use fan_model::laws::each_query_has_a_reply;
@@ -24,34 +24,35 @@ use run_plan::laws::{comings_are_queries, place_by_place};
 use run_plan::{BegunQuery, Turn};
 use std::sync::Wait;
 
-/// The open desks of a run: the arrivals at them, by gathering base, and what became of the replies' cores. The tables must be spent.
-pub struct OpenDesks<'d, 'r: 'd, 'i: 'r, N: RunName> {
-    pub tables: Vec<PartTable<'d, 'r, 'i, N>>,
+/// The queries of a run, all of whose parts are awaited: a table for each gathering base, and what became of the replies' cores. The tables
+/// must be spent.
+pub struct AwaitedQueries<'r, 'i: 'r, N: RunName> {
+    pub tables: Vec<PartTable<'r, 'i, N>>,
     pub tally: Tally,
 }
 
-impl<'d, 'r: 'd, 'i: 'r, N: RunName> OpenDesks<'d, 'r, 'i, N> {
-    /// Spends all arrivals: want of memory arrives at each desk.
+impl<'r, 'i: 'r, N: RunName> AwaitedQueries<'r, 'i, N> {
+    /// Gives them up: the replies' cores get want of memory.
     pub fn give_up(self) {
-        let OpenDesks { tables, tally: _ } = self;
+        let AwaitedQueries { tables, tally: _ } = self;
         close_tables(tables);
     }
 }
 
-/// Opens the desks of all queries that are begun, in the order of answers, and begins the cores of their replies. The arrivals at them stand in
-/// their bases' tables. Where memory runs out, all of them are given up: no reply is posted.
-pub fn open_desks<'d, 'r: 'd, 'i: 'r, N: RunName + 'static, R: Wait>(
+/// Begins the cores of the replies of all queries that are begun, in the order of answers, and has their parts awaited in the tables of their
+/// bases. Where there is no memory for the tables, no reply is posted.
+pub fn await_queries<'r, 'i: 'r, N: RunName + 'static, R: Wait>(
     rt: &R,
     turns: &[Turn],
-    keys: DeskKeys<'d, 'r, 'i, N>,
-) -> Result<OpenDesks<'d, 'r, 'i, N>, Memory>
+    keys: DeskKeys<'r, 'i, N>,
+) -> Result<AwaitedQueries<'r, 'i, N>, Memory>
     requires turns { AreTurnsOf N.asked.lines turns.now }
     requires input { IsInput N.asked.lines }
     requires of { AreKeysOf N.asked keys }
     requires keys { HasKeysFor (comings_of N.asked.lines) keys }
-    ensures tables { IfOk result (λ opened. AreTablesOf N.asked opened.tables.items) }
-    ensures dealt { IfOk result (λ opened. AreDealt N.asked (length turns.now) opened.tables.items) }
-    ensures counted { IfOk result (λ opened. HasMade N.asked 0 (length turns.now) keys.entry.tally opened.tally) }
+    ensures tables { IfOk result (λ awaited. AreTablesOf N.asked awaited.tables.items) }
+    ensures dealt { IfOk result (λ awaited. AreDealt N.asked (length turns.now) awaited.tables.items) }
+    ensures counted { IfOk result (λ awaited. HasMade N.asked 0 (length turns.now) keys.entry.tally awaited.tally) }
 {
     known_turns::<N>();
     let mut keys = keys;
@@ -59,24 +60,18 @@ pub fn open_desks<'d, 'r: 'd, 'i: 'r, N: RunName + 'static, R: Wait>(
         let _tally = keys.end();
         return Err(Memory);
     };
-    let opened = open_all(rt, turns, &mut keys, &mut tables);
+    await_all(rt, turns, &mut keys, &mut tables);
     let tally = keys.end();
-    match opened {
-        Ok(()) => Ok(OpenDesks { tables, tally }),
-        Err(Memory) => {
-            close_tables(tables);
-            Err(Memory)
-        }
-    }
+    Ok(AwaitedQueries { tables, tally })
 }
 
-/// Opens the desks of all queries that are begun. It ends at the first that finds no memory.
-fn open_all<'d, 'r: 'd, 'i: 'r, N: RunName + 'static, R: Wait>(
+/// All queries that are begun.
+fn await_all<'r, 'i: 'r, N: RunName + 'static, R: Wait>(
     rt: &R,
     turns: &[Turn],
-    keys: &mut DeskKeys<'d, 'r, 'i, N>,
-    tables: &mut Vec<PartTable<'d, 'r, 'i, N>>,
-) -> Result<(), Memory>
+    keys: &mut DeskKeys<'r, 'i, N>,
+    tables: &mut Vec<PartTable<'r, 'i, N>>,
+)
     requires turns { AreTurnsOf N.asked.lines turns.now }
     requires input { IsInput N.asked.lines }
     requires of { AreKeysOf N.asked keys.old }
@@ -84,25 +79,24 @@ fn open_all<'d, 'r: 'd, 'i: 'r, N: RunName + 'static, R: Wait>(
     requires tables { AreTablesOf N.asked tables.old.items }
     requires dealt { AreDealt N.asked 0 tables.old.items }
     ensures tables { AreTablesOf N.asked tables.new.items }
-    ensures dealt { OnOk result (AreDealt N.asked (length turns.now) tables.new.items) }
-    ensures counted { OnOk result (HasMade N.asked 0 (length turns.now) keys.old.tally keys.new.tally) }
+    ensures dealt { AreDealt N.asked (length turns.now) tables.new.items }
+    ensures counted { HasMade N.asked 0 (length turns.now) keys.old.tally keys.new.tally }
 {
     known_turns::<N>();
     place_by_place();
     for place in 0..turns.len() {
-        open_turn(rt, turns[place], place as u32, keys, tables)?;
+        await_turn(rt, turns[place], place as u32, keys, tables);
     }
-    Ok(())
 }
 
-/// One turn: the desk of its query is opened, if it begins one.
-fn open_turn<'d, 'r: 'd, 'i: 'r, N: RunName + 'static, R: Wait>(
+/// One turn: its query is awaited, if it begins one.
+fn await_turn<'r, 'i: 'r, N: RunName + 'static, R: Wait>(
     rt: &R,
     turn: Turn,
     place: u32,
-    keys: &mut DeskKeys<'d, 'r, 'i, N>,
-    tables: &mut Vec<PartTable<'d, 'r, 'i, N>>,
-) -> Result<(), Memory>
+    keys: &mut DeskKeys<'r, 'i, N>,
+    tables: &mut Vec<PartTable<'r, 'i, N>>,
+)
     requires turn { IsTurnAt N.asked place turn }
     requires of { AreKeysOf N.asked keys.old }
     requires keys { HasKeysFor (drop place (comings_of N.asked.lines)) keys.old }
@@ -110,29 +104,28 @@ fn open_turn<'d, 'r: 'd, 'i: 'r, N: RunName + 'static, R: Wait>(
     requires dealt { AreDealt N.asked place tables.old.items }
     ensures of { AreKeysOf N.asked keys.new }
     ensures tables { AreTablesOf N.asked tables.new.items }
-    ensures dealt { OnOk result (AreDealt N.asked (place + 1) tables.new.items) }
+    ensures dealt { AreDealt N.asked (place + 1) tables.new.items }
     ensures counted { (start : ℕ) (first : Counts) → start ≤ place → HasMade N.asked start place first keys.old.tally →
-        OnOk result (HasMade N.asked start (place + 1) first keys.new.tally) }
-    ensures keys { OnOk result (HasKeysFor (drop (place + 1) (comings_of N.asked.lines)) keys.new) }
+        HasMade N.asked start (place + 1) first keys.new.tally }
+    ensures keys { HasKeysFor (drop (place + 1) (comings_of N.asked.lines)) keys.new }
 {
     place_by_place();
     match turn {
-        Turn::Begin(query) => begin_query(rt, query, place, keys, tables),
+        Turn::Begin(query) => await_query(rt, query, place, keys, tables),
         Turn::Cancel(number) => {
             let _number = number;
-            Ok(())
         }
     }
 }
 
-/// Opens the desk of a query that is begun, and puts its arrivals into the table of its base, each at its place.
-fn begin_query<'d, 'r: 'd, 'i: 'r, N: RunName + 'static, R: Wait>(
+/// Begins the reply's core of a query, and puts the end of its desk into the table of its base.
+fn await_query<'r, 'i: 'r, N: RunName + 'static, R: Wait>(
     rt: &R,
     query: BegunQuery,
     place: u32,
-    keys: &mut DeskKeys<'d, 'r, 'i, N>,
-    tables: &mut Vec<PartTable<'d, 'r, 'i, N>>,
-) -> Result<(), Memory>
+    keys: &mut DeskKeys<'r, 'i, N>,
+    tables: &mut Vec<PartTable<'r, 'i, N>>,
+)
     requires begun { IsBegun N.asked place query.number query.line query.documents }
     requires of { AreKeysOf N.asked keys.old }
     requires keys { HasKeysFor (drop place (comings_of N.asked.lines)) keys.old }
@@ -140,21 +133,19 @@ fn begin_query<'d, 'r: 'd, 'i: 'r, N: RunName + 'static, R: Wait>(
     requires dealt { AreDealt N.asked place tables.old.items }
     ensures of { AreKeysOf N.asked keys.new }
     ensures tables { AreTablesOf N.asked tables.new.items }
-    ensures dealt { OnOk result (AreDealt N.asked (place + 1) tables.new.items) }
+    ensures dealt { AreDealt N.asked (place + 1) tables.new.items }
     ensures counted { (start : ℕ) (first : Counts) → start ≤ place → HasMade N.asked start place first keys.old.tally →
-        OnOk result (HasMade N.asked start (place + 1) first keys.new.tally) }
-    ensures keys { OnOk result (HasKeysFor (drop (place + 1) (comings_of N.asked.lines)) keys.new) }
+        HasMade N.asked start (place + 1) first keys.new.tally }
+    ensures keys { HasKeysFor (drop (place + 1) (comings_of N.asked.lines)) keys.new }
 {
     begun_query_is_asked::<N>();
     begun_once();
     comings_are_queries();
     each_query_has_a_reply();
     place_by_place();
-    let OpenedQuery { ask, arrivals } = open_query(rt, keys, place, query)?;
-    let number = ask.number();
-    let base = base_place(number, keys.bases);
-    await_parts(&mut tables[base], number, keys.shards, arrivals);
-    Ok(())
+    let end = begin_desk(rt, keys, place, query);
+    let base = base_place(end.number(), keys.bases);
+    tables[base].put(end);
 }
 
 /// The place of the base on which the parts of a query are gathered.

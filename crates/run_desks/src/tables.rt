@@ -1,26 +1,23 @@
-//! The tables of the gathering bases, and the arrivals in them.
+//! The tables of the gathering bases.
 ghost use Rattle.std.specs.Prelude.{◌≡◌, ◌≤◌, IfOk, length};
 ghost use Rattle.fan_model.specs.Comings.{comings_of};
-ghost use Rattle.query_opening.specs.Turns.{IsDeskOf};
 ghost use Rattle.run_gathering.specs.Dealt.{AreDealt};
-ghost use Rattle.run_desks.specs.Tables.{HasRoomFor, with_arrivals};
 
-use collect_ops::Arrivals;
 use fan_base::Memory;
-use fan_parts::{PartDesk, RunName};
-use run_gathering::{AwaitedPart, PartTable};
+use fan_parts::RunName;
+use run_gathering::PartTable;
 use std::alloc::Global;
 
 /// A table for each of the run's gathering bases, for queries with a number up to the highest, which is how many come. Nothing stands in
 /// them yet. Where memory runs out, those that were made are closed.
-pub(crate) fn new_tables<'d, 'r: 'd, 'i: 'r, N: RunName>(
+pub(crate) fn new_tables<'r, 'i: 'r, N: RunName>(
     alloc: Global,
     bases: u32,
     shards: u32,
     highest: u32,
-) -> Result<Vec<PartTable<'d, 'r, 'i, N>>, Memory>
+) -> Result<Vec<PartTable<'r, 'i, N>>, Memory>
     requires bases { 1 ≤ bases }
-    requires shards { shards ≤ 64 }
+    requires shards { (1 ≤ shards) × (shards ≤ 64) }
     requires highest { highest ≤ 50000 }
     requires of_bases { bases ≡ N.asked.bases }
     requires of_shards { shards ≡ N.asked.shards }
@@ -43,34 +40,10 @@ pub(crate) fn new_tables<'d, 'r: 'd, 'i: 'r, N: RunName>(
     Ok(tables)
 }
 
-/// Spends all arrivals in these tables.
-pub(crate) fn close_tables<'d, 'r: 'd, 'i: 'r, N: RunName>(
-    mut tables: Vec<PartTable<'d, 'r, 'i, N>>,
-) {
+/// Closes these tables: what they await is given up.
+pub(crate) fn close_tables<'r, 'i: 'r, N: RunName>(mut tables: Vec<PartTable<'r, 'i, N>>) {
     'tables: while let Some(table) = tables.pop() {
         table.close();
     }
     tables.destroy_empty();
-}
-
-/// Puts all arrivals at the desk of a query into the table of its base, each at its place, at which nothing stands.
-pub(crate) fn await_parts<'d, 'r: 'd, 'i: 'r, N: RunName>(
-    table: &mut PartTable<'d, 'r, 'i, N>,
-    number: u32,
-    shards: u32,
-    arrivals: Arrivals<'d, PartDesk<'r, 'i, N>>,
-)
-    requires shards { shards ≡ N.asked.shards }
-    requires desk { IsDeskOf N.asked number arrivals.desk }
-    requires first { arrivals.next ≡ 0 }
-    requires room { HasRoomFor number shards table.old }
-    ensures { table.new ≡ with_arrivals arrivals.entry.desk number shards table.old }
-{
-    let mut arrivals = arrivals;
-    for shard in 0..shards {
-        let Some(arrival) = arrivals.next() else {
-            unreachable!()
-        };
-        table.put(AwaitedPart::new(arrival, number, shard));
-    }
 }

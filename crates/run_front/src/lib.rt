@@ -7,7 +7,7 @@
 //!   Cancel: its reply is posted to the printer's base
 //! ```
 //!
-//! The turns are those of the run ([`run_plan`]), whose desks are open ([`run_desks`]). The first turn that finds no memory ends the call; nothing
+//! The turns are those of the run ([`run_plan`]), whose parts are awaited ([`run_desks`]). The first turn that finds no memory ends the call; nothing
 //! further is begun then.
 #![tactic(auto)]
 

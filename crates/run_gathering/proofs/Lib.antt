@@ -5,3 +5,4 @@ mod Looped
 mod Waiting
 pub mod Crossings
 pub mod Living
+mod Rows

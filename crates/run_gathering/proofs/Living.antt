@@ -2,7 +2,7 @@
 use denote.RattleType.{RattleType}
 use denote.Builtin as builtin
 use denote.Ref.{NamedLft}
-use denote.Param.Lives.{in_struct, out_left, out_right}
+use denote.Param.Lives.{in_enum, in_struct, out_left, out_right}
 use denote.Struct.Declared.{fields}
 use contract.BorrowLft.{◌⊑◌, ⊑_meet, ⊑_static}
 use borrow.Author.Rules.{in_lives, rules}
@@ -15,8 +15,7 @@ use Rattle.fan_base.specs.contracts.outcome.Try as try
 use Rattle.core_word.specs.contracts.producer.Producer as producer
 use Rattle.core_word.specs.contracts.consumer.Consumer as consumer
 use Rattle.core_word.specs.contracts.home.Key as key
-use Rattle.collect_ops.specs.contracts.arrival.Arrival as arrival
-use Rattle.collect_ops.specs.contracts.desk.Desk as desk
+use Rattle.collect_ops.specs.contracts.owned.OwnedDesk as owned
 use Rattle.notify_queue.specs.contracts.sender.Sender as sender
 use Rattle.notify_queue.specs.contracts.sender.Sender.TheInside as of_sender
 use Rattle.notify_queue.specs.contracts.sender.SenderEnd.TheInside as of_sender_end
@@ -31,8 +30,7 @@ use Rattle.fan_parts.specs.contracts.jobs.Scoring as scoring
 use Rattle.fan_parts.specs.contracts.jobs.Scoring.TheInside as of_scoring
 use Rattle.fan_parts.specs.contracts.jobs.PrintJob as print_job
 use Rattle.fan_parts.specs.contracts.shards.RunShards as shards
-use Rattle.run_gathering.specs.contracts.table.AwaitedPart as awaited
-use Rattle.run_gathering.specs.contracts.table.AwaitedPart.TheInside as of_awaited
+use Rattle.run_gathering.specs.contracts.table.Awaited as awaited
 use Rattle.run_gathering.specs.contracts.table.PartTable as table
 use Rattle.run_gathering.specs.contracts.table.PartTable.TheInside as of_table
 use Rattle.run_gathering.specs.contracts.world.Gathering as gathering
@@ -55,8 +53,8 @@ Seat-lives κ s d h0 h1 = simp (in_lives, h0, h1) (search rules)
 Try-lives : (κ t : Lft) → κ ⊑ t → κ ⊑ (try.the_row (row_of t)).lives
 Try-lives κ t h0 = simp (in_lives, h0) (search rules)
 
-Desk-lives : (κ x e k : Lft) → κ ⊑ x → κ ⊑ e → κ ⊑ k → κ ⊑ (desk.the_row (row_of x) (row_of e) (row_of k)).lives
-Desk-lives κ x e k h0 h1 h2 = simp (in_lives, h0, h1, h2) (search rules)
+Desk-lives : (κ t e : Lft) → κ ⊑ t → κ ⊑ e → κ ⊑ (owned.the_row (row_of t) (row_of e)).lives
+Desk-lives κ t e h0 h1 = simp (in_lives, h0, h1) (search rules)
 
 Producer-lives : (κ h t c p : Lft) → κ ⊑ h → κ ⊑ t → κ ⊑ c → κ ⊑ p → κ ⊑ (producer.the_row (named_at h) (row_of t) (row_of c) (row_of p)).lives
 Producer-lives κ h t c p h0 h1 h2 h3 = simp (in_lives, h0, h1, h2, h3) (search rules)
@@ -66,9 +64,6 @@ Consumer-lives κ h t c p h0 h1 h2 h3 = simp (in_lives, h0, h1, h2, h3) (search 
 
 Key-lives : (κ h t c p : Lft) → κ ⊑ h → κ ⊑ t → κ ⊑ c → κ ⊑ p → κ ⊑ (key.the_row (named_at h) (row_of t) (row_of c) (row_of p)).lives
 Key-lives κ h t c p h0 h1 h2 h3 = simp (in_lives, h0, h1, h2, h3) (search rules)
-
-Arrival-lives : (κ d k x e : Lft) → κ ⊑ d → κ ⊑ k → κ ⊑ x → κ ⊑ e → κ ⊑ (arrival.the_row (named_at d) (row_of k) (row_of x) (row_of e)).lives
-Arrival-lives κ d k x e h0 h1 h2 h3 = simp (in_lives, h0, h1, h2, h3) (search rules)
 
 -- a vector, a deque, and an Arc, of the global allocator
 Held-lives : (κ t : Lft) → κ ⊑ t → κ ⊑ (t ++ []) ++ []
@@ -150,24 +145,22 @@ module _ (κ : Lft) (N : RattleType) (g : Ghosts N.Denot) (n : κ ⊑ N.lives) w
   PrintJob-lives : κ ⊑ (print_job.the_row N g).lives
   PrintJob-lives = simp (in_lives, n) (search rules)
 
-  AwaitedPart-lives : (d r i : NamedLft) → κ ⊑ d.lft → κ ⊑ r.lft → κ ⊑ i.lft → κ ⊑ (awaited.the_row d r i N g).lives
-  AwaitedPart-lives d r i at_d at_r at_i =
-      let outcome = Try-lives κ _ Part-lives in
+  Awaited-lives : (r i : NamedLft) → κ ⊑ r.lft → κ ⊑ i.lft → κ ⊑ (awaited.the_row r i N g).lives
+  Awaited-lives r i at_r at_i =
       let at_end = End-lives r i at_r at_i in
-      in_struct κ (of_awaited.the_type d r i N g) (n, tt)
-      (Arrival-lives κ _ _ _ _ at_d (Desk-lives κ _ _ _ outcome at_end (⊑_static κ)) outcome at_end, (⊑_static κ, (⊑_static κ, tt)))
+      in_enum κ (awaited.the_type r i N g) (n, tt) (tt, ((at_end, tt), ((⊑_static κ, (Desk-lives κ _ _ Part-lives at_end, tt)), tt)))
 
-  pub PartTable-lives : (d r i : NamedLft) → κ ⊑ d.lft → κ ⊑ r.lft → κ ⊑ i.lft → κ ⊑ (table.the_row d r i N g).lives
-  PartTable-lives d r i at_d at_r at_i =
-      in_struct κ (of_table.the_type d r i N g) (n, tt)
-      (Held-lives κ _ (Option-lives κ _ (AwaitedPart-lives d r i at_d at_r at_i)), (⊑_static κ, (⊑_static κ, tt)))
+  pub PartTable-lives : (r i : NamedLft) → κ ⊑ r.lft → κ ⊑ i.lft → κ ⊑ (table.the_row r i N g).lives
+  PartTable-lives r i at_r at_i =
+      in_struct κ (of_table.the_type r i N g) (n, tt)
+      (Held-lives κ _ (Awaited-lives r i at_r at_i), (⊑_static κ, (⊑_static κ, tt)))
 
-  pub Gathering-lives : (d r i : NamedLft) → κ ⊑ d.lft → κ ⊑ r.lft → κ ⊑ i.lft → κ ⊑ (gathering.the_row d r i N g).lives
-  Gathering-lives d r i at_d at_r at_i =
-      in_struct κ (of_gathering.the_type d r i N g) (n, tt) (
+  pub Gathering-lives : (r i : NamedLft) → κ ⊑ r.lft → κ ⊑ i.lft → κ ⊑ (gathering.the_row r i N g).lives
+  Gathering-lives r i at_r at_i =
+      in_struct κ (of_gathering.the_type r i N g) (n, tt) (
         Shards-lives i at_i,
         (
-          PartTable-lives d r i at_d at_r at_i,
+          PartTable-lives r i at_r at_i,
           (Held-lives κ _ (Scoring-lives i at_i), (Poster-lives κ (print_job.the_row N g) PrintJob-lives, (⊑_static κ, (⊑_static κ, (⊑_static κ, tt))))),
         ),
       )

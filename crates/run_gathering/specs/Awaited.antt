@@ -1,54 +1,66 @@
--- The arrivals that the parts of a base's queries are for.
-use Rattle.std.specs.Prelude.{◌≡◌, ℕ, ◌+◌, ◌*◌, ◌/◌, List, Option, Some, None, IfSome, slice_index_or, slice_set}
-use Rattle.collect_ops.specs.Seen.{ArrivalSeen}
-use Rattle.fan_model.specs.Report.{Asking}
+-- What a gathering base awaits of its queries.
+use Rattle.std.specs.Prelude.{◌≡◌, ℕ, ◌/◌, true, false, Bool, List, Option, Some, None, length, map, replicate, slice_index_or, slice_set}
 use Rattle.fan_parts.specs.Seen.{EndSeen}
+use Rattle.run_gathering.specs.declared.table.Awaited.{Awaited}
+use Rattle.run_gathering.specs.declared.table.Awaited.TheVariants as awaited
 
--- an arrival, and of which query and shard the part is that it is for
+-- of which query parts are awaited, what its desk's end is, and of each shard whether its part is awaited
 pub record AwaitedSeen : Type 0 where
-  pub arrival : ArrivalSeen EndSeen
   pub number : ℕ
-  pub shard : ℕ
+  pub end : Option EndSeen
+  pub shards : List Bool
 
--- The arrival for the part of this query and this shard: it is of this index, at a desk for as many parts as there are shards, whose end is this query's.
-pub record IsAwaited (asked : Asking) (awaited : AwaitedSeen) : Type 0 where
-  pub index : awaited.arrival.index ≡ awaited.shard
-  pub size : awaited.arrival.desk.size ≡ asked.shards
-  pub end : IfSome awaited.arrival.desk.end (λ end. end.ask.number ≡ awaited.number)
-
--- it is for the part of this query and this shard
-abbrev pub IsFor : ℕ → ℕ → AwaitedSeen → Type 0
-IsFor number shard awaited = (awaited.number ≡ number) × (awaited.shard ≡ shard)
-
--- what is held at each place, and over how many bases and shards the places go
+-- what is awaited of the query at each place, and over how many bases and shards the places go
 pub record TableSeen : Type 0 where
-  pub parts : List (Option AwaitedSeen)
+  pub queries : List (Option AwaitedSeen)
   pub bases : ℕ
   pub shards : ℕ
 
--- The place of the part of a query and a shard: the queries of one base differ in the quotient of their numbers by the number of bases.
-abbrev pub place_of : TableSeen → ℕ → ℕ → ℕ
-place_of table number shard = number / table.bases * table.shards + shard
+-- the part of this query and this shard is awaited
+abbrev pub Awaits : ℕ → ℕ → AwaitedSeen → Type 0
+Awaits number shard awaited = (awaited.number ≡ number) × (slice_index_or awaited.shards shard false ≡ true)
 
--- what stands at a place: None where nothing does, or where there is no such place
+-- The place of a query: those of one base differ in the quotient of their numbers by the number of bases.
+abbrev pub place_of : TableSeen → ℕ → ℕ
+place_of table number = number / table.bases
+
+-- what is awaited at a place: None where nothing is, or where there is no such place
 abbrev pub awaited_at : TableSeen → ℕ → Option AwaitedSeen
-awaited_at table place = slice_index_or table.parts place None
+awaited_at table place = slice_index_or table.queries place None
 
--- the table with this at a place; the same table, where it has no such place
+-- the table with this awaited at a place; the same table, where it has no such place
 abbrev pub with_at : ℕ → Option AwaitedSeen → TableSeen → TableSeen
-with_at place part table = record table { parts = slice_set table.parts place part }
+with_at place awaited table = record table { queries = slice_set table.queries place awaited }
 
--- the table with this arrival at its place
-abbrev pub with_part : AwaitedSeen → TableSeen → TableSeen
-with_part part table = with_at (place_of table part.number part.shard) (Some part) table
+-- all parts of the query with this end
+abbrev pub all_awaited : ℕ → EndSeen → AwaitedSeen
+all_awaited shards end = record { number = end.ask.number; end = Some end; shards = replicate shards true }
 
--- For the part of this query and this shard exactly what stood at its place was taken, and since then nothing stands there.
-pub record IsTaken (number shard : ℕ) (old : TableSeen) (part : AwaitedSeen) (new : TableSeen) : Type 0 where
-  pub stood : awaited_at old (place_of old number shard) ≡ Some part
-  pub fits : IsFor number shard part
-  pub left : new ≡ with_at (place_of old number shard) None old
+-- the same but for this shard
+abbrev pub without_shard : ℕ → AwaitedSeen → AwaitedSeen
+without_shard shard awaited = record awaited { shards = slice_set awaited.shards shard false }
 
--- At the place of the part of this query and this shard stands nothing that is for it, and the table stays as it was.
-pub record AwaitsNone (number shard : ℕ) (old new : TableSeen) : Type 0 where
-  pub lacks : IfSome (awaited_at old (place_of old number shard)) (λ part. IsFor number shard part → ⊥)
-  pub same : new ≡ old
+-- What is awaited of a query: it has its end, and each shard's part is awaited or has come.
+pub record IsAwaited (shards : ℕ) (awaited : AwaitedSeen) : Type 0 where
+  pub as_many : length awaited.shards ≡ shards
+  pub end : EndSeen
+  pub end_is : awaited.end ≡ Some end
+  pub number_is : end.ask.number ≡ awaited.number
+
+module _ {N : Type 0} where
+  abbrev pub awaited_in : ℕ → Awaited N → Option AwaitedSeen
+  awaited_in shards awaited.Nothing = None
+  awaited_in shards (awaited.All end) = Some (all_awaited shards end)
+  awaited_in shards (awaited.Rest number desk) = Some (record { number = number; end = desk.desk.end; shards = desk.awaited })
+
+  -- a desk for as many parts as there are shards, whose end is this query's
+  abbrev pub IsRow : ℕ → Awaited N → Type 0
+  IsRow shards awaited.Nothing = Unit {0}
+  IsRow shards (awaited.All end) = Unit {0}
+  IsRow shards (awaited.Rest number desk) = (desk.desk.size ≡ shards) × IsAwaited shards (record { number = number; end = desk.desk.end; shards = desk.awaited })
+
+  -- something is awaited of the query with this number
+  abbrev pub IsOfQuery : ℕ → Awaited N → Type 0
+  IsOfQuery number awaited.Nothing = ⊥
+  IsOfQuery number (awaited.All end) = end.ask.number ≡ number
+  IsOfQuery number (awaited.Rest of desk) = of ≡ number

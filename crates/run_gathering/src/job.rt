@@ -7,14 +7,13 @@ ghost use Rattle.event_base.specs.Looping.{count_of_callbacks};
 ghost use Rattle.fan_parts.specs.declared.jobs.PrintJob.{PrintJob};
 ghost use Rattle.fan_parts.specs.Facts.{IsAnswerAt, IsRankingOf};
 ghost use Rattle.fan_parts.specs.Heads.{gather_head};
-ghost use Rattle.run_gathering.specs.Awaited.{AwaitsNone};
 ghost use Rattle.run_gathering.specs.Bringing.{HasAllParts, IsBrought};
 ghost use Rattle.run_gathering.specs.Gathering.{GathersBy, HoldsFor, IsValue, Schedules, KeepsWaiting};
 
 use crate::merge::{Gathered, gather_parts};
-use crate::table::PartTable;
+use crate::table::{PartBrought, PartTable};
 use crate::world::Gathering;
-use collect_ops::{AllArrived, Arrived, Listed};
+use collect_ops::Listed;
 use core_word::Tally;
 use event_base::{Agenda, LoopJob, calls_in_a_row};
 use fan_base::{Fault, Mark, Refused, Try};
@@ -23,14 +22,12 @@ use fan_parts::{
     Scoring, TaskFire, forward_awaited, spend_gather_job, spend_scoring,
 };
 use query_parts::Ranking;
-use std::alloc::AllocFailed;
+use std::alloc::{AllocFailed, Global};
 use std::sync::Wait;
 
 type GatherAgenda<N> = Agenda<GatherJob<N>>;
 
-type PartArrived<'d, 'r, 'i, N> = AllArrived<'d, Part<N>, End<'r, 'i, N>>;
-
-impl<'d, 'r: 'd, 'i: 'r, N: RunName> LoopJob<Gathering<'d, 'r, 'i, N>> for GatherJob<N> {
+impl<'r, 'i: 'r, N: RunName> LoopJob<Gathering<'r, 'i, N>> for GatherJob<N> {
     ghost use Rattle.run_gathering.specs.Gathering.{Runs};
 
     ghost runs = { Runs };
@@ -39,7 +36,7 @@ impl<'d, 'r: 'd, 'i: 'r, N: RunName> LoopJob<Gathering<'d, 'r, 'i, N>> for Gathe
     fn run<R: Wait>(
         self,
         rt: &R,
-        world: &mut Gathering<'d, 'r, 'i, N>,
+        world: &mut Gathering<'r, 'i, N>,
         agenda: &mut GatherAgenda<N>,
     ) -> Mark {
         match self {
@@ -54,10 +51,10 @@ impl<'d, 'r: 'd, 'i: 'r, N: RunName> LoopJob<Gathering<'d, 'r, 'i, N>> for Gathe
     }
 }
 
-/// The part of a fire arrives at its desk, by the arrival that is awaited for it. Where that was taken before, nothing is done with the part.
-fn take_part<'d, 'r: 'd, 'i: 'r, N: RunName, R: Wait>(
+/// The part of a fire is brought to its query's desk. Where it isn't awaited, nothing is done with it.
+fn take_part<'r, 'i: 'r, N: RunName, R: Wait>(
     rt: &R,
-    world: &mut Gathering<'d, 'r, 'i, N>,
+    world: &mut Gathering<'r, 'i, N>,
     agenda: &mut GatherAgenda<N>,
     fire: TaskFire<N>,
 )
@@ -68,37 +65,47 @@ fn take_part<'d, 'r: 'd, 'i: 'r, N: RunName, R: Wait>(
     ensures calls { IsReached gather_head agenda.old agenda.new }
 {
     calls_in_a_row::<GatherJob<N>>();
-    match bring_part(&mut world.table, fire, &mut world.tally) {
-        Some(Arrived::Complete(parts, end, _done)) => complete(rt, world, agenda, parts, end),
-        Some(Arrived::Back(_, _)) => unreachable!(),
-        Some(Arrived::More(_receipt)) => {}
-        None => {}
+    match bring_part(world.alloc, &mut world.table, fire, &mut world.tally) {
+        PartBrought::Complete(parts, end) => complete(rt, world, agenda, parts, end),
+        PartBrought::Refused(end) => refuse(rt, world, end),
+        PartBrought::Kept | PartBrought::Unawaited => {}
     }
 }
 
-/// The outcome of a fire arrives at its desk, by the arrival that the table has for the fire's query and shard. None where the table has none: then
-/// the outcome is let go.
-fn bring_part<'d, 'r: 'd, 'i: 'r, N: RunName>(
-    table: &mut PartTable<'d, 'r, 'i, N>,
+/// The outcome of a fire is brought to its query's desk. Where it isn't awaited, it is let go.
+fn bring_part<'r, 'i: 'r, N: RunName>(
+    alloc: Global,
+    table: &mut PartTable<'r, 'i, N>,
     fire: TaskFire<N>,
     tally: &mut Tally,
-) -> Option<PartArrived<'d, 'r, 'i, N>>
-    ensures arrived { IfSome result (λ arrived. IsBrought fire.callback.number fire.callback.shard fire.outcome table.old table.new arrived) }
-    ensures none { IfNone result (AwaitsNone fire.callback.number fire.callback.shard table.old table.new) }
-    ensures all { IfSome result (λ arrived. HasAllParts N.asked.shards arrived) }
+) -> PartBrought<'r, 'i, N>
+    ensures brought { IsBrought fire.callback.number fire.callback.shard fire.outcome table.old table.new result }
+    ensures all { HasAllParts N.asked.shards result }
     ensures tally { tally.new ≡ record tally.old { handed = raised tally.old.handed } }
 {
     let (_no, outcome, callback) = fire.unpack(tally);
-    match table.take(callback.number(), callback.shard()) {
-        Some(part) => Some(part.into_arrival().arrive(outcome)),
-        None => None,
-    }
+    table.bring(alloc, callback.number(), callback.shard(), outcome)
+}
+
+/// There was no memory for a desk: its reply's core gets want of memory.
+fn refuse<'r, 'i: 'r, N: RunName, R: Wait>(
+    rt: &R,
+    world: &mut Gathering<'r, 'i, N>,
+    end: End<'r, 'i, N>,
+)
+    ensures did { (posts : List (PrintJob N)) × GathersBy 0 0 posts world.old world.new × (world.new.refused ≡ false → length posts ≡ 1) }
+    ensures waiting { world.new.waiting ≡ world.old.waiting }
+    ensures noted { world.new.refused ≡ true }
+{
+    let (reply, _ask, _place, _inner) = end.into_parts();
+    let outcome = refusal(world, Fault::Memory);
+    world.fulfil(rt, reply, outcome);
 }
 
 /// A desk is complete: its parts are merged, and its reply's core is fulfilled, or forwarded to an inner core.
-fn complete<'d, 'r: 'd, 'i: 'r, N: RunName, R: Wait>(
+fn complete<'r, 'i: 'r, N: RunName, R: Wait>(
     rt: &R,
-    world: &mut Gathering<'d, 'r, 'i, N>,
+    world: &mut Gathering<'r, 'i, N>,
     agenda: &mut GatherAgenda<N>,
     parts: Listed<Try<Part<N>>>,
     end: End<'r, 'i, N>,
@@ -147,8 +154,8 @@ fn forward<'r, 'i: 'r, N: RunName, R: Wait>(
 }
 
 /// Notes that a reply has no answer, and gives the fault as its outcome. It is want of memory: the others never come.
-fn refusal<'d, 'r: 'd, 'i: 'r, N: RunName>(
-    world: &mut Gathering<'d, 'r, 'i, N>,
+fn refusal<'r, 'i: 'r, N: RunName>(
+    world: &mut Gathering<'r, 'i, N>,
     fault: Fault,
 ) -> Try<PlacedReply<N>>
     ensures did { GathersBy 0 0 [] world.old world.new }
@@ -165,8 +172,8 @@ fn refusal<'d, 'r: 'd, 'i: 'r, N: RunName>(
 }
 
 /// Has a scoring run in the next loop phase, behind those that are scheduled. Where there is no memory for that, it is spent.
-fn schedule<'d, 'r: 'd, 'i: 'r, N: RunName>(
-    world: &mut Gathering<'d, 'r, 'i, N>,
+fn schedule<'r, 'i: 'r, N: RunName>(
+    world: &mut Gathering<'r, 'i, N>,
     agenda: &mut GatherAgenda<N>,
     scoring: Scoring<'i, N>,
 )
@@ -201,7 +208,7 @@ fn schedule<'d, 'r: 'd, 'i: 'r, N: RunName>(
 
 /// The next of the scorings that are scheduled is made. None waits only where a message is, or was, a scoring job, which never comes: then want
 /// of memory is noted.
-fn score_next<'d, 'r: 'd, 'i: 'r, N: RunName, R: Wait>(rt: &R, world: &mut Gathering<'d, 'r, 'i, N>)
+fn score_next<'r, 'i: 'r, N: RunName, R: Wait>(rt: &R, world: &mut Gathering<'r, 'i, N>)
     ensures did { (posts : List (PrintJob N)) × GathersBy 0 0 posts world.old world.new × (world.new.refused ≡ false → length posts ≡ 1) }
     ensures waits { world.new.refused ≡ false → world.new.waiting + 1 ≡ world.old.waiting }
 {
@@ -212,9 +219,9 @@ fn score_next<'d, 'r: 'd, 'i: 'r, N: RunName, R: Wait>(rt: &R, world: &mut Gathe
 }
 
 /// The shards are scored, and the inner core is fulfilled.
-fn score<'d, 'r: 'd, 'i: 'r, N: RunName, R: Wait>(
+fn score<'r, 'i: 'r, N: RunName, R: Wait>(
     rt: &R,
-    world: &mut Gathering<'d, 'r, 'i, N>,
+    world: &mut Gathering<'r, 'i, N>,
     scoring: Scoring<'i, N>,
 )
     ensures did { (posts : List (PrintJob N)) × GathersBy 0 0 posts world.old world.new × (world.new.refused ≡ false → length posts ≡ 1) }
@@ -226,8 +233,8 @@ fn score<'d, 'r: 'd, 'i: 'r, N: RunName, R: Wait>(
 }
 
 /// The reply of a ranking over all shards, or want of memory, which is noted.
-fn scored<'d, 'r: 'd, 'i: 'r, N: RunName>(
-    world: &mut Gathering<'d, 'r, 'i, N>,
+fn scored<'r, 'i: 'r, N: RunName>(
+    world: &mut Gathering<'r, 'i, N>,
     ask: &NumberedAsk<'i, N>,
     place: u32,
     ranking: &Ranking,

@@ -38,15 +38,15 @@ pub struct GatherEnd<N: RunName> {
 }
 
 /// Runs a gathering base until all its posters have ended and nothing is left, or until a round finds no memory, and ends its poster to
-/// the printer's base. `table` is the table of this base, with the arrivals for all parts of its queries, so that each part that is posted to it finds
+/// the printer's base. `table` is the table of this base, which awaits all parts of its queries, so that each part that is posted to it finds
 /// its own: those whose parts haven't come are spent. It may wait.
-pub fn gather<'d, 'r: 'd, 'i: 'r, N: RunName + 'static, R: Wait>(
+pub fn gather<'r, 'i: 'r, N: RunName + 'static, R: Wait>(
     rt: &R,
     alloc: Global,
     base: GatherBase<N>,
     printer: BasePoster<PrintJob<N>>,
     shards: RunShards<'i, N>,
-    table: PartTable<'d, 'r, 'i, N>,
+    table: PartTable<'r, 'i, N>,
 ) -> GatherStage<N>
     requires exec { printer.exec ≡ printer_exec N.asked.bases }
     requires holds { HoldsScorings base.agenda }
@@ -69,10 +69,10 @@ pub fn gather<'d, 'r: 'd, 'i: 'r, N: RunName + 'static, R: Wait>(
 }
 
 /// Runs it until it is closed, or a round finds no memory.
-fn until_closed<'d, 'r: 'd, 'i: 'r, N: RunName + 'static, R: Wait>(
+fn until_closed<'r, 'i: 'r, N: RunName + 'static, R: Wait>(
     rt: &R,
     base: &mut GatherBase<N>,
-    world: &mut Gathering<'d, 'r, 'i, N>,
+    world: &mut Gathering<'r, 'i, N>,
 )
     requires { HoldsScorings base.old.agenda }
     ensures did { TookIn world.old base.old world.new base.new }
@@ -93,10 +93,10 @@ fn until_closed<'d, 'r: 'd, 'i: 'r, N: RunName + 'static, R: Wait>(
 }
 
 /// One loop of the base, and why it ended. None: a round found no memory.
-fn loop_once_more<'d, 'r: 'd, 'i: 'r, N: RunName + 'static, R: Wait>(
+fn loop_once_more<'r, 'i: 'r, N: RunName + 'static, R: Wait>(
     rt: &R,
     base: &mut GatherBase<N>,
-    world: &mut Gathering<'d, 'r, 'i, N>,
+    world: &mut Gathering<'r, 'i, N>,
 ) -> Option<Why>
     requires { HoldsScorings base.old.agenda }
     ensures did { TookIn world.old base.old world.new base.new }
@@ -104,7 +104,7 @@ fn loop_once_more<'d, 'r: 'd, 'i: 'r, N: RunName + 'static, R: Wait>(
     ensures closed { result ≡ Some Why.Closed → IsDry base.new.queue × HoldsNoCallback base.new.agenda }
     ensures whole { IfSome result (λ why. (rounds : ℕ) × IsLoop gather_head Runs rounds why world.old base.old world.new base.new) }
 {
-    rounds_keep_the_base::<Gathering<'d, 'r, 'i, N>, GatherJob<N>>();
+    rounds_keep_the_base::<Gathering<'r, 'i, N>, GatherJob<N>>();
     match base.loop_until_closed(rt, world) {
         Ok(LoopEnd { rounds: _, why }) => Some(why),
         Err(_) => None,

@@ -1,109 +1,58 @@
-//! The arrivals that the parts of a base's queries are for.
-ghost use Rattle.std.specs.Prelude.{◌≡◌, ◌<◌, ◌≤◌, ◌+◌, ◌*◌, ◌/◌, None, IfNone, IfOk, IfSome, length};
+//! The queries whose parts a base gathers, and their desks.
+ghost use Rattle.std.specs.Prelude.{◌≡◌, ◌<◌, ◌≤◌, ◌+◌, ◌/◌, None, Some, true, IfOk, length};
 ghost use Rattle.std.specs.Bool.{OnFalse, OnTrue};
 ghost use Rattle.std.specs.List.{All};
-ghost use Rattle.run_gathering.specs.Awaited.{AwaitsNone, IsAwaited, IsFor, IsTaken, awaited_at, place_of, with_part};
+ghost use Rattle.run_gathering.specs.Awaited.{IsOfQuery, IsRow, all_awaited, awaited_at, awaited_in, place_of, with_at};
+ghost use Rattle.run_gathering.specs.Bringing.{HasAllParts, IsBrought, IsDeskTaken, IsTaken};
 
-use collect_ops::Arrived;
+use collect_ops::{Brought, Listed, OwnedDesk};
 use core_word::Tally;
-use fan_base::{Memory, Try};
-use fan_parts::{PartArrival, RunName, spend_end};
+use fan_base::{Memory, Refused, Try};
+use fan_parts::{End, Part, PartDesk, RunName, spend_end};
 use std::alloc::Global;
 use std::marker::Model;
 use std::mem::replace;
 
-/// The arrival that the part of a query and a shard is for, at the desk of that query. It must be spent.
-pub struct AwaitedPart<'d, 'r, 'i, N: RunName> {
-    arrival: PartArrival<'d, 'r, 'i, N>,
-    number: u32,
-    shard: u32,
+/// What is awaited of a query.
+pub(crate) enum Awaited<'r, 'i, N: RunName> {
+    /// Nothing: no query is awaited here, or all its parts have come.
+    Nothing,
+    /// All its parts. Its desk isn't open yet.
+    All(End<'r, 'i, N>),
+    /// Of the query with this number, the parts that its desk hasn't got.
+    Rest(u32, PartDesk<'r, 'i, N>),
 }
 
-impl<'d, 'r, 'i, N: RunName> Model for AwaitedPart<'d, 'r, 'i, N> {
-    ghost use Rattle.run_gathering.specs.Awaited.{AwaitedSeen, IsAwaited};
-
-    ghost Value = { AwaitedSeen };
-
-    ghost view = { λ a. record { arrival = a.arrival; number = a.number; shard = a.shard } };
-
-    ghost invariant = { λ a. IsAwaited N.asked (record { arrival = a.arrival; number = a.number; shard = a.shard }) };
-
-    ghost use Rattle.query_grammar.specs.contracts.expr.Expr as expr;
-    ghost use Rattle.std.specs.Coded.{codes};
-
-    ghost coded = { Prim.hlevel (codes, expr.the_row.coded) };
+/// What became of a part.
+pub(crate) enum PartBrought<'r, 'i, N: RunName> {
+    /// It was the last: here are all parts by shard, and the desk's end.
+    Complete(Listed<Try<Part<N>>>, End<'r, 'i, N>),
+    /// It is kept.
+    Kept,
+    /// It was the first, and there was no memory for the desk of its query, whose end this is.
+    Refused(End<'r, 'i, N>),
+    /// It wasn't awaited.
+    Unawaited,
 }
 
-impl<'d, 'r: 'd, 'i: 'r, N: RunName> AwaitedPart<'d, 'r, 'i, N> {
-    /// The arrival for the part of this query, 1 to 50,000, and this shard.
-    pub fn new(
-        arrival: PartArrival<'d, 'r, 'i, N>,
-        number: u32,
-        shard: u32,
-    ) -> AwaitedPart<'d, 'r, 'i, N>
-        requires { IsAwaited N.asked (record { arrival = arrival; number = number; shard = shard }) }
-        ensures { result ≡ record { arrival = arrival.entry; number = number; shard = shard } }
-    {
-        AwaitedPart {
-            arrival,
-            number,
-            shard,
-        }
-    }
-
-    /// The number of its query.
-    pub fn number(&self) -> u32
-        ensures { result ≡ self.now.number }
-    {
-        self.number
-    }
-
-    /// Its shard.
-    pub fn shard(&self) -> u32
-        ensures { result ≡ self.now.shard }
-    {
-        self.shard
-    }
-
-    /// The arrival.
-    pub fn into_arrival(self) -> PartArrival<'d, 'r, 'i, N>
-        ensures arrival { result ≡ self.entry.arrival }
-        ensures is_awaited { IsAwaited N.asked self.entry }
-    {
-        let AwaitedPart {
-            arrival,
-            number: _,
-            shard: _,
-        } = self;
-        arrival
-    }
-}
-
-/// Spends an arrival whose part doesn't come: want of memory arrives in its place. Where that completes the desk, its reply's core gets want of
-/// memory too.
-fn give_up_part<'d, 'r: 'd, 'i: 'r, N: RunName>(part: AwaitedPart<'d, 'r, 'i, N>) {
-    match part.into_arrival().arrive(Try::Memory) {
-        Arrived::Complete(_parts, end, _done) => spend_end(end, &mut Tally::new()),
-        Arrived::Back(_, _) | Arrived::More(_) => {}
-    }
-}
-
-/// The arrivals for the parts of a gathering base's queries, by query and shard. Each is taken once. It must be spent.
-pub struct PartTable<'d, 'r, 'i, N: RunName> {
-    parts: Vec<Option<AwaitedPart<'d, 'r, 'i, N>>>,
+/// What is awaited of a gathering base's queries: each part once. The desk of a query is opened as its first part comes, and freed as its
+/// last one does. It must be spent.
+pub struct PartTable<'r, 'i, N: RunName> {
+    queries: Vec<Awaited<'r, 'i, N>>,
     bases: u32,
     shards: u32,
 }
 
-impl<'d, 'r, 'i, N: RunName> Model for PartTable<'d, 'r, 'i, N> {
-    ghost use Rattle.std.specs.Prelude.{◌≤◌};
-    ghost use Rattle.run_gathering.specs.Awaited.{TableSeen};
+impl<'r, 'i, N: RunName> Model for PartTable<'r, 'i, N> {
+    ghost use Rattle.std.specs.Prelude.{◌≡◌, ◌≤◌, map};
+    ghost use Rattle.std.specs.List.{All};
+    ghost use Rattle.run_gathering.specs.Awaited.{IsRow, TableSeen, awaited_in};
 
     ghost Value = { TableSeen };
 
-    ghost view = { λ t. record { parts = t.parts.items; bases = t.bases; shards = t.shards } };
+    ghost view = { λ t. record { queries = map (awaited_in t.shards) t.queries.items; bases = t.bases; shards = t.shards } };
 
-    ghost invariant = { λ t. (1 ≤ t.bases) × (t.shards ≤ 64) };
+    ghost invariant = { λ t. (1 ≤ t.bases) × (1 ≤ t.shards) × (t.shards ≤ 64) × (t.shards ≡ N.asked.shards) × All (IsRow t.shards) t.queries.items };
 
     ghost use Rattle.query_grammar.specs.contracts.expr.Expr as expr;
     ghost use Rattle.std.specs.Coded.{codes};
@@ -111,103 +60,168 @@ impl<'d, 'r, 'i, N: RunName> Model for PartTable<'d, 'r, 'i, N> {
     ghost coded = { Prim.hlevel (codes, expr.the_row.coded) };
 }
 
-impl<'d, 'r: 'd, 'i: 'r, N: RunName> PartTable<'d, 'r, 'i, N> {
-    /// One that awaits nothing yet, with a place for each shard of each query with a number up to the highest, of one of so many bases.
+impl<'r, 'i: 'r, N: RunName> PartTable<'r, 'i, N> {
+    /// One that awaits nothing yet, with a place for each query with a number up to the highest, of one of so many bases.
     pub fn new(
         alloc: Global,
         bases: u32,
         shards: u32,
         highest: u32,
-    ) -> Result<PartTable<'d, 'r, 'i, N>, Memory>
+    ) -> Result<PartTable<'r, 'i, N>, Memory>
         requires bases { 1 ≤ bases }
-        requires shards { shards ≤ 64 }
+        requires shards { (1 ≤ shards) × (shards ≤ 64) }
+        requires of { shards ≡ N.asked.shards }
         requires highest { highest ≤ 50000 }
         ensures numbers { IfOk result (λ table. (table.bases ≡ bases) × (table.shards ≡ shards)) }
-        ensures nothing { IfOk result (λ table. All (λ part. part ≡ None) table.parts) }
-        ensures places { IfOk result (λ table. length table.parts ≡ (highest / bases + 1) * shards) }
+        ensures nothing { IfOk result (λ table. All (λ awaited. awaited ≡ None) table.queries) }
+        ensures places { IfOk result (λ table. length table.queries ≡ highest / bases + 1) }
     {
-        let count = (highest / bases + 1) * shards;
-        let Ok(mut parts) = Vec::with_capacity(alloc, count as usize) else {
+        let count = highest / bases + 1;
+        let Ok(mut queries) = Vec::with_capacity(alloc, count as usize) else {
             return Err(Memory);
         };
-        'making: while parts.len() < count as usize {
-            parts.push_reserved(None);
+        'making: while queries.len() < count as usize {
+            queries.push_reserved(Awaited::Nothing);
         }
         Ok(PartTable {
-            parts,
+            queries,
             bases,
             shards,
         })
     }
 
-    /// Puts an arrival at its place, which the table has, and at which nothing stands.
-    pub fn put(&mut self, part: AwaitedPart<'d, 'r, 'i, N>)
-        requires place { place_of self.old part.number part.shard < length self.old.parts }
-        requires empty { awaited_at self.old (place_of self.old part.number part.shard) ≡ None }
+    /// Has all parts awaited of the query with this end, which has a place, and of which nothing is awaited.
+    pub fn put(&mut self, end: End<'r, 'i, N>)
+        requires place { place_of self.old end.ask.number < length self.old.queries }
+        requires empty { awaited_at self.old (place_of self.old end.ask.number) ≡ None }
         ensures same { (self.new.bases ≡ self.old.bases) × (self.new.shards ≡ self.old.shards) }
-        ensures put { self.new ≡ with_part part.entry self.old }
+        ensures put { self.new ≡ with_at (place_of self.old end.entry.ask.number) (Some (all_awaited self.old.shards end.entry)) self.old }
     {
-        let place = self.place_of(part.number(), part.shard());
-        match replace(&mut self.parts[place], Some(part)) {
-            None => {}
-            Some(_before) => unreachable!(),
+        let number = end.number();
+        self.set(number, Awaited::All(end));
+    }
+
+    /// Brings the part of this query and this shard to the query's desk.
+    pub(crate) fn bring(
+        &mut self,
+        alloc: Global,
+        number: u32,
+        shard: u32,
+        outcome: Try<Part<N>>,
+    ) -> PartBrought<'r, 'i, N>
+        ensures same { (self.new.bases ≡ self.old.bases) × (self.new.shards ≡ self.old.shards) }
+        ensures brought { IsBrought number shard outcome self.old self.new result }
+        ensures all { HasAllParts N.asked.shards result }
+    {
+        if shard >= self.shards {
+            return PartBrought::Unawaited;
+        }
+        let desk = match self.take_desk(alloc, number) {
+            Some(Ok(desk)) => desk,
+            Some(Err(end)) => return PartBrought::Refused(end),
+            None => return PartBrought::Unawaited,
+        };
+        match desk.bring(shard as usize, outcome) {
+            Brought::Complete(parts, end) => PartBrought::Complete(parts, end),
+            Brought::More(desk) => {
+                self.set(number, Awaited::Rest(number, desk));
+                PartBrought::Kept
+            }
+            Brought::Back(desk, _outcome) => {
+                self.set(number, Awaited::Rest(number, desk));
+                PartBrought::Unawaited
+            }
         }
     }
 
-    /// Takes the arrival for the part of this query and this shard, so that its place is empty. None exactly where it is not at its place.
-    pub fn take(&mut self, number: u32, shard: u32) -> Option<AwaitedPart<'d, 'r, 'i, N>>
-        ensures part { IfSome result (λ part. IsFor number shard part) }
-        ensures same { (self.new.bases ≡ self.old.bases) × (self.new.shards ≡ self.old.shards) }
-        ensures taken { IfSome result (λ part. IsTaken number shard self.old part self.new) }
-        ensures none { IfNone result (AwaitsNone number shard self.old self.new) }
+    // Takes the desk of this query. It is opened where no part has come yet; where there is no memory for that, its end comes.
+    fn take_desk(
+        &mut self,
+        alloc: Global,
+        number: u32,
+    ) -> Option<Result<PartDesk<'r, 'i, N>, End<'r, 'i, N>>>
+        ensures { IsDeskTaken number self.old result self.new }
     {
-        let place = self.place_of(number, shard);
-        if place >= self.parts.len() {
-            return None;
-        }
-        let slot = &mut self.parts[place];
-        if is_for(&*slot, number, shard) {
-            slot.take()
-        } else {
-            None
+        match self.take(number) {
+            Awaited::Nothing => None,
+            Awaited::Rest(_number, desk) => Some(Ok(desk)),
+            Awaited::All(end) => match OwnedDesk::new(alloc, self.shards as usize, end) {
+                Ok(desk) => Some(Ok(desk)),
+                Err(Refused::Memory(end)) => Some(Err(end)),
+            },
         }
     }
 
-    /// Spends all arrivals that are left.
+    // Takes what is awaited of this query.
+    fn take(&mut self, number: u32) -> Awaited<'r, 'i, N>
+        ensures { IsTaken number self.old result self.new }
+    {
+        let place = self.place_of(number);
+        if place >= self.queries.len() || !is_of(&self.queries[place], number) {
+            return Awaited::Nothing;
+        }
+        replace(&mut self.queries[place], Awaited::Nothing)
+    }
+
+    // Has this awaited of this query, which has a place, and of which nothing is awaited.
+    fn set(&mut self, number: u32, awaited: Awaited<'r, 'i, N>)
+        requires place { place_of self.old number < length self.old.queries }
+        requires empty { awaited_at self.old (place_of self.old number) ≡ None }
+        requires row { IsRow self.old.shards awaited }
+        ensures same { (self.new.bases ≡ self.old.bases) × (self.new.shards ≡ self.old.shards) }
+        ensures set { self.new ≡ with_at (place_of self.old number) (awaited_in self.old.shards awaited.entry) self.old }
+    {
+        let place = self.place_of(number);
+        match replace(&mut self.queries[place], awaited) {
+            Awaited::Nothing => {}
+            Awaited::All(_end) => unreachable!(),
+            Awaited::Rest(_number, _desk) => unreachable!(),
+        }
+    }
+
+    /// Spends all that is awaited: the replies' cores get want of memory.
     pub fn close(self) {
         let PartTable {
-            mut parts,
+            mut queries,
             bases: _,
             shards: _,
         } = self;
-        'parts: while let Some(slot) = parts.pop() {
-            if let Some(part) = slot {
-                give_up_part(part);
+        'queries: while let Some(awaited) = queries.pop() {
+            match awaited {
+                Awaited::Nothing => {}
+                Awaited::All(end) => spend_end(end, &mut Tally::new()),
+                Awaited::Rest(_number, desk) => close_desk(desk),
             }
         }
-        parts.destroy_empty();
+        queries.destroy_empty();
     }
 
-    /// The place of the part of a query and a shard: the queries of one base differ in the quotient of their numbers by the number of bases.
-    fn place_of(&self, number: u32, shard: u32) -> usize
-        ensures { result ≡ place_of self.now number shard }
+    // The place of a query.
+    fn place_of(&self, number: u32) -> usize
+        ensures { result ≡ place_of self.now number }
     {
-        let row = u64::from(number / self.bases);
-        (row * u64::from(self.shards) + u64::from(shard)) as usize
+        (number / self.bases) as usize
     }
 }
 
-/// Whether a slot has the arrival for the part of this query and this shard.
-fn is_for<'d, 'r: 'd, 'i: 'r, N: RunName>(
-    slot: &Option<AwaitedPart<'d, 'r, 'i, N>>,
-    number: u32,
-    shard: u32,
-) -> bool
-    ensures holds { OnTrue result (IfSome slot.now (λ part. IsFor number shard part)) }
-    ensures lacks { OnFalse result (IfSome slot.now (λ part. IsFor number shard part → ⊥)) }
+// Whether this is awaited of the query with this number.
+fn is_of<N: RunName>(awaited: &Awaited<'_, '_, N>, number: u32) -> bool
+    ensures holds { OnTrue result (IsOfQuery number awaited.now) }
+    ensures lacks { OnFalse result (IsOfQuery number awaited.now → ⊥) }
 {
-    match slot {
-        Some(part) => part.number() == number && part.shard() == shard,
-        None => false,
+    match awaited {
+        Awaited::Nothing => false,
+        Awaited::All(end) => end.number() == number,
+        Awaited::Rest(of, _desk) => *of == number,
     }
+}
+
+// Closes a desk at which not all parts have come, and spends its end.
+fn close_desk<N: RunName>(desk: PartDesk<'_, '_, N>) {
+    let mut kept = desk.close();
+    if let Some(end) = kept.end() {
+        spend_end(end, &mut Tally::new());
+    }
+    'outcomes: while let Some(_outcome) = kept.next() {}
+    kept.finish();
 }

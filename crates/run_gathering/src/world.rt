@@ -16,11 +16,11 @@ use std::collections::VecDeque;
 use std::marker::Model;
 use std::sync::Wait;
 
-/// What a gathering base works on: the shards, the arrivals for the parts of its queries, the scorings that are scheduled, the poster to the
+/// What a gathering base works on: the shards, what is awaited of its queries, the scorings that are scheduled, the poster to the
 /// printer's base, what became of cores, and whether memory was refused. It must be spent by `into_parts`.
-pub struct Gathering<'d, 'r, 'i, N: RunName> {
+pub struct Gathering<'r, 'i, N: RunName> {
     pub(crate) shards: RunShards<'i, N>,
-    pub(crate) table: PartTable<'d, 'r, 'i, N>,
+    pub(crate) table: PartTable<'r, 'i, N>,
     pub(crate) scorings: VecDeque<Scoring<'i, N>>,
     printer: BasePoster<PrintJob<N>>,
     pub(crate) tally: Tally,
@@ -28,7 +28,7 @@ pub struct Gathering<'d, 'r, 'i, N: RunName> {
     pub(crate) alloc: Global,
 }
 
-impl<'d, 'r, 'i, N: RunName> Model for Gathering<'d, 'r, 'i, N> {
+impl<'r, 'i, N: RunName> Model for Gathering<'r, 'i, N> {
     ghost use Rattle.std.specs.Prelude.{◌≡◌, length};
     ghost use Rattle.fan_model.specs.Tasks.{printer_exec};
     ghost use Rattle.run_gathering.specs.Seen.{GatheringSeen};
@@ -40,14 +40,14 @@ impl<'d, 'r, 'i, N: RunName> Model for Gathering<'d, 'r, 'i, N> {
     ghost invariant = { λ w. w.printer.exec ≡ printer_exec N.asked.bases };
 }
 
-impl<'d, 'r: 'd, 'i: 'r, N: RunName> Gathering<'d, 'r, 'i, N> {
+impl<'r, 'i: 'r, N: RunName> Gathering<'r, 'i, N> {
     /// One that has done nothing.
     pub fn new(
         alloc: Global,
         shards: RunShards<'i, N>,
-        table: PartTable<'d, 'r, 'i, N>,
+        table: PartTable<'r, 'i, N>,
         printer: BasePoster<PrintJob<N>>,
-    ) -> Gathering<'d, 'r, 'i, N>
+    ) -> Gathering<'r, 'i, N>
         requires { printer.exec ≡ printer_exec N.asked.bases }
         ensures { result ≡ record { printer = printer; tally = no_counts; refused = false; waiting = 0 } }
     {
@@ -62,7 +62,7 @@ impl<'d, 'r: 'd, 'i: 'r, N: RunName> Gathering<'d, 'r, 'i, N> {
         }
     }
 
-    /// The poster, the tally, and whether memory was refused. Arrivals and scorings that are left are spent: their queries' cores get want of
+    /// The poster, the tally, and whether memory was refused. What is awaited still and scorings that are left are spent: their queries' cores get want of
     /// memory.
     pub fn into_parts(self) -> (BasePoster<PrintJob<N>>, Tally, bool)
         ensures { self.entry ≡ record { printer = result.0; tally = result.1; refused = result.2; waiting = self.entry.waiting } }

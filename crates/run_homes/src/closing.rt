@@ -1,5 +1,5 @@
 use core_word::{Home, Left, Tally, Unspent};
-use fan_parts::{InnerConsumer, PartDesk, ReplyHome, RunName, TaskHome, spend_end};
+use fan_parts::{InnerConsumer, ReplyHome, RunName, TaskHome};
 
 /// Closes a home, and gives what was set there and that nobody got: a callback and a proxy. A result is let go.
 fn what_is_left<T: Drop, C, P>(home: Home<T, C, P>) -> (Option<C>, Option<P>) {
@@ -31,27 +31,7 @@ fn give_up<'i, N: RunName>(consumer: InnerConsumer<'i, N>) {
     }
 }
 
-/// Closes the desks in these slots. An end that no arrival got is spent: its reply's core gets want of memory.
-pub fn close_desks<'r, 'i: 'r, N: RunName>(slots: Vec<Option<PartDesk<'r, 'i, N>>>) {
-    let mut slots = slots;
-    'slots: while let Some(slot) = slots.pop() {
-        if let Some(desk) = slot {
-            close_desk(desk);
-        }
-    }
-    slots.destroy_empty();
-}
-
-fn close_desk<'r, 'i: 'r, N: RunName>(desk: PartDesk<'r, 'i, N>) {
-    let mut kept = desk.close();
-    if let Some(end) = kept.end() {
-        spend_end(end, &mut Tally::new());
-    }
-    'outcomes: while let Some(_outcome) = kept.next() {}
-    kept.finish();
-}
-
-/// Closes the homes of tasks. A callback that waits there still is let go: the arrival that its part was for stands with its base.
+/// Closes the homes of tasks. A callback that waits there still is let go: its part stays awaited with its base.
 pub fn close_task_homes<N: RunName>(homes: Vec<TaskHome<N>>) {
     let mut homes = homes;
     'homes: while let Some(home) = homes.pop() {

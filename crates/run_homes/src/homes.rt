@@ -1,4 +1,4 @@
-ghost use Rattle.std.specs.Prelude.{◌≡◌, false, None, length, IfOk};
+ghost use Rattle.std.specs.Prelude.{◌≡◌, false, length, IfOk};
 ghost use Rattle.std.specs.List.{All};
 ghost use Rattle.core_word.specs.Seen.{SeenHome};
 
@@ -50,18 +50,4 @@ fn key_of<'h, T, C, P>(home: &'h mut Home<T, C, P>) -> Key<'h, T, C, P>
         unreachable!()
     };
     key
-}
-
-/// So many empty slots.
-pub fn empty_slots<X>(alloc: Global, count: usize) -> Result<Vec<Option<X>>, Memory>
-    ensures count { IfOk result (λ slots. length slots.items ≡ count) }
-    ensures empty { IfOk result (λ slots. All (λ slot. slot ≡ None) slots.items) }
-{
-    let Ok(mut slots) = Vec::with_capacity(alloc, count) else {
-        return Err(Memory);
-    };
-    'making: while slots.len() < count {
-        slots.push_reserved(None);
-    }
-    Ok(slots)
 }

@@ -51,10 +51,10 @@ pub struct Closed<'t, N: RunName> {
 /// Closes the gathering bases and then the printer's base, with all ends of their posters. `worlds` are what is left of the workers' worlds, by
 /// worker, `front` is what is left of the front's, and `poster` the end of its poster to the printer's base; `queries` is how many queries the
 /// input has. It takes no memory.
-pub fn close_run<'t, 'd, 'r: 'd, 'i: 'r, N: RunName, R: Wait>(
+pub fn close_run<'t, 'r: 't, 'i: 'r, N: RunName, R: Wait>(
     rt: &R,
     back: Back<'t, N>,
-    gatherers: Vec<GatherSlot<'d, 'r, 'i, N>>,
+    gatherers: Vec<GatherSlot<'r, 'i, N>>,
     printer: PrintStage<PrintJob<N>>,
     worlds: Vec<TaskEnds<'t, N>>,
     front: TaskEnds<'t, N>,

@@ -119,9 +119,9 @@ impl<'t, N: RunName> Worlds<'t, N> {
 }
 
 /// Closes a gathering base that has run, with the ends of all its posters.
-fn close_slot<'d, 'r: 'd, 'i: 'r, N: RunName, R: Wait>(
+fn close_slot<'r, 'i: 'r, N: RunName, R: Wait>(
     rt: &R,
-    slot: GatherSlot<'d, 'r, 'i, N>,
+    slot: GatherSlot<'r, 'i, N>,
     column: Column<GatherJob<N>>,
 ) -> GatherEnd<N>
     requires { (ids : RunIds) × (k : ℕ) × IsGatheredSlot N.asked ids k slot × IsFullColumn ids k column }
@@ -175,10 +175,10 @@ impl<N: RunName> Gatherers<N> {
     }
 
     /// Closes all gathering bases, by base.
-    pub(crate) fn close_all<'d, 'r: 'd, 'i: 'r, R: Wait>(
+    pub(crate) fn close_all<'r, 'i: 'r, R: Wait>(
         &mut self,
         rt: &R,
-        slots: Vec<GatherSlot<'d, 'r, 'i, N>>,
+        slots: Vec<GatherSlot<'r, 'i, N>>,
         columns: Vec<Column<GatherJob<N>>>,
     )
         requires bases { (ids : RunIds) × (length ids.queues ≡ N.asked.bases) × AreGathered N.asked ids slots.items

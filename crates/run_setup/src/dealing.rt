@@ -101,15 +101,15 @@ impl<'c, 't, 'i: 't, N: RunName> Dealing<'c, 't, 'i, N> {
 }
 
 /// The slots of all gathering bases, by base, each with the last poster of the printer's column and its table: the first base has the first.
-pub(crate) fn gather_slots<'d, 'r: 'd, 'i: 'r, N: RunName>(
+pub(crate) fn gather_slots<'r, 'i: 'r, N: RunName>(
     alloc: Global,
     bases: Vec<EventBase<GatherJob<N>>>,
     printer: ExecId,
     column: &mut Column<PrintJob<N>>,
     shards: &RunShards<'i, N>,
-    tables: Vec<PartTable<'d, 'r, 'i, N>>,
-    room: Vec<GatherSlot<'d, 'r, 'i, N>>,
-) -> Vec<GatherSlot<'d, 'r, 'i, N>>
+    tables: Vec<PartTable<'r, 'i, N>>,
+    room: Vec<GatherSlot<'r, 'i, N>>,
+) -> Vec<GatherSlot<'r, 'i, N>>
     requires printer { printer ≡ printer_exec N.asked.bases }
     requires empty { room.items ≡ [] }
     requires room { length bases.items ≤ vec_capacity room }

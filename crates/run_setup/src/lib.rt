@@ -2,7 +2,7 @@
 //! pool. All is opened before the threads start, and closed when they have ended.
 //!
 //! ```text
-//! open_run --> Setup: gatherers  a slot for each gathering base: the base, a poster to the printer's base, a table of arrivals
+//! open_run --> Setup: gatherers  a slot for each gathering base: the base, a poster to the printer's base, a table of awaited parts
 //!                     printer    the printer's base
 //!                     workers    a slot for each: a pass of the pool and a world, with a poster to each gathering base
 //!                     world      the front's, and its poster to the printer's base

@@ -24,9 +24,9 @@ use std::alloc::Global;
 use std::sync::Wait;
 
 /// All that a run over threads needs beside its homes.
-pub struct Setup<'c, 't, 'd: 't, 'r: 'd, 'i: 'r, N: RunName> {
+pub struct Setup<'c, 't, 'r: 't, 'i: 'r, N: RunName> {
     /// The slots of the gathering bases, by base.
-    pub gatherers: Vec<GatherSlot<'d, 'r, 'i, N>>,
+    pub gatherers: Vec<GatherSlot<'r, 'i, N>>,
     /// The printer's base.
     pub printer: EventBase<PrintJob<N>>,
     /// The slots of the workers, by number.
@@ -50,18 +50,18 @@ pub struct Setup<'c, 't, 'd: 't, 'r: 'd, 'i: 'r, N: RunName> {
 }
 
 /// Opens a run with 1 to 32 workers and 1 to 8 gathering bases. `passes` are all passes of the cells, one for each worker and one for the front, and `tables`
-/// those of the arrivals for the queries' parts, one for each gathering base: the first base gets the first.
+/// those of the awaited parts, one for each gathering base: the first base gets the first.
 /// Where memory runs out, all that was opened is closed again.
-pub fn open_run<'c, 't, 'd: 't, 'r: 'd, 'i: 'r, N: RunName + 'static, R: Wait>(
+pub fn open_run<'c, 't, 'r: 't, 'i: 'r, N: RunName + 'static, R: Wait>(
     rt: &R,
     alloc: Global,
     cells: &'c TaskCells<'t, N>,
     passes: Vec<TaskCellPass<'t, N>>,
     shards: &RunShards<'i, N>,
-    tables: Vec<PartTable<'d, 'r, 'i, N>>,
+    tables: Vec<PartTable<'r, 'i, N>>,
     workers: u32,
     bases: u32,
-) -> Result<Setup<'c, 't, 'd, 'r, 'i, N>, Memory>
+) -> Result<Setup<'c, 't, 'r, 'i, N>, Memory>
     requires workers { (1 ≤ workers) × (workers ≤ 32) }
     requires few { (1 ≤ bases) × (bases ≤ 8) }
     requires bases { bases ≡ N.asked.bases }
@@ -90,17 +90,17 @@ pub fn open_run<'c, 't, 'd: 't, 'r: 'd, 'i: 'r, N: RunName + 'static, R: Wait>(
 }
 
 /// Deals out the posters and the passes, and puts all parts together. It takes no memory.
-fn deal_out<'c, 't, 'd: 't, 'r: 'd, 'i: 'r, N: RunName>(
+fn deal_out<'c, 't, 'r: 't, 'i: 'r, N: RunName>(
     alloc: Global,
     cells: &'c TaskCells<'t, N>,
     passes: Vec<TaskCellPass<'t, N>>,
     shards: &RunShards<'i, N>,
-    tables: Vec<PartTable<'d, 'r, 'i, N>>,
+    tables: Vec<PartTable<'r, 'i, N>>,
     workers: u32,
     bases: u32,
-    rooms: Rooms<'c, 't, 'd, 'r, 'i, N>,
+    rooms: Rooms<'c, 't, 'r, 'i, N>,
     opened: Opened<'t, 'i, N>,
-) -> Setup<'c, 't, 'd, 'r, 'i, N>
+) -> Setup<'c, 't, 'r, 'i, N>
     requires bases { (bases ≡ N.asked.bases) × (bases ≤ 8) }
     requires passes { length passes.items ≡ workers + 1 }
     requires all { AreAll cells.now passes.items }

@@ -20,8 +20,8 @@ pub(crate) struct WorldRoom<N: RunName> {
 }
 
 /// Room for the gathering bases' slots, for the workers, and for what is left of the workers' worlds.
-pub(crate) struct SlotRooms<'c, 't, 'd: 't, 'r: 'd, 'i: 'r, N: RunName> {
-    pub(crate) gatherers: Vec<GatherSlot<'d, 'r, 'i, N>>,
+pub(crate) struct SlotRooms<'c, 't, 'r: 't, 'i: 'r, N: RunName> {
+    pub(crate) gatherers: Vec<GatherSlot<'r, 'i, N>>,
     pub(crate) workers: Vec<TaskSlot<'c, 't, 'i, N>>,
     pub(crate) worlds: Vec<TaskEnds<'t, N>>,
 }
@@ -33,9 +33,9 @@ pub(crate) struct EndRooms<'t, 'i: 't, N: RunName> {
 }
 
 /// All room that a run takes beside its bases and its pool.
-pub(crate) struct Rooms<'c, 't, 'd: 't, 'r: 'd, 'i: 'r, N: RunName> {
+pub(crate) struct Rooms<'c, 't, 'r: 't, 'i: 'r, N: RunName> {
     pub(crate) worlds: Vec<WorldRoom<N>>,
-    pub(crate) slots: SlotRooms<'c, 't, 'd, 'r, 'i, N>,
+    pub(crate) slots: SlotRooms<'c, 't, 'r, 'i, N>,
     pub(crate) ends: EndRooms<'t, 'i, N>,
     pub(crate) notes: Vec<QueueNote>,
 }
@@ -92,12 +92,8 @@ fn give_up_worlds<N: RunName>(rooms: Vec<WorldRoom<N>>)
     rooms.destroy_empty();
 }
 
-impl<'c, 't, 'd: 't, 'r: 'd, 'i: 'r, N: RunName> SlotRooms<'c, 't, 'd, 'r, 'i, N> {
-    fn new(
-        alloc: Global,
-        workers: u32,
-        bases: u32,
-    ) -> Result<SlotRooms<'c, 't, 'd, 'r, 'i, N>, Memory>
+impl<'c, 't, 'r: 't, 'i: 'r, N: RunName> SlotRooms<'c, 't, 'r, 'i, N> {
+    fn new(alloc: Global, workers: u32, bases: u32) -> Result<SlotRooms<'c, 't, 'r, 'i, N>, Memory>
         ensures { IfOk result (λ rooms. HasSlotRooms workers bases rooms) }
     {
         let gatherers = Vec::with_capacity(alloc, bases as usize)?;
@@ -152,13 +148,13 @@ impl<'t, 'i: 't, N: RunName> EndRooms<'t, 'i, N> {
     }
 }
 
-impl<'c, 't, 'd: 't, 'r: 'd, 'i: 'r, N: RunName> Rooms<'c, 't, 'd, 'r, 'i, N> {
+impl<'c, 't, 'r: 't, 'i: 'r, N: RunName> Rooms<'c, 't, 'r, 'i, N> {
     /// The room of so many workers and so many bases.
     pub(crate) fn new(
         alloc: Global,
         workers: u32,
         bases: u32,
-    ) -> Result<Rooms<'c, 't, 'd, 'r, 'i, N>, Memory>
+    ) -> Result<Rooms<'c, 't, 'r, 'i, N>, Memory>
         requires { workers ≤ 32 }
         ensures { IfOk result (λ rooms. HasRooms workers bases rooms) }
     {
@@ -204,10 +200,8 @@ pub(crate) fn drop_passes<'h, T, C, P>(passes: Vec<CellPass<'h, T, C, P>>) {
     let _ = passes;
 }
 
-/// Spends all arrivals in these tables.
-pub(crate) fn close_tables<'d, 'r: 'd, 'i: 'r, N: RunName>(
-    mut tables: Vec<PartTable<'d, 'r, 'i, N>>,
-) {
+/// Closes these tables: what they await is given up.
+pub(crate) fn close_tables<'r, 'i: 'r, N: RunName>(mut tables: Vec<PartTable<'r, 'i, N>>) {
     'tables: while let Some(table) = tables.pop() {
         table.close();
     }

@@ -72,8 +72,8 @@ WorkerStage-send t i N g n = recorded_send (worker_stage.the_field t i N g).row 
   (search (ends_field, all) depth 60 fits 20000, tt),
 ))
 
-pub GatherSlot-send : (d r i : NamedLft) (N : RattleType) (g : Ghosts N.Denot) → IsSend N → IsSend (gather_slot.the_row d r i N g)
-GatherSlot-send d r i N g n = recorded_send (gather_slot.the_field d r i N g).row _ _ (gather_slot.the_type d r i N g).to_one (struct_send (shape (gather_slot.the_type d r i N g)) (
+pub GatherSlot-send : (r i : NamedLft) (N : RattleType) (g : Ghosts N.Denot) → IsSend N → IsSend (gather_slot.the_row r i N g)
+GatherSlot-send r i N g n = recorded_send (gather_slot.the_field r i N g).row _ _ (gather_slot.the_type r i N g).to_one (struct_send (shape (gather_slot.the_type r i N g)) (
   search (crossing_event_base.EventBase-send, all) depth 60 fits 20000,
   (
     search all depth 60 fits 20000,

@@ -5,18 +5,18 @@ use run_stages::Stage;
 use std::alloc::Global;
 use std::sync::Wait;
 
-/// The stage of a gathering base: the base, its poster to the printer's base and the arrivals for the parts of its queries before it has run, what
+/// The stage of a gathering base: the base, its poster to the printer's base and what is awaited of its queries before it has run, what
 /// it came to afterwards, and the shards.
-pub struct GatherSlot<'d, 'r: 'd, 'i: 'r, N: RunName> {
+pub struct GatherSlot<'r, 'i: 'r, N: RunName> {
     pub base: Option<EventBase<GatherJob<N>>>,
     pub printer: Option<BasePoster<PrintJob<N>>>,
-    pub table: Option<PartTable<'d, 'r, 'i, N>>,
+    pub table: Option<PartTable<'r, 'i, N>>,
     pub shards: RunShards<'i, N>,
     pub stage: Option<GatherStage<N>>,
     pub alloc: Global,
 }
 
-impl<'d, 'r: 'd, 'i: 'r, N: RunName + 'static> Stage<()> for GatherSlot<'d, 'r, 'i, N> {
+impl<'r, 'i: 'r, N: RunName + 'static> Stage<()> for GatherSlot<'r, 'i, N> {
     ghost use Rattle.run_threads.specs.Slots.{HasGatheredIn, IsReadyToGather};
 
     ghost ready = { λ shared slot. IsReadyToGather N.asked slot };

@@ -7,24 +7,24 @@ use Rattle.run_gathering.proofs.looping.loop_once_more.Goals as goal
 pub rounds_keep_the_base-requires-lives-W : goal.rounds_keep_the_base-requires-lives-W
 rounds_keep_the_base-requires-lives-W g c κs within =
     Gathering-lives κs.0 g.row.N g.N.RunName (λ a m. absurd (not-mem-nil (c.type_bounds.static-N a m)))
-    (named_at κs.1.1.0) (named_at κs.1.1.1.0) (named_at κs.1.1.1.1.0) within.0.0 within.0.1.0 within.0.1.1.0
+    (named_at κs.1.1.0) (named_at κs.1.1.1.0) within.0.0 within.0.1.0
+
+pub rounds_keep_the_base-requires-lives-J-LoopJob-2 : goal.rounds_keep_the_base-requires-lives-J-LoopJob-2
+rounds_keep_the_base-requires-lives-J-LoopJob-2 g c κs within = λ a m. absurd (not-mem-nil (c.type_bounds.static-N a m))
 
 pub rounds_keep_the_base-requires-lives-J-LoopJob-3 : goal.rounds_keep_the_base-requires-lives-J-LoopJob-3
 rounds_keep_the_base-requires-lives-J-LoopJob-3 g c κs within = λ a m. absurd (not-mem-nil (c.type_bounds.static-N a m))
 
-pub rounds_keep_the_base-requires-lives-J-LoopJob-4 : goal.rounds_keep_the_base-requires-lives-J-LoopJob-4
-rounds_keep_the_base-requires-lives-J-LoopJob-4 g c κs within = λ a m. absurd (not-mem-nil (c.type_bounds.static-N a m))
-
 pub loop_until_closed-requires-lives-W : goal.loop_until_closed-requires-lives-W
 loop_until_closed-requires-lives-W g c κs within =
     Gathering-lives κs.1.1.1.1.0 g.row.N g.N.RunName (λ a m. absurd (not-mem-nil (c.type_bounds.static-N a m)))
-    (named_at κs.1.1.1.1.1.1.0) (named_at κs.1.1.1.1.1.1.1.0) (named_at κs.1.1.1.1.1.1.1.1.0) within.0.0 within.0.1.0 within.0.1.1.0
+    (named_at κs.1.1.1.1.1.1.0) (named_at κs.1.1.1.1.1.1.1.0) within.0.0 within.0.1.0
+
+pub loop_until_closed-requires-lives-J-LoopJob-2 : goal.loop_until_closed-requires-lives-J-LoopJob-2
+loop_until_closed-requires-lives-J-LoopJob-2 g c κs within = λ a m. absurd (not-mem-nil (c.type_bounds.static-N a m))
 
 pub loop_until_closed-requires-lives-J-LoopJob-3 : goal.loop_until_closed-requires-lives-J-LoopJob-3
 loop_until_closed-requires-lives-J-LoopJob-3 g c κs within = λ a m. absurd (not-mem-nil (c.type_bounds.static-N a m))
-
-pub loop_until_closed-requires-lives-J-LoopJob-4 : goal.loop_until_closed-requires-lives-J-LoopJob-4
-loop_until_closed-requires-lives-J-LoopJob-4 g c κs within = λ a m. absurd (not-mem-nil (c.type_bounds.static-N a m))
 
 pub returns-in-Ok-clause-did : goal.returns-in-Ok-clause-did
 returns-in-Ok-clause-did g c = loop_took _ _ _ _ _ _ c.requires c.in-Ok.ensures.ok

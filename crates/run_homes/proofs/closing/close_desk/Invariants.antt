@@ -1,8 +1,0 @@
-use Rattle.std.proofs.Common.{◌≡◌, None, length}
-use Rattle.run_homes.proofs.closing.close_desk.Given as goal
-
-abbrev pub invariant-outcomes : goal.invariant-outcomes
-invariant-outcomes g l = l.kept.end ≡ None
-
-abbrev pub decreases-outcomes : goal.decreases-outcomes
-decreases-outcomes g l = length l.kept.outcomes
