@@ -13,7 +13,8 @@ use Rattle.collect_ops.specs.declared.view.View.TheVariants as view
 use Rattle.collect_ops.specs.Bringing.{KeepsOwned, awaits}
 use Rattle.collect_ops.specs.Owned.{HasArrivals, IsAwaited, owned_in}
 use Rattle.collect_ops.specs.Rule.{Held}
-use Rattle.collect_ops.specs.Seen.{DeskId, OwnedSeen}
+use Rattle.collect_ops.specs.Answers.{KeptBy}
+use Rattle.collect_ops.specs.Seen.{DeskId, OwnedSeen, ReceiptSeen}
 use Rattle.collect_ops.specs.Steps.{IsDealer, IsReady, Sits, Standing, at}
 use Rattle.collect_ops.specs.Views.{desk_in}
 
@@ -56,10 +57,12 @@ module _ {X E : Type 0} where
   not_awaited desk items index there =
       get_or_from_slice_get (map is_some items) index false false (slice_get-map is_some items index ∙ ap (λ (o : Option (Option (Seat (Held X E) (View X E)))). option_map is_some o) there)
 
-  pub keeps : (desk : DeskId E) (items : List (Option (Seat (Held X E) (View X E)))) (index : ℕ) (seat : Seat (Held X E) (View X E)) (none : Option (Seat (Held X E) (View X E))) (old new : OwnedSeen E)
-      → old ≡ owned_in desk items → new ≡ owned_in desk (set items index none) → slice_get items index ≡ Some (Some seat) → none ≡ None → KeepsOwned old index new
-  keeps desk items index seat none old new old_is new_is there is = record {
+  pub keeps : (desk : DeskId E) (items : List (Option (Seat (Held X E) (View X E)))) (index : ℕ) (seat : Seat (Held X E) (View X E)) (none : Option (Seat (Held X E) (View X E))) (old new : OwnedSeen E) (outcome : X) (receipt : ReceiptSeen X E)
+      → old ≡ owned_in desk items → new ≡ owned_in desk (set items index none) → slice_get items index ≡ Some (Some seat) → none ≡ None → KeptBy (record { desk = desk; index = index }) outcome receipt
+      → KeepsOwned old index outcome new receipt
+  keeps desk items index seat none old new outcome receipt old_is new_is there is kept = record {
     awaited = ap (λ (o : OwnedSeen E). awaits o index) old_is ∙ was_awaited desk items index seat there;
+    kept = subst (λ (d : DeskId E). KeptBy (record { desk = d; index = index }) outcome receipt) (ap (λ (o : OwnedSeen E). o.desk) (sym old_is)) kept;
     left = new_is ∙ ((λ i. record { desk = desk; awaited = (map-set is_some items index none ∙ ap (λ (o : Option (Seat (Held X E) (View X E))). set (map is_some items) index (is_some o)) is) i })
         ∙ ap (λ (o : OwnedSeen E). record { desk = o.desk; awaited = set o.awaited index false }) (sym old_is));
   }

@@ -1,5 +1,6 @@
 //! A desk: the memory in which outcomes are gathered.
-ghost use Rattle.std.specs.Prelude.{◌≡◌, ◌≢◌, ◌↔◌, ◌+◌, ◌≤◌, true, false, None, [], is_some, length, map, replicate, slice_get, vec_capacity, IfSome, IfOk, IfErr, IsErr};
+ghost use Rattle.std.specs.Prelude.{◌≡◌, ◌≢◌, ◌↔◌, ◌+◌, ◌≤◌, true, false, None, [], is_some, length};
+ghost use Rattle.std.specs.Prelude.{map, replicate, slice_get, vec_capacity, IfOk, IfErr, IsErr};
 ghost use Rattle.collect_ops.specs.Owned.{HasArrivals};
 ghost use Rattle.collect_ops.specs.Steps.{IsDesk, IsDealer};
 ghost use Rattle.collect_ops.specs.Views.{desk_in};
@@ -8,6 +9,7 @@ use crate::arrival::{Arrival, Arrivals};
 use crate::boxed::Boxed;
 use crate::kept::{self, Kept};
 use crate::listed::Listed;
+use crate::receipt::Receipt;
 use crate::rule::{DeskRule, DeskTable, Place};
 use crate::steps;
 use crate::view::{Ending, Item, View};
@@ -62,6 +64,7 @@ impl<X, E, K> Model for Desk<X, E, K> {
 
 impl<X, E, K> Desk<X, E, K> {
     ghost use Rattle.collect_ops.specs.Closing.{EndsAs};
+    ghost use Rattle.collect_ops.specs.Answers.{KeptBy};
     ghost use Rattle.collect_ops.specs.Owned.{IsAwaited};
     ghost use Rattle.collect_ops.specs.Steps.{IsLast, Sits, HasRoom};
     ghost use Rattle.collect_ops.specs.declared.view.View.{View};
@@ -138,16 +141,17 @@ impl<X, E, K> Desk<X, E, K> {
         deal_all(&self.table.shared, seat, self.size, room)
     }
 
-    /// Leaves an outcome by the arrival that has this seat. Where it was the last, all outcomes come with the end and its seat.
+    /// Leaves an outcome by the arrival that has this seat. Where it was the last, all outcomes come with the end and its seat, else its receipt.
     pub(crate) fn keep(
         &self,
         seat: Place<X, E>,
         index: usize,
         outcome: X,
-    ) -> Option<(Listed<X>, E, Place<X, E>)>
+    ) -> Result<(Listed<X>, E, Place<X, E>), Receipt<X, E>>
         requires { IsAwaited self.now.desk index seat }
-        ensures all { IfSome result (λ t. (length t.0 ≡ self.now.desk.size) × (slice_get t.0 index ≡ Some outcome) × (self.now.desk.end ≡ Some t.1)) }
-        ensures last { IfSome result (λ t. (t.2.table_id ≡ self.now.desk.table) × IsLast t.2.me) }
+        ensures all { IfOk result (λ t. (length t.0 ≡ self.now.desk.size) × (slice_get t.0 index ≡ Some outcome) × (self.now.desk.end ≡ Some t.1)) }
+        ensures last { IfOk result (λ t. (t.2.table_id ≡ self.now.desk.table) × IsLast t.2.me) }
+        ensures more { IfErr result (λ receipt. KeptBy (record { desk = self.now.desk; index = index }) outcome receipt) }
     {
         let arrival: Arrival<'_, Desk<X, E, K>> = Arrival::new(
             &self.table.shared,
@@ -156,8 +160,8 @@ impl<X, E, K> Desk<X, E, K> {
             index,
         );
         match arrival.into_pass().keep(outcome) {
-            Ok((list, end, done)) => Some((list, end, done.into_seat())),
-            Err(_receipt) => None,
+            Ok((list, end, done)) => Ok((list, end, done.into_seat())),
+            Err(receipt) => Err(receipt),
         }
     }
 

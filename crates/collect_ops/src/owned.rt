@@ -7,6 +7,7 @@ use crate::all::AllDesk;
 use crate::desk::Desk;
 use crate::kept::Kept;
 use crate::listed::Listed;
+use crate::receipt::Receipt;
 use crate::rule::Place;
 use fan_base::{Refused, Try};
 use std::alloc::Global;
@@ -34,8 +35,8 @@ impl<T, E> Model for OwnedDesk<T, E> {
 pub enum Brought<T, E> {
     /// All outcomes have come: they are here by index, with the desk's end. The desk is freed.
     Complete(Listed<Try<T>>, E),
-    /// The outcome is kept. It wasn't the last.
-    More(OwnedDesk<T, E>),
+    /// The outcome is kept, as the receipt shows, while more were left.
+    More(OwnedDesk<T, E>, Receipt<Try<T>, E>),
     /// The outcome of this index had come before, so this one comes back.
     Back(OwnedDesk<T, E>, Try<T>),
 }
@@ -78,11 +79,13 @@ impl<T, E> OwnedDesk<T, E> {
         let Some(seat) = arrivals[index].take() else {
             return Brought::Back(OwnedDesk { desk, arrivals }, outcome);
         };
-        let Some((list, end, last)) = desk.keep(seat, index, outcome) else {
-            return Brought::More(OwnedDesk { desk, arrivals });
-        };
-        desk.free(last);
-        Brought::Complete(list, end)
+        match desk.keep(seat, index, outcome) {
+            Ok((list, end, last)) => {
+                desk.free(last);
+                Brought::Complete(list, end)
+            }
+            Err(receipt) => Brought::More(OwnedDesk { desk, arrivals }, receipt),
+        }
     }
 
     /// Gives the memory back where not all outcomes have come, and hands out what was kept, and the end.

@@ -26,7 +26,7 @@ fn said(desk: Owned, index: usize, outcome: Try<u64>) -> (Said, Option<Owned>)
 {
     match desk.bring(index, outcome) {
         Brought::Complete(list, end) => (Said::All(outcomes_listed(list), end), None),
-        Brought::More(desk) => (Said::More, Some(desk)),
+        Brought::More(desk, _receipt) => (Said::More, Some(desk)),
         Brought::Back(desk, outcome) => (Said::Back(told(outcome)), Some(desk)),
     }
 }

@@ -1,5 +1,5 @@
 //! What is done with what must be spent, where a post, an add or a close finds no memory: no continuation runs. A query whose parts don't all
-//! come is answered with want of memory, to nobody, once its desk is closed.
+//! come is answered with want of memory, to nobody, once its base closes its table.
 ghost use Rattle.std.specs.Prelude.{◌≡◌};
 ghost use Rattle.fan_parts.specs.Spending.{SpendsGatherJob, SpendsPrintJob, with_core, with_fire};
 

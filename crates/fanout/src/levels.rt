@@ -157,7 +157,7 @@ fn over_reply_homes<
     }
 }
 
-/// Begins the cores of replies.
+/// Puts together what the queries are begun with.
 fn over_reply_keys<
     'r,
     'i: 'r,

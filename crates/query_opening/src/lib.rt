@@ -1,4 +1,5 @@
-//! The turn of a query has come: what it asks, the core of its reply, and the callback of each of its tasks. A query that is cancelled has its reply alone.
+//! The turn of a query has come: what it asks, the core of its reply, and the callback of each of its tasks. A query that is
+//! cancelled has its reply alone.
 //!
 //! No header of Folly's has this: it is what this program makes of a query, of the cores of `core_word`. The cores of replies
 //! are begun before the run's threads start (`run_desks`), the callbacks are made at the query's turn (`query_tasks`), and

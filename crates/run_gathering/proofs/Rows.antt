@@ -1,16 +1,17 @@
 -- What a table awaits, as queries are put into it and parts are brought.
-use Rattle.std.proofs.Common.{◌≡◌, ℕ, zero, suc, ◌+◌, ◌/◌, ◌<◌, ◌≤◌, true, false, Bool, List, [], ◌∷◌, All, map, length, get_or, set, replicate, refl, sym, ap, ◌∙◌, subst, Option, Some, None, arith}
+use Rattle.std.proofs.Common.{◌≡◌, ℕ, zero, suc, ◌<◌, ◌≤◌, true, false, List, [], ◌∷◌, All, map, length, get_or, set, replicate, refl, sym, ap, ◌∙◌, subst, Option, Some, None, arith}
 use Rattle.std.specs.Prelude.{IfSome, Result, Ok, Err}
 use Rattle.std.proofs.lemmas.List.{get_or-map, get_or_past, length-map, length-replicate, map-set}
 use Rattle.std.proofs.lemmas.List.Elements.{All-cons, All-get_or, All-head, All-nil, All-tail}
 use Rattle.fan_base.specs.declared.outcome.Try.{Try}
 use Rattle.collect_ops.specs.Bringing.{CompletesOwned, KeepsOwned, ReturnsOwned}
-use Rattle.collect_ops.specs.Seen.{OwnedSeen}
+use Rattle.collect_ops.specs.Answers.{KeptBy}
+use Rattle.collect_ops.specs.Seen.{DeskId, OwnedSeen, ReceiptSeen}
 use Rattle.fan_parts.specs.Seen.{EndSeen, PartSeen}
 use Rattle.run_gathering.specs.declared.table.Awaited.{Awaited}
 use Rattle.run_gathering.specs.declared.table.Awaited.TheVariants as awaited
 use Rattle.run_gathering.specs.Awaited.{AwaitedSeen, Awaits, IsAwaited, IsOfQuery, IsRow, TableSeen, all_awaited, awaited_at, awaited_in, place_of, with_at, without_shard}
-use Rattle.run_gathering.specs.Bringing.{AwaitsNone, CompletesQuery, IsDeskTaken, IsTaken, OfNone, RefusesQuery, TakesDesk, TakesEnd, TakesOf, WasAwaited}
+use Rattle.run_gathering.specs.Bringing.{AwaitsNone, CompletesQuery, IsDeskTaken, IsTaken, KeepsPart, RefusesQuery, TakesDesk, TakesEnd, TakesOf, WasAwaited}
 
 module _ {N : Type 0} where
   row_awaited : (w : ℕ) (it : Awaited N) (a : AwaitedSeen) → IsRow w it → awaited_in w it ≡ Some a → IsAwaited w a
@@ -83,6 +84,7 @@ module _ {N : Type 0} where
 pub refuses : (number shard : ℕ) (old new : TableSeen) (end : EndSeen) → TakesEnd number old end new → shard < old.shards → RefusesQuery number shard old new end
 refuses number shard old new end taken within = record {
   was = record { awaited = all_awaited old.shards end; stood = taken.stood; awaits = (taken.of, all_true old.shards shard within); left = taken.left };
+  all = refl;
   end_is = refl;
 }
   where
@@ -119,16 +121,21 @@ put_back number old mid new desk w a taken put =
     set_twice (z ∷ xs) (suc k) x y = ap (λ (l : List (Option AwaitedSeen)). z ∷ l) (set_twice xs k x y)
 
 -- the part is kept
-pub keeps : (number shard : ℕ) (old mid new : TableSeen) (desk left : OwnedSeen EndSeen) (a : Option AwaitedSeen) → TakesDesk number old desk mid → KeepsOwned desk shard left
+pub keeps : (number shard : ℕ) (old mid new : TableSeen) (desk left : OwnedSeen EndSeen) (a : Option AwaitedSeen) (outcome : Try PartSeen) (receipt : ReceiptSeen (Try PartSeen) EndSeen)
+    → TakesDesk number old desk mid → KeepsOwned desk shard outcome left receipt
     → a ≡ Some (record { number = number; end = left.desk.end; shards = left.awaited }) → new ≡ with_at (place_of mid number) a mid
-    → WasAwaited number shard old (λ awaited. Some (without_shard shard awaited)) new
-keeps number shard old mid new desk left a taken kept is put = record {
-  awaited = taken.awaited;
-  stood = taken.stood;
-  awaits = (ap (λ (x : AwaitedSeen). x.number) taken.is, ap (λ (x : AwaitedSeen). get_or x.shards shard false) taken.is ∙ kept.awaited);
-  left = put_back number old mid new desk 0 a taken put
-      ∙ ap (λ (o : Option AwaitedSeen). with_at (place_of old number) o old)
-      (is ∙ (ap (λ (d : OwnedSeen EndSeen). Some (record { number = number; end = d.desk.end; shards = d.awaited })) kept.left ∙ ap (λ (x : AwaitedSeen). Some (without_shard shard x)) (sym taken.is)));
+    → KeepsPart number shard outcome old new receipt
+keeps number shard old mid new desk left a outcome receipt taken kept is put = record {
+  was = record {
+    awaited = taken.awaited;
+    stood = taken.stood;
+    awaits = (ap (λ (x : AwaitedSeen). x.number) taken.is, ap (λ (x : AwaitedSeen). get_or x.shards shard false) taken.is ∙ kept.awaited);
+    left = put_back number old mid new desk 0 a taken put
+        ∙ ap (λ (o : Option AwaitedSeen). with_at (place_of old number) o old)
+        (is ∙ (ap (λ (d : OwnedSeen EndSeen). Some (record { number = number; end = d.desk.end; shards = d.awaited })) kept.left ∙ ap (λ (x : AwaitedSeen). Some (without_shard shard x)) (sym taken.is)));
+  };
+  at_end = ap (λ (r : ReceiptSeen (Try PartSeen) EndSeen). r.desk.end) kept.kept.is ∙ ap (λ (x : AwaitedSeen). x.end) (sym taken.is);
+  kept = subst (λ (d : DeskId EndSeen). KeptBy (record { desk = d; index = shard }) outcome receipt) (ap (λ (r : ReceiptSeen (Try PartSeen) EndSeen). r.desk) (sym kept.kept.is)) kept.kept;
 }
 
 -- the part had come before

@@ -1,5 +1,5 @@
 -- What a gathering base awaits of its queries.
-use Rattle.std.specs.Prelude.{◌≡◌, ℕ, ◌/◌, true, false, Bool, List, Option, Some, None, length, map, replicate, slice_index_or, slice_set}
+use Rattle.std.specs.Prelude.{◌≡◌, ℕ, ◌/◌, true, false, Bool, List, Option, Some, None, length, replicate, slice_index_or, slice_set}
 use Rattle.fan_parts.specs.Seen.{EndSeen}
 use Rattle.run_gathering.specs.declared.table.Awaited.{Awaited}
 use Rattle.run_gathering.specs.declared.table.Awaited.TheVariants as awaited

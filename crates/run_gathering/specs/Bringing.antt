@@ -1,7 +1,8 @@
 -- How a part is brought to its desk.
 use Rattle.std.specs.Prelude.{◌≡◌, ℕ, ◌<◌, List, Option, Some, None, Result, Ok, Err, IfSome, length, slice_get}
 use Rattle.fan_base.specs.declared.outcome.Try.{Try}
-use Rattle.collect_ops.specs.Seen.{OwnedSeen}
+use Rattle.collect_ops.specs.Answers.{KeptBy}
+use Rattle.collect_ops.specs.Seen.{OwnedSeen, ReceiptSeen}
 use Rattle.fan_parts.specs.Seen.{EndSeen, PartSeen}
 use Rattle.run_gathering.specs.declared.table.Awaited.{Awaited}
 use Rattle.run_gathering.specs.declared.table.Awaited.TheVariants as awaited
@@ -63,9 +64,16 @@ pub record CompletesQuery (number shard : ℕ) (outcome : Try PartSeen) (old new
   pub as_many : length parts ≡ old.shards
   pub own : slice_get parts shard ≡ Some outcome
 
--- There was no memory for the desk of its query, of which nothing is awaited since.
+-- The part is kept at a desk with its query's end, as the receipt of its arrival shows, which found more left than itself; it isn't awaited since.
+pub record KeepsPart (number shard : ℕ) (outcome : Try PartSeen) (old new : TableSeen) (receipt : ReceiptSeen (Try PartSeen) EndSeen) : Type 0 where
+  pub was : WasAwaited number shard old (λ awaited. Some (without_shard shard awaited)) new
+  pub at_end : receipt.desk.end ≡ was.awaited.end
+  pub kept : KeptBy (record { desk = receipt.desk; index = shard }) outcome receipt
+
+-- All parts of its query were awaited, and there was no memory for its desk: nothing is awaited of it since.
 pub record RefusesQuery (number shard : ℕ) (old new : TableSeen) (end : EndSeen) : Type 0 where
   pub was : WasAwaited number shard old (λ _. None) new
+  pub all : was.awaited ≡ all_awaited old.shards end
   pub end_is : was.awaited.end ≡ Some end
 
 module _ {N : Type 0} where
@@ -78,13 +86,13 @@ module _ {N : Type 0} where
   -- what became of the part of this query and this shard
   abbrev pub IsBrought : ℕ → ℕ → Try PartSeen → TableSeen → TableSeen → PartBrought N → Type 0
   IsBrought number shard outcome old new (brought.Complete parts end) = CompletesQuery number shard outcome old new parts end
-  IsBrought number shard outcome old new brought.Kept = WasAwaited number shard old (λ awaited. Some (without_shard shard awaited)) new
+  IsBrought number shard outcome old new (brought.Kept receipt) = KeepsPart number shard outcome old new receipt
   IsBrought number shard outcome old new (brought.Refused end) = RefusesQuery number shard old new end
   IsBrought number shard outcome old new brought.Unawaited = AwaitsNone number shard old new
 
   -- where it was the last there are so many
   abbrev pub HasAllParts : ℕ → PartBrought N → Type 0
   HasAllParts count (brought.Complete parts end) = length parts ≡ count
-  HasAllParts count brought.Kept = Unit {0}
+  HasAllParts count (brought.Kept receipt) = Unit {0}
   HasAllParts count (brought.Refused end) = Unit {0}
   HasAllParts count brought.Unawaited = Unit {0}

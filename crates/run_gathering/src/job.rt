@@ -68,7 +68,8 @@ fn take_part<'r, 'i: 'r, N: RunName, R: Wait>(
     match bring_part(world.alloc, &mut world.table, fire, &mut world.tally) {
         PartBrought::Complete(parts, end) => complete(rt, world, agenda, parts, end),
         PartBrought::Refused(end) => refuse(rt, world, end),
-        PartBrought::Kept | PartBrought::Unawaited => {}
+        PartBrought::Kept(_receipt) => {}
+        PartBrought::Unawaited => {}
     }
 }
 

@@ -39,7 +39,7 @@ pub struct GatherEnd<N: RunName> {
 
 /// Runs a gathering base until all its posters have ended and nothing is left, or until a round finds no memory, and ends its poster to
 /// the printer's base. `table` is the table of this base, which awaits all parts of its queries, so that each part that is posted to it finds
-/// its own: those whose parts haven't come are spent. It may wait.
+/// its desk. What is awaited at the end is spent. It may wait.
 pub fn gather<'r, 'i: 'r, N: RunName + 'static, R: Wait>(
     rt: &R,
     alloc: Global,

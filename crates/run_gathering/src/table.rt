@@ -5,7 +5,7 @@ ghost use Rattle.std.specs.List.{All};
 ghost use Rattle.run_gathering.specs.Awaited.{IsOfQuery, IsRow, all_awaited, awaited_at, awaited_in, place_of, with_at};
 ghost use Rattle.run_gathering.specs.Bringing.{HasAllParts, IsBrought, IsDeskTaken, IsTaken};
 
-use collect_ops::{Brought, Listed, OwnedDesk};
+use collect_ops::{Brought, Listed, OwnedDesk, Receipt};
 use core_word::Tally;
 use fan_base::{Memory, Refused, Try};
 use fan_parts::{End, Part, PartDesk, RunName, spend_end};
@@ -27,8 +27,8 @@ pub(crate) enum Awaited<'r, 'i, N: RunName> {
 pub(crate) enum PartBrought<'r, 'i, N: RunName> {
     /// It was the last: here are all parts by shard, and the desk's end.
     Complete(Listed<Try<Part<N>>>, End<'r, 'i, N>),
-    /// It is kept.
-    Kept,
+    /// It is kept at its desk, as the receipt shows, while more were left.
+    Kept(Receipt<Try<Part<N>>, End<'r, 'i, N>>),
     /// It was the first, and there was no memory for the desk of its query, whose end this is.
     Refused(End<'r, 'i, N>),
     /// It wasn't awaited.
@@ -123,9 +123,9 @@ impl<'r, 'i: 'r, N: RunName> PartTable<'r, 'i, N> {
         };
         match desk.bring(shard as usize, outcome) {
             Brought::Complete(parts, end) => PartBrought::Complete(parts, end),
-            Brought::More(desk) => {
+            Brought::More(desk, receipt) => {
                 self.set(number, Awaited::Rest(number, desk));
-                PartBrought::Kept
+                PartBrought::Kept(receipt)
             }
             Brought::Back(desk, _outcome) => {
                 self.set(number, Awaited::Rest(number, desk));

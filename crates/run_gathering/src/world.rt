@@ -62,8 +62,8 @@ impl<'r, 'i: 'r, N: RunName> Gathering<'r, 'i, N> {
         }
     }
 
-    /// The poster, the tally, and whether memory was refused. What is awaited still and scorings that are left are spent: their queries' cores get want of
-    /// memory.
+    /// The poster, the tally, and whether memory was refused. What is awaited still and scorings that are left are spent: their queries'
+    /// cores get want of memory.
     pub fn into_parts(self) -> (BasePoster<PrintJob<N>>, Tally, bool)
         ensures { self.entry ≡ record { printer = result.0; tally = result.1; refused = result.2; waiting = self.entry.waiting } }
     {

@@ -48,7 +48,7 @@ module _ {N : Type 0} where
     pub each : (k : ℕ) (d : WorkerSlot TaskSeen (WorldSeen N)) → k < ids.workers → IsWorker ids pool k (slice_index_or slots k d)
 
 module _ {N : Type 0} {g : Ghosts N} where
-  -- a gathering base's slot: a new base with its executor and a poster for each worker and the front, a poster to the printer's base, and a table of arrivals
+  -- a gathering base's slot: a new base with its executor and a poster for each worker and the front, a poster to the printer's base, and a table of what is awaited
   pub record IsGatherSlot (asked : Asking) (ids : RunIds) (k : ℕ) (slot : GatherSlot N g) : Type 0 where
     pub base : (q : QueueId) → slot.base ≡ Some (new_base (exec_at 1 k) 0 (slice_index_or ids.queues k q) (ids.workers + 1))
     pub printer : slot.printer ≡ Some (new_printer_poster asked ids (asked.bases - k))

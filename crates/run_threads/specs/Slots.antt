@@ -56,7 +56,7 @@ module _ {N K : Type 0} where
     pub stage_loan : new.stage.ghost_name ≡ old.stage.ghost_name
 
 module _ {N : Type 0} {g : Ghosts N} where
-  -- it has a base that holds nothing but scorings, a poster to the printer's base, and the base's table, with the arrivals for all parts of its queries, and has not run
+  -- it has a base that holds nothing but scorings, a poster to the printer's base, and the base's table, which awaits all parts of its queries, and has not run
   pub record IsReadyToGather (asked : Asking) (slot : GatherSlot N g) : Type 0 where
     pub base : BaseSeen (GatherJob N)
     pub has_base : slot.base ≡ Some base
