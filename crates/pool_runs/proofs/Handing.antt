@@ -1,6 +1,6 @@
 -- The next of the tasks that are handed back.
-use Rattle.std.proofs.Common.{◌≡◌, ℕ, zero, suc, ◌+◌, List, [], ◌∷◌, ◌++◌, length, length-append, map, set, take, ◌≤◌, Option, None, Some, refl, sym, ap, ◌∙◌, append_assoc, subst, arith}
-use Rattle.std.specs.Prelude.{slice_get, unwrap_or, option_to_list, MatchOption}
+use Rattle.std.proofs.Common.{◌≡◌, ℕ, zero, suc, ◌+◌, List, [], ◌∷◌, ◌++◌, length, length-append, map, set, take, ◌≤◌, Option, Some, refl, sym, ap, ◌∙◌, append_assoc, subst, arith}
+use Rattle.std.specs.Prelude.{slice_get, unwrap_or}
 use Rattle.std.proofs.lemmas.List.{take-append-le, take_all}
 use Rattle.fan_base.specs.declared.number.JobId.{JobId}
 use Rattle.fan_base.specs.declared.number.Mark.{Mark}
@@ -61,14 +61,10 @@ module _ {J : Type 0} where
         omega (arith, ap length front, ap length l.is, length-append l.front ([] ∷ [])),
       )
 
-  pub run_back : {W : Type 0} (head : J → Head) (runs : JobId → W → Mark → W → Type 0) (r : Option Record) (made more : List Record) (P : Record → Type 0) (entry : Record) (old new : List (Returned J)) (queue : ℕ) (task : Queued (Placed J)) (w v : W)
-      → made ≡ entry ∷ [] → made ≡ option_to_list r ++ more → MatchOption r ((made ≡ []) × (more ≡ [])) P → old ≡ back_of queue task ∷ new → IsRunOf (task_in head queue task) entry → runs entry.job w entry.mark v → RunsBack head runs r old w new v
-  run_back head runs None made more P entry old new queue task w v only items none is run led = absurd (not_none entry (sym only ∙ none.0))
-    where
-      not_none : (x : Record) → x ∷ [] ≡ [] → ⊥
-      not_none x e = cc
-  run_back head runs (Some r) made more P entry old new queue task w v only items some_left is run led =
-      let same : entry ≡ r = first entry r [] more (sym only ∙ items) in
+  pub run_back : {W : Type 0} (head : J → Head) (runs : JobId → W → Mark → W → Type 0) (r entry : Record) (made : List Record) (old new : List (Returned J)) (queue : ℕ) (task : Queued (Placed J)) (w v : W)
+      → made ≡ entry ∷ [] → made ≡ r ∷ [] → old ≡ back_of queue task ∷ new → IsRunOf (task_in head queue task) entry → runs entry.job w entry.mark v → RunsBack head runs (Some r) old w new v
+  run_back head runs r entry made old new queue task w v only one is run led =
+      let same : entry ≡ r = first entry r [] [] (sym only ∙ one) in
       (back_of queue task, is, subst (IsRunOf (task_in head queue task)) same run, subst (λ (x : Record). runs x.job w x.mark v) same led)
     where
       first : (x y : Record) (us vs : List Record) → x ∷ us ≡ y ∷ vs → x ≡ y

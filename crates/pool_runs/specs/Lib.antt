@@ -1,3 +1,4 @@
 pub mod Recorded
+pub mod Blocks
 pub mod Running
 pub mod Returning

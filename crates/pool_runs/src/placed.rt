@@ -1,5 +1,5 @@
 // A job with the place of its record.
-use crate::record::Place;
+use crate::records::Place;
 use fan_base::{ExecId, JobId};
 use job_trait::Headed;
 

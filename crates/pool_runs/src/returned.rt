@@ -4,12 +4,12 @@ ghost use Rattle.pool_runs.specs.Returning.{HasFirst, back_from, back_of, FirstT
 ghost use Rattle.pool_runs.specs.Running.{Drained, RunsBack};
 
 use crate::placed::Placed;
-use crate::record::{RunRecord, append};
+use crate::record::RunRecord;
+use crate::records::Records;
 use crate::run::run_task;
 use job_trait::Job;
 use pool_model::Ticket;
 use std::alloc::Global;
-use std::collections::LinkedList;
 use std::marker::Model;
 use std::sync::Wait;
 use task_queue::{Packets, Queued};
@@ -82,8 +82,8 @@ impl<J> Returned<J> {
         ensures { RunsBack J.head J.runs result self.old world.old self.new world.new }
     {
         let (queue, task) = self.take()?;
-        let mut made = run_task(rt, queue, task, world);
-        made.pop_front()
+        let made = run_task(rt, queue, task, world);
+        Some(made.into_record())
     }
 }
 
@@ -129,17 +129,17 @@ pub fn drain<J: Job<W>, W, R: Wait>(
     alloc: Global,
     returned: &mut Returned<J>,
     world: &mut W,
-) -> LinkedList<RunRecord>
+) -> Records
     requires few { length returned.old ≤ 281474976710656 }
     ensures drained { Drained J.head J.runs returned.old result world.old world.new }
     ensures as_many { length result ≡ length returned.old }
     ensures empty { returned.new ≡ [] }
 {
-    let mut records = LinkedList::new(alloc);
+    let mut records = Records::new(alloc);
     while let Some(next) = returned.take() {
         let (queue, task) = next;
         let made = run_task(rt, queue, task, world);
-        append(&mut records, made);
+        records.push(made);
     }
     records
 }

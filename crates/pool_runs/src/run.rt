@@ -3,9 +3,9 @@ ghost use Rattle.pool_runs.specs.Running.{RanOnce, task_in};
 
 use crate::placed::Placed;
 use crate::record::RunRecord;
+use crate::records::Made;
 use job_once::run_once;
 use job_trait::Job;
-use std::collections::LinkedList;
 use std::sync::Wait;
 use task_queue::Queued;
 
@@ -15,7 +15,7 @@ pub fn run_task<J: Job<W>, W, R: Wait>(
     queue: u32,
     task: Queued<Placed<J>>,
     world: &mut W,
-) -> LinkedList<RunRecord>
+) -> Made
     ensures { RanOnce J.runs (task_in J.head queue task) world.old world.new result }
 {
     let Queued {
@@ -24,5 +24,5 @@ pub fn run_task<J: Job<W>, W, R: Wait>(
     } = task;
     let Placed { job, place } = placed;
     let (id, exec, mark) = run_once(rt, job, world);
-    place.fill(RunRecord::new(ticket, queue, exec, id, mark))
+    Made::new(RunRecord::new(ticket, queue, exec, id, mark), place)
 }

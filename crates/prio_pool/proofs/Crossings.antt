@@ -26,8 +26,8 @@ use Rattle.task_queue.proofs.mark.EndMark.TheSendSync as mark_task_queue
 use Rattle.task_queue.proofs.mark.OpenSeat.TheSendSync as openseat_task_queue
 use Rattle.task_queue.proofs.mark.Watch.TheSendSync as watch_task_queue
 use Rattle.pool_runs.proofs.Crossings.{Placed-send, Returned-send}
-use Rattle.pool_runs.proofs.record.Place.TheSendSync as place_pool_runs
-use Rattle.pool_runs.proofs.record.RunRecord.TheSendSync as record_pool_runs
+use Rattle.pool_runs.proofs.records.Place.TheSendSync as place_pool_runs
+use Rattle.pool_runs.proofs.records.Records.TheSendSync as records_pool_runs
 use Rattle.prio_pool.proofs.runs.Runs.TheSendSync as runs_prio_pool
 use Rattle.prio_pool.proofs.sleepers.Sleepers.TheSendSync as sleepers_prio_pool
 use Rattle.prio_pool.specs.contracts.adders.Adders as adders
@@ -53,7 +53,7 @@ use Rattle.prio_pool.specs.contracts.pool.Pool.TheInside as of_pool
 use Rattle.prio_pool.specs.contracts.ending.PoolEnd as pool_end
 use Rattle.prio_pool.specs.contracts.new.PoolParts as pool_parts
 
-ruleset all = (unruled_crossbeam_utils.the_field_send, unruled_crossbeam_utils.the_send, unruled_crossbeam_utils.the_field_sync, unruled_crossbeam_utils.the_sync, parker_crossbeam_utils.the_field_send, ruledunparker_crossbeam_utils.the_field_send, ruledunparker_crossbeam_utils.the_send, ruledunparker_crossbeam_utils.the_field_sync, ruledunparker_crossbeam_utils.the_sync, signals_crossbeam_utils.the_field_send, signals_crossbeam_utils.the_send, signals_crossbeam_utils.the_field_sync, signals_crossbeam_utils.the_sync, table_atomic_table.the_field_send, table_atomic_table.the_send, table_atomic_table.the_field_sync, table_atomic_table.the_sync, seat_atomic_table.the_send, shared_atomic_table.the_send, shared_atomic_table.the_sync, exec_fan_base.the_field_send, exec_fan_base.the_send, exec_fan_base.the_field_sync, exec_fan_base.the_sync, joined_keep_alive.the_send, keep_keep_alive.the_send, owner_keep_alive.the_send, nodes_std.the_send, nodes_std.the_sync, global_std.the_field_send, global_std.the_send, global_std.the_field_sync, global_std.the_sync, linkedlist_std.the_send, linkedlist_std.the_sync, phantomdata_std.the_field_send, phantomdata_std.the_send, phantomdata_std.the_field_sync, phantomdata_std.the_sync, manuallydrop_std.the_field_send, manuallydrop_std.the_send, option_std.the_field_send, option_std.the_send, mark_task_queue.the_send, mark_task_queue.the_sync, openseat_task_queue.the_send, watch_task_queue.the_send, place_pool_runs.the_send, record_pool_runs.the_send, runs_prio_pool.the_send, sleepers_prio_pool.the_field_send, sleepers_prio_pool.the_send, sleepers_prio_pool.the_field_sync, sleepers_prio_pool.the_sync, crossing_task_queue.Queued-send, crossing_task_queue.Packets-send, crossing_task_queue.Adder-send, crossing_task_queue.Taker-send, crossing_task_queue.Gathered-send, crossing_task_queue.Looks-send, crosses, sendable)
+ruleset all = (unruled_crossbeam_utils.the_field_send, unruled_crossbeam_utils.the_send, unruled_crossbeam_utils.the_field_sync, unruled_crossbeam_utils.the_sync, parker_crossbeam_utils.the_field_send, ruledunparker_crossbeam_utils.the_field_send, ruledunparker_crossbeam_utils.the_send, ruledunparker_crossbeam_utils.the_field_sync, ruledunparker_crossbeam_utils.the_sync, signals_crossbeam_utils.the_field_send, signals_crossbeam_utils.the_send, signals_crossbeam_utils.the_field_sync, signals_crossbeam_utils.the_sync, table_atomic_table.the_field_send, table_atomic_table.the_send, table_atomic_table.the_field_sync, table_atomic_table.the_sync, seat_atomic_table.the_send, shared_atomic_table.the_send, shared_atomic_table.the_sync, exec_fan_base.the_field_send, exec_fan_base.the_send, exec_fan_base.the_field_sync, exec_fan_base.the_sync, joined_keep_alive.the_send, keep_keep_alive.the_send, owner_keep_alive.the_send, nodes_std.the_send, nodes_std.the_sync, global_std.the_field_send, global_std.the_send, global_std.the_field_sync, global_std.the_sync, linkedlist_std.the_send, linkedlist_std.the_sync, phantomdata_std.the_field_send, phantomdata_std.the_send, phantomdata_std.the_field_sync, phantomdata_std.the_sync, manuallydrop_std.the_field_send, manuallydrop_std.the_send, option_std.the_field_send, option_std.the_send, mark_task_queue.the_send, mark_task_queue.the_sync, openseat_task_queue.the_send, watch_task_queue.the_send, place_pool_runs.the_send, records_pool_runs.the_send, runs_prio_pool.the_send, sleepers_prio_pool.the_field_send, sleepers_prio_pool.the_send, sleepers_prio_pool.the_field_sync, sleepers_prio_pool.the_sync, crossing_task_queue.Queued-send, crossing_task_queue.Packets-send, crossing_task_queue.Adder-send, crossing_task_queue.Taker-send, crossing_task_queue.Gathered-send, crossing_task_queue.Looks-send, crosses, sendable)
 
 adders_inside : (J : RattleType) → IsSend J → IsSend (of_adders.the_row J)
 adders_inside J s = recorded_send (of_adders.the_field J).row _ _ (of_adders.the_type J).to_one (struct_send (shape (of_adders.the_type J)) (

@@ -12,7 +12,6 @@ pub mod Merging
 pub mod Accounting
 pub mod Finishing
 pub mod Crossings
-pub mod Pushing
 pub mod Turning
 pub mod Downward
 pub mod Unused

@@ -15,7 +15,7 @@ use crate::runs::Runs;
 use crate::settle::settle_all;
 use crate::together::{put_ends, put_passes};
 use job_trait::{Headed, Job};
-use pool_runs::{Rest, Returned, RunRecord, append, drain, hand_back};
+use pool_runs::{Records, Rest, Returned, drain, hand_back};
 use std::collections::LinkedList;
 use std::sync::Wait;
 use task_queue::Watch;
@@ -41,7 +41,7 @@ impl<J: Headed> Pool<J> {
         begun: Watch,
         ends: Vec<WorkerEnd<J>>,
         helped: Vec<HelperEnd<J>>,
-    ) -> (u64, LinkedList<RunRecord>, Vec<Rest<J>>)
+    ) -> (u64, Records, Vec<Rest<J>>)
         requires passes { AreAllPasses self.id self.adders passes }
         requires begun { (begun.mark ≡ self.id.mark) × (begun.found ≢ None) }
         requires ends { AreAllEnds self.id self.workers ends.items }
@@ -94,7 +94,7 @@ impl<J: Headed> Pool<J> {
         begun: Watch,
         ends: Vec<WorkerEnd<J>>,
         helped: Vec<HelperEnd<J>>,
-    ) -> (u64, LinkedList<RunRecord>, Returned<J>)
+    ) -> (u64, Records, Returned<J>)
         requires passes { AreAllPasses self.id self.adders passes }
         requires begun { (begun.mark ≡ self.id.mark) × (begun.found ≢ None) }
         requires ends { AreAllEnds self.id self.workers ends.items }
@@ -145,7 +145,7 @@ impl<J: Headed> Pool<J> {
             helped,
         );
         let more = drain(rt, alloc, &mut returned, world);
-        append(&mut records, more);
+        records.append(more);
         PoolEnd {
             accepted,
             ran: Runs::new(records, false),

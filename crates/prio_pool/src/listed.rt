@@ -13,6 +13,7 @@ use crate::sleepers::OwnParker;
 use crate::takers::Takers;
 use fan_base::Memory;
 use job_trait::Headed;
+use pool_runs::Records;
 use std::alloc::{AllocError, Global};
 use std::collections::LinkedList;
 use task_queue::{EndMark, OpenSeat};
@@ -128,7 +129,7 @@ pub fn helper_passes<J>(
     ensures { result.items ≡ map helper_seen takers }
 {
     while let Some(takers) = takers.pop_front() {
-        let records = LinkedList::new(alloc);
+        let records = Records::new(alloc);
         list.push_reserved(HelperPass { takers, records });
     }
     list

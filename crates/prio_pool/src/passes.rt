@@ -10,7 +10,7 @@ use crate::takers::Takers;
 use fan_base::Refused;
 use job_trait::Headed;
 use pool_model::Ticket;
-use pool_runs::{Placed, RunRecord};
+use pool_runs::{Placed, Records};
 use std::collections::LinkedList;
 use std::marker::Model;
 use std::sync::Wait;
@@ -57,7 +57,7 @@ impl<J> Model for WorkerPass<J> {
 /// queue, and all its looks, oldest first. It is spent by [`HelperPass::end`].
 pub struct HelperPass<J> {
     pub(crate) takers: Takers<J>,
-    pub(crate) records: LinkedList<RunRecord>,
+    pub(crate) records: Records,
 }
 
 impl<J> Model for HelperPass<J> {
@@ -77,7 +77,7 @@ impl<J> Model for HelperPass<J> {
 #[derive(Drop)]
 pub struct WorkerEnd<J> {
     pub(crate) takers: Takers<J>,
-    pub(crate) records: LinkedList<RunRecord>,
+    pub(crate) records: Records,
 }
 
 impl<J> Model for WorkerEnd<J> {
@@ -96,7 +96,7 @@ impl<J> Model for WorkerEnd<J> {
 #[derive(Drop)]
 pub struct HelperEnd<J> {
     pub(crate) takers: Takers<J>,
-    pub(crate) records: LinkedList<RunRecord>,
+    pub(crate) records: Records,
 }
 
 impl<J> Model for HelperEnd<J> {

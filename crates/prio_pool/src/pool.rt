@@ -20,9 +20,8 @@ use fan_base::{ExecId, Gate, Refused};
 use job_trait::{Headed, Job};
 use keep_alive::KeepAlive;
 use pool_model::{Ending, Ticket};
-use pool_runs::{Place, Placed};
+use pool_runs::{Place, Placed, Records};
 use std::alloc::Global;
-use std::collections::LinkedList;
 use std::marker::Model;
 use std::snapshot::Snapshot;
 use std::sync::Wait;
@@ -133,7 +132,7 @@ impl<J: Headed> Pool<J> {
         ensures found { result.found ≢ None }
     {
         let WorkerPass { mut takers, parker } = pass;
-        let mut records = LinkedList::new(self.alloc);
+        let mut records = Records::new(self.alloc);
         let mut rest = Rest::new();
         for _ in rt.forever() {
             match turn(

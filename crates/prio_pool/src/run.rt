@@ -4,8 +4,7 @@ ghost use Rattle.pool_runs.specs.Running.{RanOnce, task_in};
 use crate::sleepers::Awake;
 use fan_base::{Gate, JobId};
 use job_trait::Job;
-use pool_runs::{Placed, RunRecord, run_task};
-use std::collections::LinkedList;
+use pool_runs::{Made, Placed, run_task};
 use std::sync::Wait;
 use task_queue::Queued;
 
@@ -35,7 +34,7 @@ pub fn run_at_gate<J: Job<W>, W, G: Gate, R: Wait>(
     world: &mut W,
     gate: &G,
     awake: Awake,
-) -> LinkedList<RunRecord>
+) -> Made
     ensures { RanOnce J.runs (task_in J.head queue task) world.old world.new result }
 {
     let _ = awake;

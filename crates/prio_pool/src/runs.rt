@@ -1,14 +1,13 @@
 // The records of the runs of a pool.
 ghost use Rattle.std.specs.Prelude.{◌≡◌, [], ◌∷◌, length, MatchOption};
 
-use pool_runs::RunRecord;
-use std::collections::LinkedList;
+use pool_runs::{Records, RunRecord};
 use std::marker::Model;
 
 /// The records of the runs of a pool, and whether it was stopped. Only [`crate::Pool::join`] and [`crate::Pool::stop`] make one.
 #[derive(Drop)]
 pub struct Runs {
-    records: LinkedList<RunRecord>,
+    records: Records,
     stopped: bool,
 }
 
@@ -21,7 +20,7 @@ impl Model for Runs {
 }
 
 impl Runs {
-    pub(crate) fn new(records: LinkedList<RunRecord>, stopped: bool) -> Runs
+    pub(crate) fn new(records: Records, stopped: bool) -> Runs
         ensures { result ≡ record { records = records; stopped = stopped } }
     {
         Runs { records, stopped }
@@ -40,7 +39,7 @@ impl Runs {
         ensures same { self.new.stopped ≡ self.old.stopped }
         ensures none { MatchOption result (self.new.records ≡ []) (λ _. self.new.stopped ≡ self.old.stopped) }
     {
-        self.records.pop_front()
+        self.records.pop()
     }
 
     /// Whether the pool was stopped.

@@ -8,7 +8,7 @@ use crate::adders::Adders;
 use crate::make::Queues;
 use crate::passes::{HelperEnd, WorkerEnd};
 use job_trait::Headed;
-use pool_runs::{Placed, RunRecord, append};
+use pool_runs::{Placed, Records};
 use std::alloc::Global;
 use std::collections::LinkedList;
 use task_queue::{EndMark, Gathered, Watch};
@@ -46,7 +46,7 @@ fn put_end<J: Headed>(
     begun: &mut Watch,
     end: WorkerEnd<J>,
     passes: u32,
-) -> LinkedList<RunRecord>
+) -> Records
     requires together { AreTogether passes queues.now.items gathered.old.items }
     requires of { IsOf passes queues.now.items mark.now.mark end }
     requires begun { (begun.old.mark ≡ mark.now.mark) × (begun.old.found ≢ None) }
@@ -87,7 +87,7 @@ pub fn put_ends<J: Headed>(
     mut begun: Watch,
     mut ends: Vec<WorkerEnd<J>>,
     mut helped: Vec<HelperEnd<J>>,
-) -> LinkedList<RunRecord>
+) -> Records
     requires together { AreTogether passes queues.now.items gathered.old.items }
     requires of { All (IsOf passes queues.now.items mark.now.mark) (ends.items ++ helped.items) }
     requires begun { (begun.mark ≡ mark.now.mark) × (begun.found ≢ None) }
@@ -98,12 +98,12 @@ pub fn put_ends<J: Headed>(
     ensures popped { All (λ e. length e.popped ≡ length queues.now.items) (ends.items ++ helped.items) }
     ensures found { All (FoundAs begun.found) (ends.items ++ helped.items) }
 {
-    let mut records = LinkedList::new(alloc);
+    let mut records = Records::new(alloc);
     ends.reverse();
     helped.reverse();
     while let Some(end) = next_end(&mut ends, &mut helped) {
         let more = put_end(queues, mark, gathered, &mut begun, end, passes);
-        append(&mut records, more);
+        records.append(more);
     }
     records
 }

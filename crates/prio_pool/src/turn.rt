@@ -9,8 +9,7 @@ use crate::takers::Takers;
 use fan_base::Gate;
 use job_trait::Job;
 use pool_model::Ending;
-use pool_runs::{Placed, RunRecord, append};
-use std::collections::LinkedList;
+use pool_runs::{Placed, Records};
 use std::sync::Wait;
 use task_queue::{EndMark, TaskQueue};
 
@@ -29,7 +28,7 @@ pub fn turn<J: Job<W>, W, G: Gate, R: Wait>(
     rt: &R,
     pool: (&Vec<TaskQueue<Placed<J>>>, &EndMark, &Sleepers),
     takers: &mut Takers<J>,
-    records: &mut LinkedList<RunRecord>,
+    records: &mut Records,
     ends_at_stop: bool,
     rest: &mut Rest,
     world: &mut W,
@@ -57,7 +56,7 @@ pub fn turn<J: Job<W>, W, G: Gate, R: Wait>(
         Some((queue, task)) => {
             let awake = rest.end(sleepers);
             let made = run_at_gate(rt, queue, task, world, gate, awake);
-            append(records, made);
+            records.push(made);
             Turned::Ran
         }
         None => Turned::Idle(found),

@@ -5,7 +5,7 @@ use Rattle.std.proofs.lemmas.Option.{get_or_from_slice_get, slice_get_within}
 use Rattle.pool_model.specs.declared.task.Entry.{Entry}
 use Rattle.task_queue.specs.Seen.{AdderSeen}
 use Rattle.prio_pool.specs.Adders.{entry_of}
-use Rattle.prio_pool.proofs.Pushing.{on_ok, if_err}
+use Rattle.pool_runs.proofs.Results.{on_ok, if_err}
 use Rattle.prio_pool.proofs.adders.push_at.Goals as goal
 
 pub index_mut-requires : goal.index_mut-requires

@@ -37,7 +37,7 @@ loop-end-preserved g c =
     let of_end = IsOf whole qs c.args.mark.now.mark in
     let of_pool = subst (All of_end) next i.of_pool in
     let found = ap (λ (w : WatchSeen). w.found) i.begun in
-    let made : c.append.new.records ≡ c.loop-end.records ++ e.records = c.append.ensures ∙ ap (λ (l : List Record). c.loop-end.records ++ l) put.records in
+    let made : c.append.new.self ≡ c.loop-end.records ++ e.records = c.append.ensures ∙ ap (λ (l : List Record). c.loop-end.records ++ l) put.records in
     let one : records_of (i.done ++ e ∷ []) ≡ records_of i.done ++ e.records = flat_map-append (λ (x : EndSeen). x.records) i.done (e ∷ []) ∙ ap (λ (l : List Record). records_of i.done ++ l) (append-nil e.records) in
     record {
       done = i.done ++ e ∷ [];

@@ -16,8 +16,8 @@ returns-then-eq-clause-records g c =
     let steps = ap (λ (x : TakersSeen). steps_in x.looks) c.look-found.ensures.looked ∙ steps_more t.looks record { place = of_mark t.pool.mark; step = looked c.look-found.result } in
     ran_same t u (looked c.look-found.result ∷ []) c.args.records.now steps refl c.requires.records
 
-pub append-requires : goal.append-requires
-append-requires g c =
+pub push-requires : goal.push-requires
+push-requires g c =
     let t : TakersSeen = c.args.takers.now in
     let u : TakersSeen = c.look-found.new.self in
     let v : TakersSeen = c.next-next.new.self in
@@ -41,7 +41,7 @@ returns-in-Some-clause-records g c =
     let first = ap (λ (x : TakersSeen). steps_in x.looks) c.look-found.ensures.looked ∙ steps_more t.looks record { place = of_mark t.pool.mark; step = looked c.look-found.result } in
     let steps = turn_steps (steps_in t.looks) (steps_in u.looks) (steps_in v.looks) c.look-found.result _ first f.did.steps_are in
     let more = ran_more t v (length u.pool.queues) c.look-found.result c.in-Some.queue e c.args.records.now made.entry steps made.is c.requires.records in
-    let list = c.append.ensures ∙ ap (λ (l : List Record). c.args.records.now ++ l) made.only in
+    let list = c.push.ensures ∙ ap (λ (l : List Record). c.args.records.now ++ l) made.only in
     subst (RanTaken v) (sym list) more
 
 pub returns-in-None-clause-records : goal.returns-in-None-clause-records
@@ -92,9 +92,9 @@ pub returns-in-Some-clause-turned : goal.returns-in-Some-clause-turned
 returns-in-Some-clause-turned g c =
     let made = c.run_at_gate-made.ensures in
     let not_stops : c.args.ends_at_stop ≡ true → c.look-found.result ≢ Some Stops = search rules in
-    let list = c.append.ensures ∙ ap (λ (l : List Record). c.args.records.now ++ l) made.only in
+    let list = c.push.ensures ∙ ap (λ (l : List Record). c.args.records.now ++ l) made.only in
     did_run c.args.takers.now c.look-found.new.self c.look-found.result c.look-found.ensures.looked g.J.Job.runs c.args.ends_at_stop c.args.records.now c.args.world.now
-    g.J.Headed.head c.next-next.new.self c.in-Some.queue c.in-Some.task made.entry c.append.new.records c.run_at_gate-made.new.world c.in-Some.ensures.found list made.ran not_stops
+    g.J.Headed.head c.next-next.new.self c.in-Some.queue c.in-Some.task made.entry c.push.new.self c.run_at_gate-made.new.world c.in-Some.ensures.found list made.ran not_stops
 
 pub returns-in-None-clause-same : goal.returns-in-None-clause-same
 returns-in-None-clause-same g c = same_pool c.args.takers.now c.look-found.new.self c.look-found.result c.look-found.ensures.looked c.next-next.new.self _ c.in-None.ensures.empty.did
